@@ -1,21 +1,23 @@
 -- Rows that are added to a trace, one after the other.
-use Rattle.std.proofs.Common.{◌≡◌, ℕ, zero, suc, ◌+◌, ◌<◌, ◌≤◌, ◌==◌, nat_lt, ◌&&◌, not, Bool, true, false, inl, inr, ◌⊎◌, List, [], ◌∷◌, ◌++◌, map, length, get_or, take, drop, Option, Some, None, Result, Ok, Err, IfErr, OnErr, OnOk, refl, sym, ap, subst, ◌∙◌, append-nil, append_assoc, arith}
-use Rattle.std.specs.List.{AllByRecursion, filter, flat_map}
+use Rattle.std.proofs.Common.{◌≡◌, ℕ, zero, suc, ◌+◌, ◌<◌, ◌≤◌, ◌==◌, ◌&&◌, not, Bool, true, false, inl, inr, ◌⊎◌, List, [], ◌∷◌, ◌++◌, map, length, get_or, take, drop, Option, Some, None, Result, Ok, Err, IfErr, OnErr, OnOk, refl, sym, ap, subst, ◌∙◌, append-nil, append_assoc, arith}
+use Rattle.std.specs.List.{filter, flat_map}
 use Rattle.std.specs.Option.{option_map}
 use Rattle.std.specs.Result.{IsErrAnd}
 use Rattle.std.specs.Prelude.{slice_get}
-use Rattle.std.proofs.lemmas.Bool.{and_from, eq-eqb, lt-ltb, ne_eqb}
+use Rattle.std.proofs.lemmas.Bool.{and_from, eq-eqb, ne_eqb}
 use Rattle.std.proofs.lemmas.Grind.{flat_map-append}
-use Rattle.std.proofs.lemmas.List.{map-append, take-append-drop, take_more}
+use Rattle.std.proofs.lemmas.List.{map-append, take-append-drop}
 use Rattle.std.proofs.lemmas.List.Elements.{filter-append}
 use Rattle.std.proofs.lemmas.Option.{get_or_from_slice_get, slice_get_within}
+use Rattle.delivery.proofs.Traces.Made.{taken_one}
+use Rattle.delivery.proofs.Traces.OfNets.{rise_first}
 use Rattle.mcast_txn.specs.Lists.{In, Rises, RisesBy}
 use Rattle.mcast_txn.specs.Span.{LogRow, in_span, row_stamp, up_to, row_mark}
 use Rattle.mcast_txn.specs.Stamp.{stamp_lt}
 use Rattle.mcast_txn.specs.declared.stamp.Stamp.{Stamp}
 use Rattle.mcast_txn.specs.TopicSet.{IsTopicSet, names}
 use Rattle.mcast_txn.specs.declared.id.Topic.{Topic}
-use Rattle.mcast_txn.proofs.Members.{In-append_left, In-get_or, In-map, filter_none}
+use Rattle.mcast_txn.proofs.Members.{In-get_or, In-map, filter_none}
 use Rattle.mcast_txn.proofs.Orders.{lt_asym, lt_le, lt_trans}
 use Rattle.mcast_group.specs.Machine.{Entry, TopicState, find_entry}
 use Rattle.mcast_group.specs.Sound.{IsSound}
@@ -32,13 +34,13 @@ use Rattle.broker_locks.proofs.TraceKept.{above_first, marks_more}
 
 -- ---- rows one after the other
 
-pub with_append : (a b : List TraceRow) (lines : TraceData) → with_rows (a ++ b) lines ≡ with_rows b (with_rows a lines)
-with_append [] b lines = refl
-with_append (r ∷ a) b lines = with_append a b (with_row r lines)
+pub with_append : (a b : List TraceRow) (trace : TraceData) → with_rows (a ++ b) trace ≡ with_rows b (with_rows a trace)
+with_append [] b trace = refl
+with_append (r ∷ a) b trace = with_append a b (with_row r trace)
 
-fit_append : (a b : List TraceRow) (lines : TraceData) → AllFit a lines → AllFit b (with_rows a lines) → AllFit (a ++ b) lines
-fit_append [] b lines h k = k
-fit_append (r ∷ a) b lines h k = (h.0, fit_append a b (with_row r lines) h.1 k)
+fit_append : (a b : List TraceRow) (trace : TraceData) → AllFit a trace → AllFit b (with_rows a trace) → AllFit (a ++ b) trace
+fit_append [] b trace h k = k
+fit_append (r ∷ a) b trace h k = (h.0, fit_append a b (with_row r trace) h.1 k)
 
 -- rows after others
 pub adds_then : (a b : List TraceRow) (old mid new : TraceData) → AddsAll a old mid → AddsAll b mid new → AddsAll (a ++ b) old new
@@ -83,10 +85,6 @@ adds_before fault rows a b old new all f = record {
 }
 
 -- ---- the rows made of the first items
-
--- one item more
-pub taken_one : {X : Type 0} (xs : List X) (i : ℕ) (x : X) → slice_get xs i ≡ Some x → take (i + 1) xs ≡ take i xs ++ x ∷ []
-taken_one xs i x is = take_more xs i x (slice_get_within xs i x is) ∙ ap (λ z. take i xs ++ z ∷ []) (get_or_from_slice_get xs i x x is)
 
 -- the items before one, it, and those after it
 split_at : {X : Type 0} (xs : List X) (i : ℕ) (x : X) → slice_get xs i ≡ Some x → xs ≡ take i xs ++ x ∷ drop (i + 1) xs
@@ -337,15 +335,6 @@ module _ (x : TopicState) (k : RowsKept) (sound : IsSound x) (t : KeepsTrace x (
 
 -- ---- sections of a log
 
--- the rows before others rise, and so do the others
-pub rises_before : (a b : List LogRow) → Rises row_stamp (a ++ b) → Rises row_stamp a
-rises_before [] b h = tt
-rises_before (r ∷ a) b h = ((λ q k. h.0 q (In-append_left q a b k)), rises_before a b h.1)
-
-pub rises_after : (a b : List LogRow) → Rises row_stamp (a ++ b) → Rises row_stamp b
-rises_after [] b h = h
-rises_after (r ∷ a) b h = rises_after a b h.1
-
 -- the queue rows of both sections
 pub marks_of_both : (sub : ℕ) (from : Stamp) (to : Option Stamp) (a b : List LogRow)
     → map (queue_row sub) (marks_between from to (a ++ b)) ≡ map (queue_row sub) (marks_between from to a) ++ map (queue_row sub) (marks_between from to b)
@@ -354,17 +343,9 @@ marks_of_both sub from to a b =
 
 -- ---- log rows that fit
 
-topics_rise_after : (u : Topic) (ts : List Topic) → AllByRecursion (λ (t : Topic). u.0 < t.0) ts → RisesBy (λ (t : Topic). t.0) ts → rise_after (Some u) ts ≡ true
-topics_rise_after u [] above rises = refl
-topics_rise_after u (t ∷ ts) above rises = and_from (nat_lt u.0 t.0) (rise_after (Some t) ts) (lt-ltb u.0 t.0 above.0) (topics_rise_after t ts rises.0 rises.1)
-
-topics_rise : (ts : List Topic) → RisesBy (λ (t : Topic). t.0) ts → rise_after None ts ≡ true
-topics_rise [] rises = refl
-topics_rise (t ∷ ts) rises = topics_rise_after t ts rises.0 rises.1
-
 -- a row whose topics rise fits exactly where its topic is one of them
-pub row_fits : (t : Topic) (r : LogRow) (lines : TraceData) → IsTopicSet r.topics → names t r.topics ≡ true → is_misfit (logged_row t r) lines ≡ false
-row_fits t r lines set e = ap not (and_from (rise_after None r.topics) (names t r.topics) (topics_rise r.topics set.rising) e)
+pub row_fits : (t : Topic) (r : LogRow) (trace : TraceData) → IsTopicSet r.topics → names t r.topics ≡ true → is_misfit (logged_row t r) trace ≡ false
+row_fits t r trace set e = ap not (and_from (rise_after None r.topics) (names t r.topics) (rise_first r.topics set.rising) e)
 
-pub row_misfits : (t : Topic) (r : LogRow) (lines : TraceData) → names t r.topics ≡ false → is_misfit (logged_row t r) lines ≡ true
-row_misfits t r lines e = rw e (ap not (and_false (rise_after None r.topics)))
+pub row_misfits : (t : Topic) (r : LogRow) (trace : TraceData) → names t r.topics ≡ false → is_misfit (logged_row t r) trace ≡ true
+row_misfits t r trace e = rw e (ap not (and_false (rise_after None r.topics)))

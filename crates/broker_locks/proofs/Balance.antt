@@ -1,5 +1,5 @@
 -- What a place keeps.
-use Rattle.std.proofs.Common.{◌≡◌, ◌≤◌, ◌<◌, ◌+◌, ◌==◌, ◌&&◌, max, if◌then◌else◌, ℕ, Bool, true, false, List, [], ◌∷◌, length, Option, Some, None, Result, Ok, Err, OnOk, OnErr, IfSome, cond, ◌++◌, refl, sym, ap, subst, ◌∙◌, arith}
+use Rattle.std.proofs.Common.{◌≡◌, ◌≤◌, ◌<◌, ◌+◌, ◌==◌, ◌&&◌, max, if◌then◌else◌, ℕ, Bool, true, false, suc, List, [], ◌∷◌, length, Option, Some, None, Result, Ok, Err, OnOk, OnErr, IfSome, cond, ◌++◌, refl, sym, ap, subst, ◌∙◌, arith}
 use Rattle.std.proofs.Common.{remove}
 use Rattle.std.specs.List.{list_any}
 use Rattle.std.specs.Option.{option_map}
@@ -13,17 +13,18 @@ use Rattle.mcast_txn.specs.Ballot.{Decision}
 use Rattle.mcast_txn.specs.Lists.{In}
 use Rattle.mcast_txn.specs.TopicSet.{names}
 use Rattle.mcast_txn.specs.Transaction.{TopicPart}
+use Rattle.mcast_txn.proofs.Inserting.{insert_length}
 use Rattle.mcast_txn.proofs.Orders.{same_topics}
-use Rattle.sub_queue.specs.Shown.{Room, Shown}
+use Rattle.sub_queue.specs.Shown.{Gauge, Shown}
 use Rattle.mcast_group.specs.declared.fault.ProposeFault.TheVariants.{Twice}
 use Rattle.mcast_group.specs.declared.fault.LearnFault.{LearnFault}
 use Rattle.mcast_group.specs.CellGroup.{CellGroupState, CellTurns, IsRead, ProposalState, cell_group_after_cancel, cell_group_after_propose}
 use Rattle.mcast_group.specs.Group.{GroupState, Turns, group_after_release, group_after_releases, group_after_subscribe, group_after_tries, group_after_unsubscribe, result_of}
-use Rattle.mcast_group.specs.Machine.{Entry, Pending, TopicState, after_cancel, after_drain, after_learn, after_propose, after_subscribe, after_unsubscribe, end_of, find_entry, new_topic, cancel_fault, cancel_fault_of, find_pending, next_number, propose_fault, subscribe_fault, after_release, after_tries, after_try, decided_stamp, due_part, learn_fault, parts_without, row_of, with_stamp}
+use Rattle.mcast_group.specs.Machine.{Entry, Pending, TopicState, after_cancel, after_drain, after_learn, after_propose, after_subscribe, after_unsubscribe, end_of, find_entry, new_topic, cancel_fault, cancel_fault_of, find_pending, propose_fault, subscribe_fault, after_release, after_tries, after_try, decided_stamp, due_part, learn_fault, parts_without, row_of, with_stamp}
 use Rattle.mcast_group.specs.Sound.{IsSound, RisesById}
 use Rattle.mcast_group.proofs.Allowed.{keeps_sound}
 use Rattle.mcast_group.proofs.Indices.{without_at}
-use Rattle.mcast_group.proofs.Parts.{due_is, found_part, insert_length, map_length, after_release_if}
+use Rattle.mcast_group.proofs.Parts.{due_is, found_part, map_length, after_release_if}
 use Rattle.mcast_group.proofs.Releasing.{placed_at}
 use Rattle.broker_locks.specs.Place.{IsBalanced, PlaceState, cells_after_drain, is_part_at, new_place, place_after_subscribe, place_after_unsubscribe, place_fault, place_subscribe_fault, rows_since, source_answers}
 use Rattle.broker_locks.specs.Inner.KeptRows.{RowsKept, place_with, trace_kept}
@@ -203,9 +204,9 @@ module _ (g : CellGroupState) (t r c : ℕ) (number : ℕ) where
       ≡ place_subscribe_fault number (place_with g t r c (Some kept))
   fault_some kept = ap (λ (b : Bool). if b then Some SubInUse else subscribe_fault number g.group.topic) (sym (used_alike (kept.drained ++ g.group.topic.held) number kept.spans))
 
-  pub viewed_subscribed : (room : Room) (kept : RowsKept) → place_with (record g { group = group_after_subscribe number room g.group }) t r c (Some (rows_subscribed number g.group.topic.frontier kept)) ≡ place_after_subscribe number room (place_with g t r c (Some kept))
-  viewed_subscribed room kept =
-      ap (λ (z : KeptTrace). record { cells = record g { group = group_after_subscribe number room g.group }; tickets = t; released = r; cancelled = c; kept = Some z }) (kept_subscribed kept g.group.topic.held number g.group.topic.frontier)
+  pub viewed_subscribed : (gauge : Gauge) (kept : RowsKept) → place_with (record g { group = group_after_subscribe number gauge g.group }) t r c (Some (rows_subscribed number g.group.topic.frontier kept)) ≡ place_after_subscribe number gauge (place_with g t r c (Some kept))
+  viewed_subscribed gauge kept =
+      ap (λ (z : KeptTrace). record { cells = record g { group = group_after_subscribe number gauge g.group }; tickets = t; released = r; cancelled = c; kept = Some z }) (kept_subscribed kept g.group.topic.held number g.group.topic.frontier)
 
 -- the place of these fields
 module _ (g : CellGroupState) (t r c : ℕ) (k : Option RowsKept) (b : IsBalanced (place_with g t r c k)) where
@@ -215,7 +216,7 @@ module _ (g : CellGroupState) (t r c : ℕ) (k : Option RowsKept) (b : IsBalance
   balanced_proposed new floor proposal is allowed e =
       let x = g.group.topic in
       let part = proposal.part in
-      let more = insert_length (record { part = part; number = next_number floor x; learnt = None }) x.pending in
+      let more : length (after_propose floor part x).pending ≡ suc (length x.pending) = insert_length _ _ x.pending in
       let up : x.clock ≤ max x.clock floor.n = omega arith in
       subst (λ (z : CellGroupState). IsBalanced (place_with z (t + 1) r c k)) (sym e) (record {
         sound = keeps_sound.proposes floor part x b.sound (part_topic x.topic part is) allowed;
@@ -274,12 +275,12 @@ module _ (g : CellGroupState) (t r c : ℕ) (k : Option RowsKept) (b : IsBalance
   balanced_given (Err f) new none e err = subst (λ (z : CellGroupState). IsBalanced (place_with z t r c k)) (sym err) b
 
   -- after a subscription began, or was refused
-  pub balanced_subscribed : {A B : Type 0} (o : Result A B) (new : CellGroupState) (more : Option RowsKept) (number : ℕ) (room : Room)
-      → OnOk o (place_subscribe_fault number (place_with g t r c k) ≡ None) → OnOk o (new ≡ record g { group = group_after_subscribe number room g.group })
+  pub balanced_subscribed : {A B : Type 0} (o : Result A B) (new : CellGroupState) (more : Option RowsKept) (number : ℕ) (gauge : Gauge)
+      → OnOk o (place_subscribe_fault number (place_with g t r c k) ≡ None) → OnOk o (new ≡ record g { group = group_after_subscribe number gauge g.group })
       → OnOk o (more ≡ option_map (rows_subscribed number g.group.topic.frontier) k) → OnErr o ((new ≡ g) × (more ≡ k)) → IsBalanced (place_with new t r c more)
-  balanced_subscribed (Ok a) new more number room allowed ok is err =
+  balanced_subscribed (Ok a) new more number gauge allowed ok is err =
       subst (λ (z : CellGroupState). IsBalanced (place_with z t r c more)) (sym ok)
-      (subst (λ (z : Option RowsKept). IsBalanced (place_with (record g { group = group_after_subscribe number room g.group }) t r c z)) (sym is)
+      (subst (λ (z : Option RowsKept). IsBalanced (place_with (record g { group = group_after_subscribe number gauge g.group }) t r c z)) (sym is)
       (record { sound = keeps_sound.subscribes number g.group.topic b.sound (free k allowed).0; balance = b.balance; clock = b.clock; trace = go k b.trace allowed }))
     where
       free : (z : Option RowsKept) → place_subscribe_fault number (place_with g t r c z) ≡ None → (subscribe_fault number g.group.topic ≡ None) × (was_used number (option_map (trace_kept g.group.topic.held) z) ≡ false)
@@ -294,7 +295,7 @@ module _ (g : CellGroupState) (t r c : ℕ) (k : Option RowsKept) (b : IsBalance
       go (Some z) h e =
           let f = free (Some z) e in
           traced_subscribed z number g.group.topic h (sym (used_alike (z.drained ++ g.group.topic.held) number z.spans) ∙ f.1) f.0
-  balanced_subscribed (Err f) new more number room allowed ok is err =
+  balanced_subscribed (Err f) new more number gauge allowed ok is err =
       subst (λ (z : CellGroupState). IsBalanced (place_with z t r c more)) (sym err.0)
       (subst (λ (z : Option RowsKept). IsBalanced (place_with g t r c z)) (sym err.1) b)
 

@@ -3,6 +3,7 @@ use Rattle.std.proofs.Common.{◌≡◌, ◌≢◌, ◌<◌, ◌||◌, ◌++◌,
 use Rattle.std.proofs.lemmas.List.{map-append, take_more, take_all}
 use Rattle.std.specs.List.{AllByRecursion, list_any}
 use Rattle.std.proofs.lemmas.Bool.Decides.{nat_tests}
+use Rattle.std.proofs.lemmas.Bool.{or_right}
 use Rattle.mcast_txn.specs.declared.id.Topic.{Topic}
 use Rattle.mcast_txn.specs.declared.id.TxnId.{TxnId}
 use Rattle.mcast_txn.specs.declared.stamp.Stamp.{Stamp}
@@ -50,10 +51,6 @@ module _ (t : Topic) (id : TxnId) where
   still pairs floor (p ∷ ps) is =
       let more : is_pair t id (p.part.topic, p.part.id) || list_any (is_pair t id) pairs ≡ true = or_right (is_pair t id (p.part.topic, p.part.id)) (list_any (is_pair t id) pairs) is in
       still ((p.part.topic, p.part.id) ∷ pairs) floor ps more
-    where
-      or_right : (a b : Bool) → b ≡ true → a || b ≡ true
-      or_right true b e = refl
-      or_right false b e = e
 
 -- what was entered is there
 entered_there : (pairs : List (Topic × TxnId)) (floor : Stamp) (ps : List EnteredPart) (p : EnteredPart) → In p ps

@@ -2,6 +2,7 @@
 use Rattle.std.proofs.Common.{◌≡◌, ◌++◌, ◌+◌, ℕ, true, inl, inr, List, [], map, length, Some, Result, Ok, Err, IfOk, IfErr, append_assoc, append-nil, refl, sym, ap, subst, ◌∙◌, arith}
 use Rattle.std.specs.Prelude.{slice_get}
 use Rattle.std.proofs.lemmas.List.{length-map}
+use Rattle.delivery.proofs.Views.Senders.TicketsOfTopics.{rows_of_slots}
 use Rattle.mcast_txn.specs.declared.id.Topic.{Topic}
 use Rattle.mcast_txn.specs.declared.stamp.Stamp.{Stamp}
 use Rattle.mcast_txn.specs.Transaction.{TopicPart}
@@ -18,7 +19,7 @@ use Rattle.broker_locks.specs.Faults.{commit_fault}
 use Rattle.broker_locks.specs.Inner.Cancelling.{IsDecidedGate, cancelled_at, topics_given}
 use Rattle.broker_locks.specs.Inner.Proposing.{HasProposed, IsWhole, TriesPart}
 use Rattle.broker_locks.specs.Rows.{PlaceRow}
-use Rattle.broker_locks.proofs.Whole.{all_parts, cancelled_rows, first_parts, gate_left, given, made, proposals_length, rows_back}
+use Rattle.broker_locks.proofs.Whole.{all_parts, cancelled_rows, first_parts, gate_left, given, made, proposals_length}
 
 -- what holds of an Ok, by what else holds of it
 pub ok_too : {A E : Type 0} (r : Result A E) (P Q : A → Type 0) → ((x : A) → P x → Q x) → IfOk r P → IfOk r Q
@@ -32,7 +33,7 @@ err_too (Err e) P Q f h = f e h
 
 -- the rows of a verdict are the tickets of its flight
 pub rows_are : (rows : List Stamp) (tickets : Slots ℕ) → slots_of_rows rows ≡ tickets → rows ≡ ticket_rows tickets
-rows_are rows tickets e = sym (rows_back rows) ∙ ap ticket_rows e
+rows_are rows tickets e = sym (rows_of_slots rows) ∙ ap ticket_rows e
 
 -- the gate that a verdict leaves
 pub decided_gate : (flight : FlightState) (gate : GateState) (rows : List Stamp) → slots_of_rows rows ≡ flight.tickets

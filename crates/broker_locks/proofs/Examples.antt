@@ -221,7 +221,7 @@ gathered_empty = record {
 -- ---- drained rows
 
 abbrev cells : CellGroupState
-cells = record { group = record { topic = topic; rooms = [] }; waiting = []; notes = [] }
+cells = record { group = record { topic = topic; gauges = [] }; waiting = []; notes = [] }
 
 -- a place gives the rows that it drains to its caller, but where a trace keeps them
 given : rows_given (record place { cells = cells }) ≡ log_row 3 ∷ []
@@ -244,7 +244,7 @@ noted = record { cell = 7; known = Some verdict }
 
 abbrev learnt : CellGroupState
 learnt = record {
-  group = record { topic = after_turn (λ e. true) (λ i. Some verdict) waits.cells.group.topic; rooms = [] };
+  group = record { topic = after_turn (λ e. true) (λ i. Some verdict) waits.cells.group.topic; gauges = [] };
   waiting = [];
   notes = noted ∷ [];
 }

@@ -1,11 +1,13 @@
 -- What is stored of a trace, seen as a kept trace.
-use Rattle.std.proofs.Common.{◌≡◌, ℕ, ◌==◌, nat_lt, Bool, true, false, cond, inl, inr, List, [], ◌∷◌, ◌++◌, map, Option, Some, None, IfSome, refl, sym, ap, subst, ◌∙◌, append-nil}
+use Rattle.std.proofs.Common.{◌≡◌, ℕ, ◌==◌, nat_lt, Bool, true, false, cond, List, [], ◌∷◌, ◌++◌, map, Option, Some, None, IfSome, refl, sym, ap, subst, ◌∙◌, append-nil}
 use Rattle.std.specs.List.{list_any}
 use Rattle.std.specs.Option.{is_some, option_map}
 use Rattle.std.proofs.lemmas.Bool.{eqb-true}
-use Rattle.mcast_txn.specs.Lists.{In, Rises}
+use Rattle.delivery.proofs.Views.Lists.ByNumber.{map_alike}
+use Rattle.mcast_txn.specs.Lists.{In, Rises, insert_by_number}
 use Rattle.mcast_txn.specs.Span.{LogRow, row_stamp}
 use Rattle.mcast_txn.specs.declared.stamp.Stamp.{Stamp}
+use Rattle.mcast_txn.proofs.Inserting.{map_insert}
 use Rattle.mcast_txn.proofs.Members.{In-map}
 use Rattle.mcast_group.specs.Machine.{Entry, TopicState, after_drain, after_subscribe, after_unsubscribe, end_of, find_entry, subscribe_fault}
 use Rattle.mcast_group.specs.Sound.{IsSound}
@@ -13,7 +15,7 @@ use Rattle.mcast_group.specs.declared.fault.SubFault.TheVariants.{SubInUse}
 use Rattle.mcast_txn.specs.declared.mark.Mark.{Mark}
 use Rattle.broker_locks.specs.declared.kept_span.KeptSpan.{KeptSpan}
 use Rattle.broker_locks.specs.Inner.KeptRows.{RowsKept, kept_sub, span_after_end, span_number, trace_kept}
-use Rattle.broker_locks.specs.KeptTrace.{IsEndOf, KeepsTrace, KeptEnd, KeptSub, end_kept, insert_by_number, kept_after_drain, kept_after_subscribe, kept_after_unsubscribe, kept_end, marks_between, no_trace, sub_after_end}
+use Rattle.broker_locks.specs.KeptTrace.{IsEndOf, KeepsTrace, KeptEnd, KeptSub, end_kept, kept_after_drain, kept_after_subscribe, kept_after_unsubscribe, kept_end, marks_between, no_trace, sub_after_end}
 use Rattle.broker_locks.proofs.TraceKept.{end_is, found_entry, of_entry, sub_number, trace_alike, trace_drained, trace_subscribed, trace_unsubscribed, unused}
 
 -- where a trace is kept, it is that of the topic
@@ -39,10 +41,6 @@ traced_new x held subs = record {
 }
 
 -- ---- a longer log
-
-map_alike : {X Y : Type 0} (f g : X → Y) (xs : List X) → ((x : X) → In x xs → f x ≡ g x) → map f xs ≡ map g xs
-map_alike f g [] h = refl
-map_alike f g (x ∷ xs) h = let a = h x (inl refl) in let ih = map_alike f g xs (λ y k. h y (inr k)) in rw (a, ih) refl
 
 -- what was kept of an end stays, where the log has the same rows in its span
 sub_same : (log more : List LogRow) (frontier : Stamp) (s : KeptSpan) → ((left : KeptEnd) → (kept_sub log s).left ≡ Some left → IsEndOf frontier more s.from left) → kept_sub log s ≡ kept_sub more s
@@ -76,22 +74,14 @@ traced_drained k x t = subst (KeepsTrace (after_drain x)) (sym (kept_drained k x
 
 -- ---- a subscription begins
 
-map_insert : (log : List LogRow) (s : KeptSpan) (ss : List KeptSpan) → map (kept_sub log) (insert_by_number span_number s ss) ≡ insert_by_number sub_number (kept_sub log s) (map (kept_sub log) ss)
-map_insert log s [] = refl
-map_insert log s (z ∷ ss) = go (nat_lt s.number z.number) (map_insert log s ss)
-  where
-    go : (b : Bool) → map (kept_sub log) (insert_by_number span_number s ss) ≡ insert_by_number sub_number (kept_sub log s) (map (kept_sub log) ss)
-        → map (kept_sub log) (cond b (s ∷ z ∷ ss) (z ∷ insert_by_number span_number s ss)) ≡ cond b (kept_sub log s ∷ kept_sub log z ∷ map (kept_sub log) ss) (kept_sub log z ∷ insert_by_number sub_number (kept_sub log s) (map (kept_sub log) ss))
-    go true ih = refl
-    go false ih = ap (λ (zs : List KeptSub). kept_sub log z ∷ zs) ih
-
 -- what is stored, after a subscription of this number began at this frontier
 abbrev pub rows_subscribed : ℕ → Stamp → RowsKept → RowsKept
 rows_subscribed number from k = record { drained = k.drained; spans = insert_by_number span_number (record { number = number; from = from; to = None }) k.spans }
 
 pub kept_subscribed : (k : RowsKept) (held : List LogRow) (number : ℕ) (from : Stamp) → trace_kept held (rows_subscribed number from k) ≡ kept_after_subscribe number from (trace_kept held k)
 kept_subscribed k held number from =
-    ap (λ (ss : List KeptSub). record { drained = k.drained; subs = ss }) (map_insert (k.drained ++ held) (record { number = number; from = from; to = None }) k.spans)
+    ap (λ (ss : List KeptSub). record { drained = k.drained; subs = ss })
+    (map_insert (λ (s : KeptSpan). nat_lt number s.number) (λ (s : KeptSub). nat_lt number s.number) (kept_sub (k.drained ++ held)) (record { number = number; from = from; to = None }) k.spans (λ s. refl))
 
 -- whether a number was used
 pub used_alike : (log : List LogRow) (number : ℕ) (ss : List KeptSpan) → list_any (λ (s : KeptSub). s.number == number) (map (kept_sub log) ss) ≡ list_any (λ (s : KeptSpan). s.number == number) ss

@@ -19,7 +19,7 @@ use Rattle.broker_locks.specs.Gathering.{AreOfTopics, IsTraceLeft, GatheredIsDue
 use Rattle.broker_locks.specs.KeptTrace.{AllFit, KeptTrace, topic_trace}
 use Rattle.broker_locks.specs.Place.{PlaceState}
 use Rattle.broker_locks.specs.TopicTraces.{AreOfOneRun, NoneTwice, SubTrace, TopicTrace, log_rows, sub_rows, topic_rows}
-use Rattle.broker_locks.proofs.TraceRows.{explained_is_due, span_lines, span_of}
+use Rattle.broker_locks.proofs.TraceRows.{explained_is_due, as_span, span_of}
 
 -- ---- no span is there twice
 
@@ -33,19 +33,19 @@ last_other n m (z ∷ spans) s is h = go (z.sub == n) refl h (λ k. last_other n
     go false e k ih = (rw e (ih k).0, (ih k).1)
 
 -- of rows that each fit, no later span has the number of an earlier one
-pub fit_once : (rows : List TraceRow) (lines : TraceData) → AllFit rows lines
-    → NoneTwice (λ (s : SpanRow). s.sub) (flat_map span_lines rows) × ((y : SpanRow) → In y (flat_map span_lines rows) → has_span y.sub lines.spans ≡ false)
-fit_once [] lines fit = (tt, λ y k. absurd k)
-fit_once (row.Log line ∷ rows) lines fit = fit_once rows (with_row (row.Log line) lines) fit.1
-fit_once (row.Queue line ∷ rows) lines fit = fit_once rows (with_row (row.Queue line) lines) fit.1
-fit_once (row.Span line ∷ rows) lines fit =
-    let ih = fit_once rows (with_row (row.Span line) lines) fit.1 in
-    (((λ y k. (last_other y.sub line.sub lines.spans line refl (ih.1 y k)).1), ih.0), λ y k. first y k ih.1)
+pub fit_once : (rows : List TraceRow) (trace : TraceData) → AllFit rows trace
+    → NoneTwice (λ (s : SpanRow). s.sub) (flat_map as_span rows) × ((y : SpanRow) → In y (flat_map as_span rows) → has_span y.sub trace.spans ≡ false)
+fit_once [] trace fit = (tt, λ y k. absurd k)
+fit_once (row.Log logged ∷ rows) trace fit = fit_once rows (with_row (row.Log logged) trace) fit.1
+fit_once (row.Queue queued ∷ rows) trace fit = fit_once rows (with_row (row.Queue queued) trace) fit.1
+fit_once (row.Span span ∷ rows) trace fit =
+    let ih = fit_once rows (with_row (row.Span span) trace) fit.1 in
+    (((λ y k. (last_other y.sub span.sub trace.spans span refl (ih.1 y k)).1), ih.0), λ y k. first y k ih.1)
   where
-    first : (y : SpanRow) → In y (line ∷ flat_map span_lines rows)
-        → ((y : SpanRow) → In y (flat_map span_lines rows) → has_span y.sub (lines.spans ++ line ∷ []) ≡ false) → has_span y.sub lines.spans ≡ false
-    first y (inl e) ih = subst (λ (z : SpanRow). has_span z.sub lines.spans ≡ false) e fit.0
-    first y (inr k) ih = (last_other y.sub line.sub lines.spans line refl (ih y k)).0
+    first : (y : SpanRow) → In y (span ∷ flat_map as_span rows)
+        → ((y : SpanRow) → In y (flat_map as_span rows) → has_span y.sub (trace.spans ++ span ∷ []) ≡ false) → has_span y.sub trace.spans ≡ false
+    first y (inl e) ih = subst (λ (z : SpanRow). has_span z.sub trace.spans ≡ false) e fit.0
+    first y (inr k) ih = (last_other y.sub span.sub trace.spans span refl (ih y k)).0
 
 -- ---- by their numbers alone
 
@@ -66,35 +66,35 @@ sub_number s = s.sub
 abbrev number_of : SubTrace → ℕ
 number_of s = s.number
 
-spans_of_logs : (t : Topic) (log : List LogRow) → flat_map span_lines (log_rows t log) ≡ []
+spans_of_logs : (t : Topic) (log : List LogRow) → flat_map as_span (log_rows t log) ≡ []
 spans_of_logs t [] = refl
 spans_of_logs t (r ∷ log) = spans_of_logs t log
 
-spans_of_marks : (n : ℕ) (marks : List Mark) → flat_map span_lines (map (λ m. row.Queue (record { sub = n; id = m.id; stamp = m.stamp })) marks) ≡ []
+spans_of_marks : (n : ℕ) (marks : List Mark) → flat_map as_span (map (λ m. row.Queue (record { sub = n; id = m.id; stamp = m.stamp })) marks) ≡ []
 spans_of_marks n [] = refl
 spans_of_marks n (m ∷ marks) = spans_of_marks n marks
 
-spans_of_subs : (t : Topic) (subs : List SubTrace) → flat_map span_lines (flat_map (sub_rows t) subs) ≡ map (span_of t) subs
+spans_of_subs : (t : Topic) (subs : List SubTrace) → flat_map as_span (flat_map (sub_rows t) subs) ≡ map (span_of t) subs
 spans_of_subs t [] = refl
 spans_of_subs t (s ∷ subs) =
-    flat_map-append span_lines (sub_rows t s) (flat_map (sub_rows t) subs)
-    ∙ (ap (λ z. (span_of t s ∷ z) ++ flat_map span_lines (flat_map (sub_rows t) subs)) (spans_of_marks s.number s.marks)
+    flat_map-append as_span (sub_rows t s) (flat_map (sub_rows t) subs)
+    ∙ (ap (λ z. (span_of t s ∷ z) ++ flat_map as_span (flat_map (sub_rows t) subs)) (spans_of_marks s.number s.marks)
     ∙ ap (λ z. span_of t s ∷ z) (spans_of_subs t subs))
 
 numbers_of : (t : Topic) (subs : List SubTrace) → map sub_number (map (span_of t) subs) ≡ map number_of subs
 numbers_of t [] = refl
 numbers_of t (s ∷ subs) = ap (λ z. s.number ∷ z) (numbers_of t subs)
 
-spans_are : (topics : List TopicTrace) → map sub_number (flat_map span_lines (flat_map topic_rows topics)) ≡ map number_of (flat_map (λ x. x.subs) topics)
+spans_are : (topics : List TopicTrace) → map sub_number (flat_map as_span (flat_map topic_rows topics)) ≡ map number_of (flat_map (λ x. x.subs) topics)
 spans_are [] = refl
 spans_are (x ∷ topics) =
     ap (map sub_number)
-    (flat_map-append span_lines (topic_rows x) (flat_map topic_rows topics)
-    ∙ ap (λ z. z ++ flat_map span_lines (flat_map topic_rows topics))
-    (flat_map-append span_lines (log_rows x.topic x.log) (flat_map (sub_rows x.topic) x.subs)
-    ∙ (ap (λ z. z ++ flat_map span_lines (flat_map (sub_rows x.topic) x.subs)) (spans_of_logs x.topic x.log) ∙ spans_of_subs x.topic x.subs)))
-    ∙ (map-append sub_number (map (span_of x.topic) x.subs) (flat_map span_lines (flat_map topic_rows topics))
-    ∙ (ap (λ z. z ++ map sub_number (flat_map span_lines (flat_map topic_rows topics))) (numbers_of x.topic x.subs)
+    (flat_map-append as_span (topic_rows x) (flat_map topic_rows topics)
+    ∙ ap (λ z. z ++ flat_map as_span (flat_map topic_rows topics))
+    (flat_map-append as_span (log_rows x.topic x.log) (flat_map (sub_rows x.topic) x.subs)
+    ∙ (ap (λ z. z ++ flat_map as_span (flat_map (sub_rows x.topic) x.subs)) (spans_of_logs x.topic x.log) ∙ spans_of_subs x.topic x.subs)))
+    ∙ (map-append sub_number (map (span_of x.topic) x.subs) (flat_map as_span (flat_map topic_rows topics))
+    ∙ (ap (λ z. z ++ map sub_number (flat_map as_span (flat_map topic_rows topics))) (numbers_of x.topic x.subs)
     ∙ (ap (λ z. map number_of x.subs ++ z) (spans_are topics) ∙ sym (map-append number_of x.subs (flat_map (λ y. y.subs) topics)))))
 
 -- ---- no topic is there twice
@@ -129,7 +129,7 @@ left_once i (p ∷ places) each = go p.kept (left_once (i + 1) places each.1)
 pub of_one_run : (count : ℕ) (trace : TraceData) (left : IsTraceLeft count trace) → AreOfOneRun (flat_map traces_left left.places)
 of_one_run count trace left = record {
   topics_differ = left_once 0 left.places left.topics;
-  subs_differ = twice_alike sub_number number_of (flat_map span_lines (flat_map topic_rows (flat_map traces_left left.places))) (flat_map (λ (x : TopicTrace). x.subs) (flat_map traces_left left.places))
+  subs_differ = twice_alike sub_number number_of (flat_map as_span (flat_map topic_rows (flat_map traces_left left.places))) (flat_map (λ (x : TopicTrace). x.subs) (flat_map traces_left left.places))
       (spans_are (flat_map traces_left left.places)) (fit_once (flat_map topic_rows (flat_map traces_left left.places)) no_trace_data left.adds.fit).0;
 }
 

@@ -1,15 +1,13 @@
 -- Spans of subscriptions by rising number: what halving finds among them, and what an edit of them is.
 use Rattle.std.proofs.Common.{◌≡◌, ◌≢◌, ℕ, zero, suc, ◌<◌, ◌==◌, Bool, cond, true, false, List, [], ◌∷◌, map, get_or, set, Some, refl, sym, ap, ◌∙◌, arith}
-use Rattle.std.specs.List.{AllByRecursion, insert, list_any}
+use Rattle.std.specs.List.{AllByRecursion, list_any}
 use Rattle.std.proofs.lemmas.Bool.{eq-eqb, ne_eqb}
-use Rattle.std.proofs.lemmas.Bool.Decides.{nat_tests}
 use Rattle.mcast_txn.specs.Lists.{RisesBy}
 use Rattle.mcast_txn.specs.declared.stamp.Stamp.{Stamp}
 use Rattle.mcast_txn.proofs.Members.{In-get_or, any_from}
 use Rattle.mcast_txn.proofs.Rising.{IsAt, IsGap, below_later, none_in_gap, rises_alike}
 use Rattle.broker_locks.specs.declared.kept_span.KeptSpan.{KeptSpan}
 use Rattle.broker_locks.specs.Inner.KeptRows.{span_after_end, span_number}
-use Rattle.broker_locks.specs.KeptTrace.{insert_by_number}
 
 -- a number that is found was used
 pub used_at : (spans : List KeptSpan) (n i : ℕ) → IsAt span_number spans n i → list_any (λ (s : KeptSpan). s.number == n) spans ≡ true
@@ -24,15 +22,6 @@ none_used (s ∷ spans) n all = let a = ne_eqb s.number n all.0 in let ih = none
 -- one that isn't was not
 pub unused_at : (spans : List KeptSpan) (n i : ℕ) → IsGap span_number spans n i → list_any (λ (s : KeptSpan). s.number == n) spans ≡ false
 unused_at spans n i gap = none_used spans n (none_in_gap span_number spans n i gap)
-
--- one that is put into the gap of its number is at its place
-pub puts_in_gap : (spans : List KeptSpan) (i : ℕ) (s : KeptSpan) → IsGap span_number spans s.number i → insert spans i s ≡ insert_by_number span_number s spans
-puts_in_gap [] zero s gap = refl
-puts_in_gap [] (suc i) s gap = refl
-puts_in_gap (z ∷ spans) zero s gap = grind (arith, nat_tests, gap.above 0 s (omega arith) (omega arith))
-puts_in_gap (z ∷ spans) (suc i) s gap =
-    let ih = puts_in_gap spans i s (record { in_range = omega (arith, gap.in_range); below = λ j d h. gap.below (suc j) d (omega arith); above = λ j d h l. gap.above (suc j) d (omega arith) (omega arith) }) in
-    grind (arith, nat_tests, gap.below 0 s (omega arith))
 
 none_ended : (spans : List KeptSpan) (n : ℕ) (to : Stamp) → AllByRecursion (λ (s : KeptSpan). span_number s ≢ n) spans → map (span_after_end n to) spans ≡ spans
 none_ended [] n to all = refl

@@ -1,16 +1,17 @@
 -- A kept trace stays that of its topic.
-use Rattle.std.proofs.Common.{◌≡◌, ◌≢◌, ℕ, ◌<◌, ◌==◌, nat_lt, ◌&&◌, not, Bool, true, false, cond, inl, inr, ◌⊎◌, List, [], ◌∷◌, ◌++◌, map, Option, Some, None, refl, sym, ap, subst, ◌∙◌, append-nil, append_assoc, arith}
+use Rattle.std.proofs.Common.{◌≡◌, ◌≢◌, ℕ, ◌<◌, ◌==◌, ◌&&◌, not, Bool, true, false, cond, inl, inr, ◌⊎◌, List, [], ◌∷◌, ◌++◌, map, Option, Some, None, refl, sym, ap, subst, ◌∙◌, append-nil, append_assoc, arith}
 use Rattle.std.specs.List.{AllByRecursion, filter, list_any}
 use Rattle.std.proofs.lemmas.Bool.{eq-eqb, eqb-true, ne_eqb, true≢false}
 use Rattle.std.proofs.lemmas.Bool.Decides.{nat_tests}
 use Rattle.std.proofs.lemmas.List.{map-append}
 use Rattle.std.proofs.lemmas.List.Elements.{filter-append}
 use Rattle.mcast_txn.specs.Ballot.{Decision}
-use Rattle.mcast_txn.specs.Lists.{In, Rises, RisesBy}
+use Rattle.mcast_txn.specs.Lists.{In, Rises, RisesBy, insert_by_number}
 use Rattle.mcast_txn.specs.Span.{Item, LogRow, in_span, row_stamp, row_mark, item_mark}
 use Rattle.mcast_txn.specs.Stamp.{stamp_lt}
 use Rattle.mcast_txn.specs.declared.id.TxnId.{TxnId}
 use Rattle.mcast_txn.specs.declared.stamp.Stamp.{Stamp}
+use Rattle.mcast_txn.proofs.Inserting.{In-insert, In-insert_cases, rises_inserted}
 use Rattle.mcast_txn.proofs.Members.{In-filter, In-filter_cases, In-map, In-map_cases, In-push_cases, any_from, filter_none, filter_same}
 use Rattle.mcast_txn.proofs.Orders.{le_lt, lt_asym, lt_irrefl}
 use Rattle.mcast_txn.proofs.Rising.{rises_alike}
@@ -21,11 +22,10 @@ use Rattle.mcast_group.specs.Group.{GroupState, group_after_release, group_after
 use Rattle.mcast_group.specs.Machine.{Entry, Pending, TopicState, after_drain, after_learn, after_release, after_release_of, after_subscribe, after_tries, after_try, after_unsubscribe, decided_stamp, due_part, end_of, entry_after, find_entry, insert_entry, item_of, key, learn_fault, row_of, subscribe_fault}
 use Rattle.mcast_group.specs.Sound.{IsSound}
 use Rattle.mcast_group.proofs.Allowed.{keeps_sound}
-use Rattle.mcast_group.proofs.Numbers.{In-entry, In-entry_cases}
 use Rattle.mcast_group.proofs.Parts.{due_is, none_some, some_same, after_release_if}
 use Rattle.mcast_group.proofs.Queues.{delivered_from, delivered_number}
 use Rattle.mcast_txn.specs.declared.mark.Mark.{Mark}
-use Rattle.broker_locks.specs.KeptTrace.{HasEntry, HasSub, IsEndOf, KeepsTrace, KeptEnd, KeptSub, KeptTrace, end_kept, insert_by_number, kept_after_drain, kept_after_subscribe, kept_after_unsubscribe, kept_end, marks_between, sub_after_end, whole_log}
+use Rattle.broker_locks.specs.KeptTrace.{HasEntry, HasSub, IsEndOf, KeepsTrace, KeptEnd, KeptSub, KeptTrace, end_kept, kept_after_drain, kept_after_subscribe, kept_after_unsubscribe, kept_end, marks_between, sub_after_end, whole_log}
 
 -- ---- marks
 
@@ -198,61 +198,7 @@ trace_drained kept x k =
 
 -- ---- numbers
 
-below_by_test : (a b : ℕ) → nat_lt a b ≡ true → a < b
-below_by_test a b h = grind (arith, nat_tests)
-
-above_by_test : (a b : ℕ) → nat_lt a b ≡ false → b ≢ a → b < a
-above_by_test a b h n = grind (arith, nat_tests)
-
 module _ {X : Type 0} (number : X → ℕ) where
-  insert_cases : (f x y : X) (xs : List X) (b : Bool) → (In f (insert_by_number number x xs) → (x ≡ f) ⊎ In f xs) → In f (cond b (x ∷ y ∷ xs) (y ∷ insert_by_number number x xs)) → (x ≡ f) ⊎ In f (y ∷ xs)
-  insert_cases f x y xs true ih (inl k) = inl k
-  insert_cases f x y xs true ih (inr i) = inr i
-  insert_cases f x y xs false ih (inl k) = inr (inl k)
-  insert_cases f x y xs false ih (inr i) = elim (ih i) [ inl k ↦ inl k | inr j ↦ inr (inr j) ]
-
-  -- what is there after an insertion was there before, or is new
-  pub In-insert_cases : (f x : X) (xs : List X) → In f (insert_by_number number x xs) → (x ≡ f) ⊎ In f xs
-  In-insert_cases f x [] (inl k) = inl k
-  In-insert_cases f x [] (inr i) = absurd i
-  In-insert_cases f x (y ∷ xs) i = insert_cases f x y xs (nat_lt (number x) (number y)) (In-insert_cases f x xs) i
-
-  insert_put : (f x y : X) (xs : List X) (b : Bool) → ((x ≡ f) ⊎ In f xs → In f (insert_by_number number x xs)) → (x ≡ f) ⊎ In f (y ∷ xs) → In f (cond b (x ∷ y ∷ xs) (y ∷ insert_by_number number x xs))
-  insert_put f x y xs true ih (inl k) = inl k
-  insert_put f x y xs true ih (inr i) = inr i
-  insert_put f x y xs false ih (inl k) = inr (ih (inl k))
-  insert_put f x y xs false ih (inr (inl k)) = inl k
-  insert_put f x y xs false ih (inr (inr i)) = inr (ih (inr i))
-
-  -- the new one, and each that was there, is there after an insertion
-  pub In-insert : (f x : X) (xs : List X) → (x ≡ f) ⊎ In f xs → In f (insert_by_number number x xs)
-  In-insert f x [] (inl k) = inl k
-  In-insert f x [] (inr i) = absurd i
-  In-insert f x (y ∷ xs) i = insert_put f x y xs (nat_lt (number x) (number y)) (In-insert f x xs) i
-
-  all_inserted : (P : X → Type 0) (x : X) (xs : List X) → P x → AllByRecursion P xs → AllByRecursion P (insert_by_number number x xs)
-  all_inserted P x [] h all = (h, tt)
-  all_inserted P x (y ∷ xs) h all = go (nat_lt (number x) (number y)) (all_inserted P x xs h all.1)
-    where
-      go : (b : Bool) → AllByRecursion P (insert_by_number number x xs) → AllByRecursion P (cond b (x ∷ y ∷ xs) (y ∷ insert_by_number number x xs))
-      go true ih = (h, all)
-      go false ih = (all.0, ih)
-
-  all_above : (a b : ℕ) (xs : List X) → a < b → AllByRecursion (λ (x : X). b < number x) xs → AllByRecursion (λ (x : X). a < number x) xs
-  all_above a b [] l all = tt
-  all_above a b (x ∷ xs) l all = (let m : b < number x = all.0 in omega arith, all_above a b xs l all.1)
-
-  -- they rise after an insertion, where the new number isn't there
-  pub rises_inserted : (x : X) (xs : List X) → RisesBy number xs → ((y : X) → In y xs → number y ≢ number x) → RisesBy number (insert_by_number number x xs)
-  rises_inserted x [] h free = (tt, tt)
-  rises_inserted x (y ∷ xs) h free = go (nat_lt (number x) (number y)) refl (rises_inserted x xs h.1 (λ z i. free z (inr i)))
-    where
-      go : (b : Bool) → nat_lt (number x) (number y) ≡ b → RisesBy number (insert_by_number number x xs) → RisesBy number (cond b (x ∷ y ∷ xs) (y ∷ insert_by_number number x xs))
-      go true k ih = let l = below_by_test (number x) (number y) k in ((l, all_above (number x) (number y) xs l h.0), h)
-      go false k ih =
-          let l = above_by_test (number x) (number y) k (free y (inl refl)) in
-          (all_inserted (λ (z : X). number y < number z) x xs l h.0, ih)
-
   -- what is above all is above each
   pub above_first : (a : ℕ) (xs : List X) (y : X) → AllByRecursion (λ (z : X). a < number z) xs → In y xs → a < number y
   above_first a [] y all i = absurd i
@@ -283,19 +229,19 @@ trace_subscribed kept number x k free allowed =
       rises = k.rises;
       past = k.past;
       numbers = rises_inserted sub_number new kept.subs k.numbers (unused sub_number number kept.subs free);
-      live = λ s at none. elim (In-insert_cases sub_number s new kept.subs at) [
-        | inl e ↦ subst (λ (z : KeptSub). HasEntry z (insert_entry entry x.subscriptions)) e (record { entry = entry; among = In-entry entry entry x.subscriptions (inl refl); number = refl; from = refl })
-        | inr old ↦ (let h = k.live s old none in record { entry = h.entry; among = In-entry h.entry entry x.subscriptions (inr h.among); number = h.number; from = h.from })
+      live = λ s at none. elim (In-insert_cases _ s new kept.subs at) [
+        | inl e ↦ subst (λ (z : KeptSub). HasEntry z (insert_entry entry x.subscriptions)) e (record { entry = entry; among = In-insert _ entry entry x.subscriptions (inl refl); number = refl; from = refl })
+        | inr old ↦ (let h = k.live s old none in record { entry = h.entry; among = In-insert _ h.entry entry x.subscriptions (inr h.among); number = h.number; from = h.from })
       ];
-      each = λ e at. elim (In-entry_cases e entry x.subscriptions at) [
-        | inl is ↦ subst (λ (z : Entry). HasSub z (insert_by_number sub_number new kept.subs)) is (record { sub = new; among = In-insert sub_number new new kept.subs (inl refl); number = refl; live = refl })
-        | inr old ↦ (let h = k.each e old in record { sub = h.sub; among = In-insert sub_number h.sub new kept.subs (inr h.among); number = h.number; live = h.live })
+      each = λ e at. elim (In-insert_cases _ e entry x.subscriptions at) [
+        | inl is ↦ subst (λ (z : Entry). HasSub z (insert_by_number sub_number new kept.subs)) is (record { sub = new; among = In-insert _ new new kept.subs (inl refl); number = refl; live = refl })
+        | inr old ↦ (let h = k.each e old in record { sub = h.sub; among = In-insert _ h.sub new kept.subs (inr h.among); number = h.number; live = h.live })
       ];
-      pushed = λ e at. elim (In-entry_cases e entry x.subscriptions at) [
+      pushed = λ e at. elim (In-insert_cases _ e entry x.subscriptions at) [
         | inl is ↦ subst (λ (z : Entry). map item_mark z.accepted ≡ marks_between z.from z.to (whole_log x kept)) is (sym (marks_none x.frontier (whole_log x kept) k.past))
         | inr old ↦ k.pushed e old
       ];
-      ended = λ s left at some. elim (In-insert_cases sub_number s new kept.subs at) [
+      ended = λ s left at some. elim (In-insert_cases _ s new kept.subs at) [
         | inl e ↦ none_some left (ap (λ (z : KeptSub). z.left) e ∙ some)
         | inr old ↦ k.ended s left old some
       ];

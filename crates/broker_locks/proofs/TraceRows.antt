@@ -9,7 +9,7 @@ use Rattle.mcast_txn.specs.Lists.{In}
 use Rattle.mcast_txn.specs.Span.{LogRow, in_span, last_stamp, up_to, row_mark}
 use Rattle.mcast_txn.specs.Stamp.{stamp_lt, zero_stamp}
 use Rattle.mcast_txn.specs.TopicSet.{names}
-use Rattle.mcast_txn.proofs.Members.{In-append_left, In-map_cases, filter_none, filter_same}
+use Rattle.mcast_txn.proofs.Members.{In-append_right, In-flat_map, In-map_cases, filter_all, filter_none, filter_same, filter_twice}
 use Rattle.mcast_txn.proofs.Orders.{lt_le, zero_least}
 use Rattle.mcast_txn.specs.declared.mark.Mark.{Mark}
 use Rattle.trace_audit.specs.declared.row.SpanRow.{SpanRow}
@@ -17,41 +17,12 @@ use Rattle.trace_audit.specs.declared.row.QueueRow.{QueueRow}
 use Rattle.trace_audit.specs.declared.row.TraceRow.{TraceRow}
 use Rattle.trace_audit.specs.declared.row.TraceRow.TheVariants as row
 use Rattle.trace_audit.specs.Explained.{rows_at}
-use Rattle.trace_audit.specs.Logs.{LogLine}
+use Rattle.trace_audit.specs.Logs.{TopicRow}
 use Rattle.trace_audit.specs.Rows.{with_row}
 use Rattle.trace_audit.specs.Trace.{TraceData, no_trace_data, rows_of, log_of, queue_mark, queue_of}
 use Rattle.broker_locks.specs.TopicTraces.{SubTrace, TopicTrace, log_rows, sub_rows, topic_rows, with_rows, topics_trace, NoneTwice, is_due_to, ExplainedIsDue}
 
 -- ---- lists
-
--- where each item passes, the filtered list is the list
-pub filter_all : {X : Type 0} (p : X → Bool) (xs : List X) → ((x : X) → In x xs → p x ≡ true) → filter p xs ≡ xs
-filter_all p [] h = refl
-filter_all p (x ∷ xs) h =
-    let e = h x (inl refl) in
-    let ih = filter_all p xs (λ y k. h y (inr k)) in rw (e, ih) refl
-
-twice_case : {X : Type 0} (p q : X → Bool) (x : X) (xs : List X) (a b : Bool) → q x ≡ a → p x ≡ b
-    → filter p (filter q xs) ≡ filter (λ y. q y && p y) xs → filter p (filter q (x ∷ xs)) ≡ filter (λ y. q y && p y) (x ∷ xs)
-twice_case p q x xs true true e k ih = rw (e, k, ih) refl
-twice_case p q x xs true false e k ih = rw (e, k, ih) refl
-twice_case p q x xs false b e k ih = rw (e, ih) refl
-
--- what passes two filters passes one of both tests
-pub filter_twice : {X : Type 0} (p q : X → Bool) (xs : List X) → filter p (filter q xs) ≡ filter (λ x. q x && p x) xs
-filter_twice p q [] = refl
-filter_twice p q (x ∷ xs) = twice_case p q x xs (q x) (p x) refl refl (filter_twice p q xs)
-
--- what is behind a list is in both
-pub In-append_right : {X : Type 0} (x : X) (xs ys : List X) → In x ys → In x (xs ++ ys)
-In-append_right x [] ys k = k
-In-append_right x (y ∷ xs) ys k = inr (In-append_right x xs ys k)
-
--- what f makes of an item is in what it makes of all
-pub In-flat_map : {X Y : Type 0} (f : X → List Y) (x : X) (y : Y) (xs : List X) → In x xs → In y (f x) → In y (flat_map f xs)
-In-flat_map f x y [] h k = absurd h
-In-flat_map f x y (z ∷ xs) (inl e) k = In-append_left y (f z) (flat_map f xs) (subst (λ w. In y (f w)) (sym e) k)
-In-flat_map f x y (z ∷ xs) (inr h) k = In-append_right y (f z) (flat_map f xs) (In-flat_map f x y xs h k)
 
 -- a list of lists that are made of items: none of another's number
 none_of : {X Y : Type 0} (f : X → List Y) (number : X → ℕ) (key : Y → ℕ) → ((x : X) (y : Y) → In y (f x) → key y ≡ number x)
@@ -79,111 +50,111 @@ made_of_item f number key own x (z ∷ xs) (inr h) once =
 -- ---- the rows of each kind
 
 -- of a row, what it adds to the logs, to the spans and to the queues
-abbrev pub log_lines : TraceRow → List LogLine
-log_lines (row.Log line) = line ∷ []
-log_lines (row.Span line) = []
-log_lines (row.Queue line) = []
+abbrev pub as_logged : TraceRow → List TopicRow
+as_logged (row.Log logged) = logged ∷ []
+as_logged (row.Span span) = []
+as_logged (row.Queue queued) = []
 
-abbrev pub span_lines : TraceRow → List SpanRow
-span_lines (row.Log line) = []
-span_lines (row.Span line) = line ∷ []
-span_lines (row.Queue line) = []
+abbrev pub as_span : TraceRow → List SpanRow
+as_span (row.Log logged) = []
+as_span (row.Span span) = span ∷ []
+as_span (row.Queue queued) = []
 
-abbrev pub queue_lines : TraceRow → List QueueRow
-queue_lines (row.Log line) = []
-queue_lines (row.Span line) = []
-queue_lines (row.Queue line) = line ∷ []
+abbrev pub as_queued : TraceRow → List QueueRow
+as_queued (row.Log logged) = []
+as_queued (row.Span span) = []
+as_queued (row.Queue queued) = queued ∷ []
 
 -- what rows add to a trace
-pub rows_added : (rows : List TraceRow) (lines : TraceData) → with_rows rows lines ≡ record {
-  logs = lines.logs ++ flat_map log_lines rows;
-  spans = lines.spans ++ flat_map span_lines rows;
-  queues = lines.queues ++ flat_map queue_lines rows;
+pub rows_added : (rows : List TraceRow) (trace : TraceData) → with_rows rows trace ≡ record {
+  logs = trace.logs ++ flat_map as_logged rows;
+  spans = trace.spans ++ flat_map as_span rows;
+  queues = trace.queues ++ flat_map as_queued rows;
 }
-rows_added [] lines =
-    let a = append-nil lines.logs in
-    let b = append-nil lines.spans in
-    let c = append-nil lines.queues in rw (a, b, c) refl
-rows_added (row.Log line ∷ rows) lines =
-    let a = append_assoc lines.logs (line ∷ []) (flat_map log_lines rows) in
-    rows_added rows (with_row (row.Log line) lines) ∙ rw a refl
-rows_added (row.Span line ∷ rows) lines =
-    let a = append_assoc lines.spans (line ∷ []) (flat_map span_lines rows) in
-    rows_added rows (with_row (row.Span line) lines) ∙ rw a refl
-rows_added (row.Queue line ∷ rows) lines =
-    let a = append_assoc lines.queues (line ∷ []) (flat_map queue_lines rows) in
-    rows_added rows (with_row (row.Queue line) lines) ∙ rw a refl
+rows_added [] trace =
+    let a = append-nil trace.logs in
+    let b = append-nil trace.spans in
+    let c = append-nil trace.queues in rw (a, b, c) refl
+rows_added (row.Log logged ∷ rows) trace =
+    let a = append_assoc trace.logs (logged ∷ []) (flat_map as_logged rows) in
+    rows_added rows (with_row (row.Log logged) trace) ∙ rw a refl
+rows_added (row.Span span ∷ rows) trace =
+    let a = append_assoc trace.spans (span ∷ []) (flat_map as_span rows) in
+    rows_added rows (with_row (row.Span span) trace) ∙ rw a refl
+rows_added (row.Queue queued ∷ rows) trace =
+    let a = append_assoc trace.queues (queued ∷ []) (flat_map as_queued rows) in
+    rows_added rows (with_row (row.Queue queued) trace) ∙ rw a refl
 
--- the log of a topic, as lines
-abbrev pub topic_lines : TopicTrace → List LogLine
-topic_lines x = map (λ r. record { topic = x.topic; row = r }) x.log
+-- the log of a topic, each row with the topic
+abbrev pub log_with_topic : TopicTrace → List TopicRow
+log_with_topic x = map (λ r. record { topic = x.topic; row = r }) x.log
 
 -- the span of a subscription
 abbrev pub span_of : Topic → SubTrace → SpanRow
 span_of t s = record { sub = s.number; topic = t; from = s.from; to = s.to }
 
--- the queue of a subscription, as lines
-abbrev pub sub_lines : SubTrace → List QueueRow
-sub_lines s = map (λ m. record { sub = s.number; id = m.id; stamp = m.stamp }) s.marks
+-- the queue of a subscription, each row with its number
+abbrev pub queue_with_number : SubTrace → List QueueRow
+queue_with_number s = map (λ m. record { sub = s.number; id = m.id; stamp = m.stamp }) s.marks
 
 -- what mapped rows of one kind add
-logs_of_logs : (t : Topic) (log : List LogRow) → flat_map log_lines (log_rows t log) ≡ map (λ r. record { topic = t; row = r }) log
+logs_of_logs : (t : Topic) (log : List LogRow) → flat_map as_logged (log_rows t log) ≡ map (λ r. record { topic = t; row = r }) log
 logs_of_logs t [] = refl
 logs_of_logs t (r ∷ log) = ap (λ z. record { topic = t; row = r } ∷ z) (logs_of_logs t log)
 
-queues_of_logs : (t : Topic) (log : List LogRow) → flat_map queue_lines (log_rows t log) ≡ []
+queues_of_logs : (t : Topic) (log : List LogRow) → flat_map as_queued (log_rows t log) ≡ []
 queues_of_logs t [] = refl
 queues_of_logs t (r ∷ log) = queues_of_logs t log
 
-logs_of_marks : (n : ℕ) (marks : List Mark) → flat_map log_lines (map (λ m. row.Queue (record { sub = n; id = m.id; stamp = m.stamp })) marks) ≡ []
+logs_of_marks : (n : ℕ) (marks : List Mark) → flat_map as_logged (map (λ m. row.Queue (record { sub = n; id = m.id; stamp = m.stamp })) marks) ≡ []
 logs_of_marks n [] = refl
 logs_of_marks n (m ∷ marks) = logs_of_marks n marks
 
-queues_of_marks : (n : ℕ) (marks : List Mark) → flat_map queue_lines (map (λ m. row.Queue (record { sub = n; id = m.id; stamp = m.stamp })) marks)
+queues_of_marks : (n : ℕ) (marks : List Mark) → flat_map as_queued (map (λ m. row.Queue (record { sub = n; id = m.id; stamp = m.stamp })) marks)
     ≡ map (λ m. record { sub = n; id = m.id; stamp = m.stamp }) marks
 queues_of_marks n [] = refl
 queues_of_marks n (m ∷ marks) = ap (λ z. record { sub = n; id = m.id; stamp = m.stamp } ∷ z) (queues_of_marks n marks)
 
-logs_of_subs : (t : Topic) (subs : List SubTrace) → flat_map log_lines (flat_map (sub_rows t) subs) ≡ []
+logs_of_subs : (t : Topic) (subs : List SubTrace) → flat_map as_logged (flat_map (sub_rows t) subs) ≡ []
 logs_of_subs t [] = refl
 logs_of_subs t (s ∷ subs) =
-    flat_map-append log_lines (sub_rows t s) (flat_map (sub_rows t) subs)
-    ∙ (ap (λ z. z ++ flat_map log_lines (flat_map (sub_rows t) subs)) (logs_of_marks s.number s.marks) ∙ logs_of_subs t subs)
+    flat_map-append as_logged (sub_rows t s) (flat_map (sub_rows t) subs)
+    ∙ (ap (λ z. z ++ flat_map as_logged (flat_map (sub_rows t) subs)) (logs_of_marks s.number s.marks) ∙ logs_of_subs t subs)
 
-queues_of_subs : (t : Topic) (subs : List SubTrace) → flat_map queue_lines (flat_map (sub_rows t) subs) ≡ flat_map sub_lines subs
+queues_of_subs : (t : Topic) (subs : List SubTrace) → flat_map as_queued (flat_map (sub_rows t) subs) ≡ flat_map queue_with_number subs
 queues_of_subs t [] = refl
 queues_of_subs t (s ∷ subs) =
-    flat_map-append queue_lines (sub_rows t s) (flat_map (sub_rows t) subs)
-    ∙ (ap (λ z. z ++ flat_map queue_lines (flat_map (sub_rows t) subs)) (queues_of_marks s.number s.marks) ∙ ap (λ z. sub_lines s ++ z) (queues_of_subs t subs))
+    flat_map-append as_queued (sub_rows t s) (flat_map (sub_rows t) subs)
+    ∙ (ap (λ z. z ++ flat_map as_queued (flat_map (sub_rows t) subs)) (queues_of_marks s.number s.marks) ∙ ap (λ z. queue_with_number s ++ z) (queues_of_subs t subs))
 
 -- the logs of a run's topics
-pub logs_are : (topics : List TopicTrace) → flat_map log_lines (flat_map topic_rows topics) ≡ flat_map topic_lines topics
+pub logs_are : (topics : List TopicTrace) → flat_map as_logged (flat_map topic_rows topics) ≡ flat_map log_with_topic topics
 logs_are [] = refl
 logs_are (x ∷ topics) =
-    flat_map-append log_lines (topic_rows x) (flat_map topic_rows topics)
-    ∙ (ap (λ z. z ++ flat_map log_lines (flat_map topic_rows topics))
-    (flat_map-append log_lines (log_rows x.topic x.log) (flat_map (sub_rows x.topic) x.subs)
-    ∙ (ap (λ z. z ++ flat_map log_lines (flat_map (sub_rows x.topic) x.subs)) (logs_of_logs x.topic x.log)
-    ∙ (ap (λ z. topic_lines x ++ z) (logs_of_subs x.topic x.subs) ∙ append-nil (topic_lines x))))
-    ∙ ap (λ z. topic_lines x ++ z) (logs_are topics))
+    flat_map-append as_logged (topic_rows x) (flat_map topic_rows topics)
+    ∙ (ap (λ z. z ++ flat_map as_logged (flat_map topic_rows topics))
+    (flat_map-append as_logged (log_rows x.topic x.log) (flat_map (sub_rows x.topic) x.subs)
+    ∙ (ap (λ z. z ++ flat_map as_logged (flat_map (sub_rows x.topic) x.subs)) (logs_of_logs x.topic x.log)
+    ∙ (ap (λ z. log_with_topic x ++ z) (logs_of_subs x.topic x.subs) ∙ append-nil (log_with_topic x))))
+    ∙ ap (λ z. log_with_topic x ++ z) (logs_are topics))
 
 -- the queues of a run's topics
-pub queues_are : (topics : List TopicTrace) → flat_map queue_lines (flat_map topic_rows topics) ≡ flat_map sub_lines (flat_map (λ x. x.subs) topics)
+pub queues_are : (topics : List TopicTrace) → flat_map as_queued (flat_map topic_rows topics) ≡ flat_map queue_with_number (flat_map (λ x. x.subs) topics)
 queues_are [] = refl
 queues_are (x ∷ topics) =
-    flat_map-append queue_lines (topic_rows x) (flat_map topic_rows topics)
-    ∙ (ap (λ z. z ++ flat_map queue_lines (flat_map topic_rows topics))
-    (flat_map-append queue_lines (log_rows x.topic x.log) (flat_map (sub_rows x.topic) x.subs)
-    ∙ (ap (λ z. z ++ flat_map queue_lines (flat_map (sub_rows x.topic) x.subs)) (queues_of_logs x.topic x.log) ∙ queues_of_subs x.topic x.subs))
-    ∙ (ap (λ z. flat_map sub_lines x.subs ++ z) (queues_are topics) ∙ sym (flat_map-append sub_lines x.subs (flat_map (λ y. y.subs) topics))))
+    flat_map-append as_queued (topic_rows x) (flat_map topic_rows topics)
+    ∙ (ap (λ z. z ++ flat_map as_queued (flat_map topic_rows topics))
+    (flat_map-append as_queued (log_rows x.topic x.log) (flat_map (sub_rows x.topic) x.subs)
+    ∙ (ap (λ z. z ++ flat_map as_queued (flat_map (sub_rows x.topic) x.subs)) (queues_of_logs x.topic x.log) ∙ queues_of_subs x.topic x.subs))
+    ∙ (ap (λ z. flat_map queue_with_number x.subs ++ z) (queues_are topics) ∙ sym (flat_map-append queue_with_number x.subs (flat_map (λ y. y.subs) topics))))
 
 -- the span of a topic's subscription is among the spans
-pub span_is_in : (topics : List TopicTrace) (x : TopicTrace) (s : SubTrace) → In x topics → In s x.subs → In (span_of x.topic s) (flat_map span_lines (flat_map topic_rows topics))
+pub span_is_in : (topics : List TopicTrace) (x : TopicTrace) (s : SubTrace) → In x topics → In s x.subs → In (span_of x.topic s) (flat_map as_span (flat_map topic_rows topics))
 span_is_in topics x s k h =
-    let at_row : In (span_of x.topic s) (span_lines (row.Span (span_of x.topic s))) = inl refl in
+    let at_row : In (span_of x.topic s) (as_span (row.Span (span_of x.topic s))) = inl refl in
     let at_sub : In (row.Span (span_of x.topic s)) (sub_rows x.topic s) = inl refl in
     let at_topic : In (row.Span (span_of x.topic s)) (topic_rows x) = In-append_right _ (log_rows x.topic x.log) _ (In-flat_map (sub_rows x.topic) s _ x.subs h at_sub) in
-    In-flat_map span_lines (row.Span (span_of x.topic s)) (span_of x.topic s) (flat_map topic_rows topics) (In-flat_map topic_rows x _ topics k at_topic) at_row
+    In-flat_map as_span (row.Span (span_of x.topic s)) (span_of x.topic s) (flat_map topic_rows topics) (In-flat_map topic_rows x _ topics k at_topic) at_row
 
 -- ---- a topic, and a subscription
 
@@ -195,25 +166,25 @@ marks_back : (n : ℕ) (marks : List Mark) → map queue_mark (map (λ m. record
 marks_back n [] = refl
 marks_back n (m ∷ marks) = ap (λ z. m ∷ z) (marks_back n marks)
 
-topic_of_line : (x : TopicTrace) (line : LogLine) → In line (topic_lines x) → line.topic.0 ≡ x.topic.0
-topic_of_line x line k = let m = In-map_cases _ line x.log k in ap (λ (z : LogLine). z.topic.0) (sym m.is)
+topic_of_logged : (x : TopicTrace) (logged : TopicRow) → In logged (log_with_topic x) → logged.topic.0 ≡ x.topic.0
+topic_of_logged x logged k = let m = In-map_cases _ logged x.log k in ap (λ (z : TopicRow). z.topic.0) (sym m.is)
 
-number_of_line : (s : SubTrace) (line : QueueRow) → In line (sub_lines s) → line.sub ≡ s.number
-number_of_line s line k = let m = In-map_cases _ line s.marks k in ap (λ (z : QueueRow). z.sub) (sym m.is)
+number_of_queued : (s : SubTrace) (queued : QueueRow) → In queued (queue_with_number s) → queued.sub ≡ s.number
+number_of_queued s queued k = let m = In-map_cases _ queued s.marks k in ap (λ (z : QueueRow). z.sub) (sym m.is)
 
 -- a topic's log in the trace is its log
 pub log_is : (topics : List TopicTrace) (x : TopicTrace) → In x topics → NoneTwice (λ x. x.topic.0) topics → log_of x.topic (topics_trace topics).logs ≡ x.log
 log_is topics x k once =
-    ap (λ (lines : TraceData). log_of x.topic lines.logs) (rows_added (flat_map topic_rows topics) no_trace_data)
+    ap (λ (trace : TraceData). log_of x.topic trace.logs) (rows_added (flat_map topic_rows topics) no_trace_data)
     ∙ (ap (λ z. log_of x.topic z) (logs_are topics)
-    ∙ (ap rows_of (made_of_item topic_lines (λ (y : TopicTrace). y.topic.0) (λ (line : LogLine). line.topic.0) topic_of_line x topics k once) ∙ rows_back x.topic x.log))
+    ∙ (ap rows_of (made_of_item log_with_topic (λ (y : TopicTrace). y.topic.0) (λ (logged : TopicRow). logged.topic.0) topic_of_logged x topics k once) ∙ rows_back x.topic x.log))
 
 -- a subscription's queue in the trace is its rows
 pub queue_is : (topics : List TopicTrace) (s : SubTrace) → In s (flat_map (λ x. x.subs) topics) → NoneTwice (λ s. s.number) (flat_map (λ x. x.subs) topics) → queue_of s.number (topics_trace topics).queues ≡ s.marks
 queue_is topics s k once =
-    ap (λ (lines : TraceData). queue_of s.number lines.queues) (rows_added (flat_map topic_rows topics) no_trace_data)
+    ap (λ (trace : TraceData). queue_of s.number trace.queues) (rows_added (flat_map topic_rows topics) no_trace_data)
     ∙ (ap (λ z. queue_of s.number z) (queues_are topics)
-    ∙ (ap (λ z. map queue_mark z) (made_of_item sub_lines (λ (y : SubTrace). y.number) (λ (line : QueueRow). line.sub) number_of_line s (flat_map (λ x. x.subs) topics) k once) ∙ marks_back s.number s.marks))
+    ∙ (ap (λ z. map queue_mark z) (made_of_item queue_with_number (λ (y : SubTrace). y.number) (λ (queued : QueueRow). queued.sub) number_of_queued s (flat_map (λ x. x.subs) topics) k once) ∙ marks_back s.number s.marks))
 
 -- ---- what is due
 
@@ -260,7 +231,7 @@ pub explained_is_due : ExplainedIsDue
 explained_is_due topics agreed run e x s k h =
     let log : log_of x.topic (topics_trace topics).logs ≡ x.log = log_is topics x k run.topics_differ in
     let queue : queue_of s.number (topics_trace topics).queues ≡ s.marks = queue_is topics s (In-flat_map (λ (y : TopicTrace). y.subs) x s topics k h) run.subs_differ in
-    let spans : (topics_trace topics).spans ≡ flat_map span_lines (flat_map topic_rows topics) = ap (λ (lines : TraceData). lines.spans) (rows_added (flat_map topic_rows topics) no_trace_data) in
+    let spans : (topics_trace topics).spans ≡ flat_map as_span (flat_map topic_rows topics) = ap (λ (trace : TraceData). trace.spans) (rows_added (flat_map topic_rows topics) no_trace_data) in
     let there : In (span_of x.topic s) (topics_trace topics).spans = subst (λ z. In (span_of x.topic s) z) (sym spans) (span_is_in topics x s k h) in
     sym queue
     ∙ (e.queues (span_of x.topic s) there

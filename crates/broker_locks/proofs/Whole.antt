@@ -7,7 +7,7 @@ use Rattle.mcast_txn.specs.declared.id.TxnId.{TxnId}
 use Rattle.mcast_txn.specs.declared.stamp.Stamp.{Stamp}
 use Rattle.mcast_txn.specs.declared.ballot.ticket.Ticket.{Ticket}
 use Rattle.mcast_txn.specs.declared.draft.sent_message.SentMessage.{SentMessage}
-use Rattle.mcast_txn.specs.Ballot.{ticket_rows, slots_of_rows}
+use Rattle.mcast_txn.specs.Ballot.{ticket_rows}
 use Rattle.mcast_txn.specs.Lists.{In, RisesBy}
 use Rattle.mcast_txn.specs.Part.{part_at, parts_of}
 use Rattle.mcast_txn.specs.Slots.{Slots, free_slots}
@@ -118,11 +118,6 @@ cancelled_each id (p ∷ ps) (n ∷ ns) own =
 pub topics_put : (id : TxnId) (rows : List Stamp) → map (λ (t : Ticket). t.topic) (map (λ row. record { id = id; topic = row.topic; n = row.n }) rows) ≡ map (λ (row : Stamp). row.topic) rows
 topics_put id [] = refl
 topics_put id (row ∷ rows) = ap (λ (l : List Topic). row.topic ∷ l) (topics_put id rows)
-
--- the rows of a verdict are the tickets
-pub rows_back : (rows : List Stamp) → ticket_rows (slots_of_rows rows) ≡ rows
-rows_back [] = refl
-rows_back (row ∷ rows) = ap (λ (l : List Stamp). row ∷ l) (rows_back rows)
 
 -- where the first parts were entered
 module _ (first now : FlightState) (ns : List ℕ) (old rows : List PlaceRow) (whole : IsWhole first) (so : HasProposed (parts_in first.parts) first ns now old rows) where

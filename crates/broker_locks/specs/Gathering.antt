@@ -38,8 +38,8 @@ pub record IsTraceLeft (count : ℕ) (trace : TraceData) : Type 0 where
 
 -- of what these places left, a trace had the first rows, up to one that was refused by this fault
 pub record IsRowRefused (fault : AddFault) (places : List PlaceState) : Type 0 where
-  pub lines : TraceData
-  pub first : AddsFirst fault (flat_map topic_rows (flat_map traces_left places)) no_trace_data lines
+  pub trace : TraceData
+  pub first : AddsFirst fault (flat_map topic_rows (flat_map traces_left places)) no_trace_data trace
 
 -- the place after these was of another topic than its number
 pub record IsElsewhere (fault : AddFault) (places : List PlaceState) : Type 0 where

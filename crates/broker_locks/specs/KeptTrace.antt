@@ -1,9 +1,9 @@
 -- What a place keeps for the trace of a run, beside its group, and what it leaves for it.
-use Rattle.std.specs.Prelude.{◌≡◌, ◌==◌, ◌++◌, nat_lt, ℕ, Bool, false, List, [], ◌∷◌, map}
+use Rattle.std.specs.Prelude.{◌≡◌, ◌==◌, ◌++◌, ℕ, Bool, false, List, [], ◌∷◌, map}
 use Rattle.std.specs.Prelude.{Option, Some, None, if◌then◌else◌}
 use Rattle.std.specs.List.{filter, flat_map, list_any}
 use Rattle.mcast_txn.specs.declared.stamp.Stamp.{Stamp}
-use Rattle.mcast_txn.specs.Lists.{In, Rises, RisesBy}
+use Rattle.mcast_txn.specs.Lists.{In, Rises, RisesBy, insert_by_number}
 use Rattle.mcast_txn.specs.Span.{LogRow, in_span, row_stamp, row_mark, item_mark}
 use Rattle.mcast_txn.specs.Stamp.{stamp_lt}
 use Rattle.mcast_group.specs.Machine.{Entry, EntryEnd, TopicState, end_of, find_entry}
@@ -79,8 +79,8 @@ rows_kept x (Some kept) = topic_rows (topic_trace x kept)
 
 -- each of these rows fits the trace that has the ones before it
 abbrev pub AllFit : List TraceRow → TraceData → Type 0
-AllFit [] lines = Unit {0}
-AllFit (r ∷ rows) lines = (is_misfit r lines ≡ false) × AllFit rows (with_row r lines)
+AllFit [] trace = Unit {0}
+AllFit (r ∷ rows) trace = (is_misfit r trace ≡ false) × AllFit rows (with_row r trace)
 
 -- These rows were added to a trace, in order, and each of them fit.
 pub record AddsAll (rows : List TraceRow) (old new : TraceData) : Type 0 where
@@ -104,12 +104,6 @@ pub record AddsFirst (fault : AddFault) (rows : List TraceRow) (old new : TraceD
 abbrev pub was_used : ℕ → Option KeptTrace → Bool
 was_used number None = false
 was_used number (Some kept) = list_any (λ s. s.number == number) kept.subs
-
--- x among others that rise by number
-abbrev pub insert_by_number : {X : Type 0} → (X → ℕ) → X → List X → List X
-insert_by_number number x [] = x ∷ []
-insert_by_number number x (y ∷ ys) =
-    if nat_lt (number x) (number y) then x ∷ y ∷ ys else y ∷ insert_by_number number x ys
 
 -- a subscription of this number began at this frontier
 abbrev pub kept_after_subscribe : ℕ → Stamp → KeptTrace → KeptTrace

@@ -11,7 +11,7 @@ use Rattle.mcast_txn.specs.Part.{data_of, flight_of_part}
 use Rattle.mcast_txn.specs.Span.{LogRow}
 use Rattle.mcast_txn.specs.TopicSet.{names}
 use Rattle.mcast_txn.specs.Transaction.{TopicPart}
-use Rattle.sub_queue.specs.Shown.{Shown, Room, IsFull}
+use Rattle.sub_queue.specs.Shown.{Shown, Gauge, IsFull}
 use Rattle.mcast_group.specs.declared.fault.ProposeFault.{ProposeFault}
 use Rattle.mcast_group.specs.declared.fault.ProposeFault.TheVariants.{Twice}
 use Rattle.mcast_group.specs.CellGroup.{CellGroupState, CellTurns, ProposalState}
@@ -167,10 +167,10 @@ abbrev pub place_subscribe_fault : ℕ → PlaceState → Option SubFault
 place_subscribe_fault number place =
     if was_used number place.kept then Some SubInUse else subscribe_fault number place.cells.group.topic
 
--- a subscription of this number began, with an outlet of this room
-abbrev pub place_after_subscribe : ℕ → Room → PlaceState → PlaceState
-place_after_subscribe number room place = record place {
-  cells = record place.cells { group = group_after_subscribe number room place.cells.group };
+-- a subscription of this number began, with an outlet of this gauge
+abbrev pub place_after_subscribe : ℕ → Gauge → PlaceState → PlaceState
+place_after_subscribe number gauge place = record place {
+  cells = record place.cells { group = group_after_subscribe number gauge place.cells.group };
   kept = option_map (kept_after_subscribe number place.cells.group.topic.frontier) place.kept;
 }
 

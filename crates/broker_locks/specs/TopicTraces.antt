@@ -58,8 +58,8 @@ topic_rows x = log_rows x.topic x.log ++ flat_map (sub_rows x.topic) x.subs
 
 -- a trace with these rows more
 abbrev pub with_rows : List TraceRow → TraceData → TraceData
-with_rows [] lines = lines
-with_rows (r ∷ rows) lines = with_rows rows (with_row r lines)
+with_rows [] trace = trace
+with_rows (r ∷ rows) trace = with_rows rows (with_row r trace)
 
 -- the trace of these topics
 abbrev pub topics_trace : List TopicTrace → TraceData

@@ -58,7 +58,7 @@ impl Model for KeptRows {
 
 impl KeptRows {
     ghost use Rattle.broker_locks.specs.Inner.KeptRows.{span_after_end, span_number, span_row, spans_rows, trace_kept};
-    ghost use Rattle.broker_locks.specs.KeptTrace.{insert_by_number};
+    ghost use Rattle.mcast_txn.specs.Lists.{insert_by_number};
 
     /// Nothing yet, which takes no memory.
     pub(crate) fn new(alloc: Global) -> KeptRows
@@ -112,7 +112,7 @@ impl KeptRows {
         ensures allowed { OnOk result (subscribe_fault number group.old.group.topic ≡ None) }
         ensures group { OnOk result (group.new
             ≡ record group.old {
-              group = group_after_subscribe number (shown_of_source source).room group.old.group;
+              group = group_after_subscribe number (shown_of_source source).gauge group.old.group;
             }) }
         ensures spans { OnOk result (self.new ≡ record self.old {
           spans = insert_by_number span_number

@@ -182,7 +182,7 @@ impl<R: Wait, T: Side> LockedTopic<R, T> {
         ensures from { IfOk result (λ begun. begun.1 ≡ self.old.place.cells.group.topic.frontier) }
         ensures ok { IfOk result
             (λ begun. self.new.place
-            ≡ place_after_subscribe begun.0 (shown_of_source source).room self.old.place) }
+            ≡ place_after_subscribe begun.0 (shown_of_source source).gauge self.old.place) }
         ensures next { IfOk result
             (λ _. IfSome self.new.next (λ next. (k : ℕ) × (self.old.next ≡ Some k) × (next ≡ k + 1))) }
         ensures err { OnErr result ((self.new.place ≡ self.old.place) × (self.new.next ≡ self.old.next)) }

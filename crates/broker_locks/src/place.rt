@@ -265,7 +265,7 @@ impl<R: Wait> Place<R> {
         ensures from { IfOk result (λ from. from ≡ self.old.cells.group.topic.frontier) }
         ensures allowed { OnOk result (place_subscribe_fault number self.old ≡ None) }
         ensures ok { OnOk result
-            (self.new ≡ place_after_subscribe number (shown_of_source source).room self.old) }
+            (self.new ≡ place_after_subscribe number (shown_of_source source).gauge self.old) }
         ensures fault { IfErr result (λ e. e.0 ≡ sub_refusal (place_subscribe_fault number self.old)) }
         ensures back { IfErr result (λ e. shown_of_source e.1 ≡ shown_of_source source) }
         ensures err { OnErr result (self.new ≡ self.old) }

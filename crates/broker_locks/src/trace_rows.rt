@@ -18,7 +18,7 @@ use trace_audit::{AddFault, LogRow, QueueRow, SpanRow, Trace, TraceRow};
 
 /// A row of a topic's log as a row of a trace, with a copy of its topics.
 fn log_row(alloc: Global, topic: Topic, row: &Row) -> Result<LogRow, NoMemory>
-    ensures { IfOk result (λ line. line ≡ record { topic = topic; row = row.now }) }
+    ensures { IfOk result (λ logged. logged ≡ record { topic = topic; row = row.now }) }
 {
     Ok(LogRow {
         topic,
@@ -39,10 +39,10 @@ fn add_log_row(alloc: Global, trace: &mut Trace, topic: Topic, row: &Row) -> Res
     if !names(topic, row.topics.as_slice()) {
         return Err(AddFault::Misfit);
     }
-    let Ok(line) = log_row(alloc, topic, row) else {
+    let Ok(logged) = log_row(alloc, topic, row) else {
         return Err(AddFault::NoMemory);
     };
-    trace.add(TraceRow::Log(line))
+    trace.add(TraceRow::Log(logged))
 }
 
 /// Adds the rows of a section of a topic's log, in their order.

@@ -7,9 +7,4 @@ use Rattle.trace_audit.specs.declared.fault.AuditFault.TheVariants as audit
 -- each but one says another thing than that memory ran out
 pub says_other : (fault : AuditFault) → fault ≢ audit.NoMemory → says_no_memory fault ≡ false
 says_other audit.NoMemory other = absurd (other refl)
-says_other audit.TwoVerdicts other = refl
-says_other audit.SameStamp other = refl
-says_other audit.LogOrder other = refl
-says_other audit.SenderOrder other = refl
-says_other (audit.Hole t) other = refl
-says_other (audit.QueueRow sub) other = refl
+says_other _ other = refl

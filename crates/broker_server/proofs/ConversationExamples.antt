@@ -5,7 +5,7 @@ use Rattle.sender_gate.specs.Gate.{FlightState, GateState, gate_after}
 use Rattle.broker_server.specs.declared.conversation.conversation_fault.ConversationFault.{ConversationFault}
 use Rattle.broker_server.specs.declared.conversation.drained.Taking.TheVariants.{Emptied, Stopped, Failed}
 use Rattle.broker_server.specs.BrokerRows.{AsksLag, GivesBack, IsGateAfter, SubName, Takes, Unsubscribes}
-use Rattle.broker_server.specs.Conversations.{ConversationState, EndsSub, OpenSubState, begun_sub, closing_rows, gate_rows, turn_without}
+use Rattle.broker_server.specs.Conversations.{ConversationState, EndsSub, OpenSubState, begun_sub, closing_rows, gate_rows, next_without}
 use Rattle.broker_server.specs.Delivering.{Drains, DrainsAll, DrainsQueues, IsLag, begins_at, full_wire}
 use Rattle.broker_server.specs.Judging.{Grows}
 
@@ -30,7 +30,7 @@ pub a_third_name : Grows (codes "A" ∷ codes "B" ∷ []) (codes "A" ∷ codes "
 a_third_name = (codes "C" ∷ [], refl)
 
 -- UNSUBSCRIBE b ends the second of two
-pub second_ends : (s : ConversationState) → s.subs ≡ a ∷ b ∷ [] → EndsSub (codes "b") s (Unsubscribes (named 1) ∷ []) (Ok tt) (record s { subs = a ∷ []; turn = turn_without 1 s.turn })
+pub second_ends : (s : ConversationState) → s.subs ≡ a ∷ b ∷ [] → EndsSub (codes "b") s (Unsubscribes (named 1) ∷ []) (Ok tt) (record s { subs = a ∷ []; next = next_without 1 s.next })
 second_ends s two = (refl, inl (a ∷ [], [], b, two, refl, refl, refl, refl))
 
 -- what a connection with two subscriptions and a gate asks as it leaves
@@ -60,18 +60,18 @@ second_first =
     (Takes (named 0) None ∷ [], [], refl, Emptied, a, [], [], empty_queue 0 (codes "a"), refl, (refl, refl, refl, refl, refl)) in
     (a ∷ [], b ∷ c ∷ [], refl, refl, Takes (named 1) None ∷ Takes (named 2) None ∷ [], Takes (named 0) None ∷ [], refl, Emptied, b ∷ c ∷ [], a ∷ [], [], 0, 0, back, refl, (front, refl))
 
--- where the second of three isn't emptied, since 65,536 octets wait, it is the third's turn next
+-- where the second of three isn't emptied, since 65,536 octets wait, the third is next
 pub third_next : (wire : List ℕ) → full_wire ≤ length wire → DrainsQueues 2 1 [] (a ∷ b ∷ c ∷ []) wire Stopped (a ∷ b ∷ c ∷ []) wire 2
 third_next wire full =
     let back : DrainsAll 2 [] (b ∷ c ∷ []) wire Stopped (b ∷ c ∷ []) wire 1 =
     ([], [], refl, Stopped, b, c ∷ [], wire, (inl full, refl, refl, refl), refl, (refl, refl, refl, refl, refl)) in
     (a ∷ [], b ∷ c ∷ [], refl, refl, [], [], refl, Stopped, b ∷ c ∷ [], a ∷ [], wire, 1, 0, back, refl, (refl, refl, refl, refl, refl))
 
--- of a, b and c, where it is c's turn, it is c's when a has gone
-pub turn_moves : turn_without 0 2 ≡ 1
-turn_moves = refl
+-- of a, b and c, where c is next, it is still next when a has gone
+pub next_moves : next_without 0 2 ≡ 1
+next_moves = refl
 
--- where it is the turn of none of them, it begins at the first
+-- where none of them is next, it begins at the first
 pub begins_anew : begins_at 3 3 ≡ 0
 begins_anew = refl
 

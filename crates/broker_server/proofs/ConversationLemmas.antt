@@ -2,15 +2,15 @@
 use Rattle.std.proofs.Common.{◌≡◌, ◌⊎◌, ◌<◌, ℕ, zero, suc, Bool, false, List, [], ◌∷◌, ◌++◌, take, Result, Ok, Err, OnOk, OnErr, refl, subst, inl, inr, arith}
 use Rattle.std.specs.Prelude.{get_or}
 use Rattle.std.specs.List.{list_any}
-use Rattle.broker_server.specs.BrokerRows.{AsksInTurn, BrokerRow}
+use Rattle.broker_server.specs.BrokerRows.{AsksInOrder, BrokerRow}
 
 -- these calls, and then those
-pub asks_on : {B : Type 0} (called : B → BrokerRow → B → Type 0) (a b c : B) (rows more : List BrokerRow) → AsksInTurn called a rows b → AsksInTurn called b more c → AsksInTurn called a (rows ++ more) c
-asks_on called a b c [] more e rest = subst (λ x. AsksInTurn called x more c) e rest
+pub asks_on : {B : Type 0} (called : B → BrokerRow → B → Type 0) (a b c : B) (rows more : List BrokerRow) → AsksInOrder called a rows b → AsksInOrder called b more c → AsksInOrder called a (rows ++ more) c
+asks_on called a b c [] more e rest = subst (λ x. AsksInOrder called x more c) e rest
 asks_on called a b c (row ∷ rows) more (mid, one, some) rest = (mid, one, asks_on called mid b c rows more some rest)
 
 -- one call
-pub asks_one : {B : Type 0} (called : B → BrokerRow → B → Type 0) (a b : B) (row : BrokerRow) → called a row b → AsksInTurn called a (row ∷ []) b
+pub asks_one : {B : Type 0} (called : B → BrokerRow → B → Type 0) (a b : B) (row : BrokerRow) → called a row b → AsksInOrder called a (row ∷ []) b
 asks_one called a b row one = (b, one, refl)
 
 -- what is so where a call went well, or what is so where it failed

@@ -106,16 +106,16 @@ goes_no_further capacity asked more queues done rest o new before wire between o
     so_far more one (new ∷ rest) between (length rest) (more, [], sym (append-nil more), one, new, rest, between, drains, refl, if_stopped one _ _ never (refl, refl, refl, refl, refl))
 
 -- the back ones are emptied, and then the front ones are taken
-pub drains_both : (capacity turn : ℕ) (queues front back : List OpenSubState) → queues ≡ front ++ back → length front ≡ begins_at turn (length queues) → (first rest : List BrokerRow) (wire : List ℕ) (one end : Taking) (changed others : List OpenSubState) (between after : List ℕ) (left unseen next : ℕ) → one ≡ Emptied → DrainsAll capacity first back wire one changed between left → DrainsAll capacity rest front between end others after unseen → next ≡ length front - unseen → DrainsQueues capacity turn (first ++ rest) queues wire end (others ++ changed) after next
-drains_both capacity turn queues front back cut begins first rest wire one end changed others between after left unseen next emptied did then goes =
+pub drains_both : (capacity next : ℕ) (queues front back : List OpenSubState) → queues ≡ front ++ back → length front ≡ begins_at next (length queues) → (first rest : List BrokerRow) (wire : List ℕ) (one end : Taking) (changed others : List OpenSubState) (between after : List ℕ) (left unseen later : ℕ) → one ≡ Emptied → DrainsAll capacity first back wire one changed between left → DrainsAll capacity rest front between end others after unseen → later ≡ length front - unseen → DrainsQueues capacity next (first ++ rest) queues wire end (others ++ changed) after later
+drains_both capacity next queues front back cut begins first rest wire one end changed others between after left unseen later emptied did then goes =
     (front, back, cut, begins, first, rest, refl, one, changed, others, between, left, unseen, did, refl, if_emptied one _ _ emptied (then, goes))
 
 -- the back ones aren't all emptied, and the front ones stay
-pub drains_back : (capacity turn : ℕ) (queues front back : List OpenSubState) → queues ≡ front ++ back → length front ≡ begins_at turn (length queues) → (asked : List BrokerRow) (wire : List ℕ) (end : Taking) (changed : List OpenSubState) (after : List ℕ) (left next : ℕ) → (end ≡ Emptied → ⊥) → DrainsAll capacity asked back wire end changed after left → next ≡ length queues - left → DrainsQueues capacity turn asked queues wire end (front ++ changed) after next
-drains_back capacity turn queues front back cut begins asked wire end changed after left next never did goes =
+pub drains_back : (capacity next : ℕ) (queues front back : List OpenSubState) → queues ≡ front ++ back → length front ≡ begins_at next (length queues) → (asked : List BrokerRow) (wire : List ℕ) (end : Taking) (changed : List OpenSubState) (after : List ℕ) (left later : ℕ) → (end ≡ Emptied → ⊥) → DrainsAll capacity asked back wire end changed after left → later ≡ length queues - left → DrainsQueues capacity next asked queues wire end (front ++ changed) after later
+drains_back capacity next queues front back cut begins asked wire end changed after left later never did goes =
     (front, back, cut, begins, asked, [], sym (append-nil asked), end, changed, front, after, left, zero, did, refl, if_stopped end _ _ never (refl, refl, refl, refl, goes))
 
 -- what is said of the queues as they were lent, said of the connection's own
-pub drains_whole : (held capacity first turn : ℕ) (asked : List BrokerRow) (lent queues : List OpenSubState) (before wire : List ℕ) (end : Taking) (new : List OpenSubState) (after : List ℕ) (next : ℕ) → held ≡ capacity → first ≡ turn → lent ≡ queues → before ≡ wire → DrainsQueues held first asked lent before end new after next → DrainsQueues capacity turn asked queues wire end new after next
-drains_whole held capacity first turn asked lent queues before wire end new after next c t q w drains =
-    subst (λ (n : ℕ). DrainsQueues n turn asked queues wire end new after next) c (subst (λ (n : ℕ). DrainsQueues held n asked queues wire end new after next) t (subst (λ (os : List OpenSubState). DrainsQueues held first asked os wire end new after next) q (subst (λ (s : List ℕ). DrainsQueues held first asked lent s end new after next) w drains)))
+pub drains_whole : (held capacity first next : ℕ) (asked : List BrokerRow) (lent queues : List OpenSubState) (before wire : List ℕ) (end : Taking) (new : List OpenSubState) (after : List ℕ) (later : ℕ) → held ≡ capacity → first ≡ next → lent ≡ queues → before ≡ wire → DrainsQueues held first asked lent before end new after later → DrainsQueues capacity next asked queues wire end new after later
+drains_whole held capacity first next asked lent queues before wire end new after later c t q w drains =
+    subst (λ (n : ℕ). DrainsQueues n next asked queues wire end new after later) c (subst (λ (n : ℕ). DrainsQueues held n asked queues wire end new after later) t (subst (λ (os : List OpenSubState). DrainsQueues held first asked os wire end new after later) q (subst (λ (s : List ℕ). DrainsQueues held first asked lent s end new after later) w drains)))

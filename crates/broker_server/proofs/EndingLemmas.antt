@@ -20,6 +20,7 @@ use Rattle.delivery.specs.Core.Reports.{Report}
 use Rattle.delivery.specs.Nets.{KeptRun, IsDelivered}
 use Rattle.delivery.specs.Traces.{IsTraced}
 use Rattle.delivery.specs.declared.kept.Kept.{Kept}
+use Rattle.delivery.proofs.Traces.Made.{taken_one}
 use Rattle.broker_server.specs.declared.counting.Counting.{Counting}
 use Rattle.broker_server.specs.declared.detail.Detail.{Detail}
 use Rattle.broker_server.specs.declared.detail.Detail.TheVariants as details
@@ -41,7 +42,6 @@ use Rattle.broker_server.specs.Runs.{IsRun, Writes}
 use Rattle.broker_server.specs.Script.{ScriptData, IsScript, IsFirstBadLine, bad_script_text}
 use Rattle.broker_server.specs.ScriptRuns.{HasRun, IsScripted, IsScriptTraced, outcome_lines}
 use Rattle.broker_server.specs.Inner.Steps.{Heard, last_error, last_detail}
-use Rattle.broker_server.proofs.OutcomeLemmas.{take_next}
 
 -- ---- a status in place of an ending
 
@@ -150,7 +150,7 @@ denied old new trace fault (Ok ending) refused other written told = (
 
 pub counted_more : (kept : List Kept) (i : ℕ) (k : Kept) → slice_get kept i ≡ Some k → without_memory (take (i + 1) kept) ≡ without_memory (take i kept) + from_bool (finds_no_memory k.outcome)
 counted_more kept i k at =
-    ap without_memory (take_next kept i k at) ∙ sum_by_push (λ (k : Kept). cond (finds_no_memory k.outcome) 1 0) (take i kept) k ∙ ap (λ (n : ℕ). without_memory (take i kept) + n) (as_number (finds_no_memory k.outcome))
+    ap without_memory (taken_one kept i k at) ∙ sum_by_push (λ (k : Kept). cond (finds_no_memory k.outcome) 1 0) (take i kept) k ∙ ap (λ (n : ℕ). without_memory (take i kept) + n) (as_number (finds_no_memory k.outcome))
   where
     as_number : (b : Bool) → cond b 1 0 ≡ from_bool b
     as_number true = refl

@@ -101,16 +101,7 @@ takes_judged f old asked new none judges =
 -- what is left of a reader that failed
 pub reading_fails : (why : FrameFault) (old left : Unread) → (why ≢ FrameFault.NoMemory → NextReturns old (Err why) left) → (why ≡ FrameFault.NoMemory → (left ≡ old) × (is_any old.text ≡ true)) → ReadingFails why old left
 reading_fails FrameFault.NoMemory old left answer same = same refl
-reading_fails FrameFault.BadCommand old left answer same = answer (λ e. cc)
-reading_fails FrameFault.BadLine old left answer same = answer (λ e. cc)
-reading_fails FrameFault.BadHeader old left answer same = answer (λ e. cc)
-reading_fails FrameFault.BadEscape old left answer same = answer (λ e. cc)
-reading_fails FrameFault.BadText old left answer same = answer (λ e. cc)
-reading_fails FrameFault.BadLength old left answer same = answer (λ e. cc)
-reading_fails FrameFault.BadEnd old left answer same = answer (λ e. cc)
-reading_fails FrameFault.LineTooLong old left answer same = answer (λ e. cc)
-reading_fails FrameFault.TooManyHeaders old left answer same = answer (λ e. cc)
-reading_fails FrameFault.BodyTooLong old left answer same = answer (λ e. cc)
+reading_fails _ old left answer same = answer (λ e. cc)
 
 -- ---- what isn't so
 
@@ -124,15 +115,7 @@ not_asked row e = cc
 
 no_such_fault : (k : Check) → FrameFault.NoMemory ≡ fault_of k → ⊥
 no_such_fault Check.BadCommand e = cc
-no_such_fault Check.BadLine e = cc
-no_such_fault Check.BadHeader e = cc
-no_such_fault Check.BadEscape e = cc
-no_such_fault Check.BadText e = cc
-no_such_fault Check.BadLength e = cc
-no_such_fault Check.BadEnd e = cc
-no_such_fault Check.LineTooLong e = cc
-no_such_fault Check.TooManyHeaders e = cc
-no_such_fault Check.BodyTooLong e = cc
+no_such_fault _ e = cc
 
 -- an endpoint that waits, and is as before, has a reader that found no frame
 waits_still : (old : OpenEndpoint) (reading : Reading) → IsReadBy old.reader reading → JudgesReading [] [] old reading (Ok None) old [] → ReadsNext old.reader (Ok None) old.reader

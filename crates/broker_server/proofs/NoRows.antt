@@ -4,7 +4,7 @@ use Rattle.std.specs.List.{enumerate_from, flat_map}
 use Rattle.mcast_txn.specs.Agreed.{CommitRow, agreed}
 use Rattle.mcast_txn.specs.Lists.{In}
 use Rattle.mcast_txn.proofs.Members.{In-map, In-filter_cases}
-use Rattle.trace_audit.specs.Logs.{LogLine}
+use Rattle.trace_audit.specs.Logs.{TopicRow}
 use Rattle.trace_audit.specs.Trace.{no_trace_data}
 use Rattle.delivery.specs.Core.Answered.{DeliversAnswers}
 use Rattle.delivery.specs.Core.Reports.{QueueReport, Report}
@@ -27,12 +27,12 @@ no_rows account r d commits subscriptions =
     let sent : commits_of account ≡ [] = none_mapped log_row (commits_of account) (sym d.commits ∙ commits) in
     let e = explained account r d in
     let logs : (trace_of r).logs ≡ [] =
-    none_in (trace_of r).logs (λ line k.
-    let there = e.all line.row (In-map (λ (l : LogLine). l.row) line (trace_of r).logs k) in
-    subst (λ (rows : List CommitRow). In line.row (map log_row (agreed rows))) sent (In-filter_cases _ line.row (sequence account) there).stands) in
+    none_in (trace_of r).logs (λ logged k.
+    let there = e.all logged.row (In-map (λ (l : TopicRow). l.row) logged (trace_of r).logs k) in
+    subst (λ (rows : List CommitRow). In logged.row (map log_row (agreed rows))) sent (In-filter_cases _ logged.row (sequence account) there).stands) in
     ap (λ (qs : List QueueReport). record {
       logs = (trace_of r).logs;
       spans = map (λ (p : ℕ × QueueReport). traced_span p.0 p.1) (enumerate_from 0 qs);
       queues = flat_map (λ (p : ℕ × QueueReport). traced_queue p.0 p.1) (enumerate_from 0 qs);
     }) subscriptions
-    ∙ ap (λ (z : List LogLine). record { logs = z; spans = []; queues = [] }) logs
+    ∙ ap (λ (z : List TopicRow). record { logs = z; spans = []; queues = [] }) logs

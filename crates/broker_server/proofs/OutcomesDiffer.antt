@@ -65,65 +65,17 @@ faults =
 
 propose_again : (why : ProposeFault) → titled propose_title proposals (propose_title why) ≡ Some why
 propose_again propose.Twice = refl
-propose_again propose.ClockFull = refl
-propose_again propose.LogFull = refl
-propose_again propose.NoMemory = refl
+propose_again _ = refl
 
 refusal_again : (why : Refusal) → titled refusal_title refusals (refusal_title why) ≡ Some why
 refusal_again refusal.NotPending = refl
-refusal_again refusal.NoSub = refl
-refusal_again refusal.Twice = refl
-refusal_again refusal.Incomplete = refl
-refusal_again refusal.NotLeaving = refl
-refusal_again refusal.NoConn = refl
-refusal_again refusal.Busy = refl
-refusal_again refusal.NoFrame = refl
-refusal_again refusal.NoFlight = refl
-refusal_again refusal.NotNamed = refl
-refusal_again refusal.NotDecided = refl
-refusal_again refusal.NothingDue = refl
-refusal_again refusal.Gone = refl
-refusal_again refusal.Marked = refl
-refusal_again refusal.NotMarked = refl
+refusal_again _ = refl
 
 fault_again : (why : ConnectionFault) → titled connection_title faults (connection_title why) ≡ Some (shown_fault why)
 fault_again (connection.Stream check.BadCommand) = refl
-fault_again (connection.Stream check.BadLine) = refl
-fault_again (connection.Stream check.BadHeader) = refl
-fault_again (connection.Stream check.BadEscape) = refl
-fault_again (connection.Stream check.BadText) = refl
-fault_again (connection.Stream check.BadLength) = refl
-fault_again (connection.Stream check.BadEnd) = refl
-fault_again (connection.Stream check.LineTooLong) = refl
-fault_again (connection.Stream check.TooManyHeaders) = refl
-fault_again (connection.Stream check.BodyTooLong) = refl
-fault_again (connection.Frame case.NotClient) = refl
-fault_again (connection.Frame case.Unsupported) = refl
 fault_again (connection.Frame (case.Missing header.AcceptVersion)) = refl
-fault_again (connection.Frame (case.Missing header.Host)) = refl
-fault_again (connection.Frame (case.Missing header.Destination)) = refl
-fault_again (connection.Frame (case.Missing header.Id)) = refl
-fault_again (connection.Frame (case.Missing header.Transaction)) = refl
-fault_again (connection.Frame case.BodyNotAllowed) = refl
 fault_again (connection.Session session.NotConnected) = refl
-fault_again (connection.Session session.AlreadyConnected) = refl
-fault_again (connection.Session session.NoVersion) = refl
-fault_again (connection.Session session.SubIdInUse) = refl
-fault_again (connection.Session session.NoSuchSub) = refl
-fault_again (connection.Session session.TxnInUse) = refl
-fault_again (connection.Session session.NoSuchTxn) = refl
-fault_again (connection.Session session.AckMode) = refl
-fault_again (connection.Session session.TooManySubs) = refl
-fault_again (connection.Session session.TooManyTxns) = refl
-fault_again (connection.Session session.TooManySends) = refl
-fault_again (connection.Session session.NoMemory) = refl
-fault_again (connection.Session session.Closed) = refl
-fault_again (connection.Session session.TooManyTopics) = refl
-fault_again (connection.Session session.BadDestination) = refl
-fault_again connection.SenderInUse = refl
-fault_again connection.TooManyClients = refl
-fault_again connection.Lagged = refl
-fault_again connection.ReaderNoMemory = refl
+fault_again _ = refl
 
 -- ---- fields
 
@@ -192,25 +144,18 @@ unsubscribed_again s to ls lf =
 -- An outcome's line is read as the outcome that it shows.
 line_again : (o : Outcome) → IsOutcomeInRange o → read_outcome (outcome_text o) ≡ Some (shown_outcome o)
 line_again (outcome.Opened c) r = ap (option_map outcome.Opened) (number_again c r)
-line_again outcome.Fed r = refl
-line_again outcome.Done r = refl
 line_again (outcome.Subscribed s from) r = subscribed_again s from r.0 r.1
 line_again (outcome.Unsubscribed s to) r = unsubscribed_again s to r.0 r.1
 line_again (outcome.Flying id) r = id_again outcome.Flying id r
 line_again (outcome.Proposed n) r = ap (option_map outcome.Proposed) (number_again n r)
 line_again (outcome.Failed why) r = ap (option_map outcome.Failed) (propose_again why)
 line_again (outcome.Decided stamp left) r = ap (option_map (λ (s : Stamp). outcome.Decided s false)) (stamp_again stamp r)
-line_again (outcome.Withdrawn left) r = refl
-line_again outcome.Cancelled r = refl
-line_again outcome.Learnt r = refl
 line_again (outcome.Released id) r = id_again outcome.Released id r
 line_again (outcome.Turned count) r = ap (option_map outcome.Turned) (number_again count r)
 line_again (outcome.Handed count) r = ap (option_map outcome.Handed) (number_again count r)
 line_again (outcome.Faulted why left) r = ap (option_map (λ (w : ConnectionFault). outcome.Faulted w false)) (fault_again why)
-line_again outcome.Leaving r = refl
-line_again (outcome.Gone left) r = refl
 line_again (outcome.Refused why) r = ap (option_map outcome.Refused) (refusal_again why)
-line_again outcome.NoMemory r = refl
+line_again _ r = refl
 
 -- outcomes that have one line are shown as one outcome
 pub outcomes_differ : OutcomesDiffer
@@ -218,29 +163,5 @@ outcomes_differ a b ra rb same = some_is (shown_outcome a) (shown_outcome b) (sy
 
 -- an outcome's line is that of the outcome as it is shown
 pub lines_show : LinesShow
-lines_show (outcome.Opened c) = refl
-lines_show outcome.Fed = refl
-lines_show outcome.Done = refl
-lines_show (outcome.Subscribed s from) = refl
-lines_show (outcome.Unsubscribed s to) = refl
-lines_show (outcome.Flying id) = refl
-lines_show (outcome.Proposed n) = refl
-lines_show (outcome.Failed why) = refl
-lines_show (outcome.Decided stamp left) = refl
-lines_show (outcome.Withdrawn left) = refl
-lines_show outcome.Cancelled = refl
-lines_show outcome.Learnt = refl
-lines_show (outcome.Released id) = refl
-lines_show (outcome.Turned count) = refl
-lines_show (outcome.Handed count) = refl
 lines_show (outcome.Faulted (connection.Stream failed) left) = refl
-lines_show (outcome.Faulted (connection.Frame fault) left) = refl
-lines_show (outcome.Faulted (connection.Session fault) left) = refl
-lines_show (outcome.Faulted connection.SenderInUse left) = refl
-lines_show (outcome.Faulted connection.TooManyClients left) = refl
-lines_show (outcome.Faulted connection.Lagged left) = refl
-lines_show (outcome.Faulted connection.ReaderNoMemory left) = refl
-lines_show outcome.Leaving = refl
-lines_show (outcome.Gone left) = refl
-lines_show (outcome.Refused why) = refl
-lines_show outcome.NoMemory = refl
+lines_show _ = refl

@@ -1,17 +1,17 @@
 -- What the program `trace` writes is read as a trace that is alike, and so is explained.
 use Rattle.std.proofs.Common.{◌≡◌, ◌≢◌, ℕ, ◌+◌, ◌≤◌, ◌==◌, ◌||◌, Bool, true, false, not, inl, inr, List, [], ◌∷◌, ◌++◌, map, length, refl, sym, ap, subst, ◌∙◌, append-nil, append_assoc, arith}
 use Rattle.std.specs.List.{AllByRecursion, enumerate_from, filter, flat_map, list_all}
-use Rattle.std.proofs.lemmas.Bool.{and_parts, eq-eqb, eqb-true, cases_Bool}
+use Rattle.std.proofs.lemmas.Bool.{and_parts, eq-eqb, eqb-true, cases_Bool, or_right}
 use Rattle.mcast_txn.specs.declared.id.Topic.{Topic}
 use Rattle.mcast_txn.specs.Lists.{In}
 use Rattle.mcast_txn.specs.Span.{LogRow, Item, in_span, row_mark}
-use Rattle.mcast_txn.proofs.Members.{In-map, In-map_cases, In-filter, In-filter_cases}
+use Rattle.mcast_txn.proofs.Members.{In-filter, In-filter_cases, all_from}
 use Rattle.trace_audit.specs.declared.row.SpanRow.{SpanRow}
 use Rattle.trace_audit.specs.declared.row.QueueRow.{QueueRow}
 use Rattle.trace_audit.specs.declared.row.TraceRow.{TraceRow}
 use Rattle.trace_audit.specs.declared.row.TraceRow.TheVariants as row
 use Rattle.trace_audit.specs.Explained.{rows_at, IsExplainedBy}
-use Rattle.trace_audit.specs.Logs.{LogLine}
+use Rattle.trace_audit.specs.Logs.{TopicRow}
 use Rattle.trace_audit.specs.Parsing.{lines_of, AddsLines}
 use Rattle.trace_audit.specs.PrintedRows.{rows_in}
 use Rattle.trace_audit.specs.Rereading.{AddsRows, AreAlike}
@@ -23,8 +23,8 @@ use Rattle.delivery.specs.Core.Reports.{QueueReport, Report, report_of}
 use Rattle.delivery.specs.Nets.{KeptRun, core_of_net}
 use Rattle.delivery.specs.Traces.{traced_span, traced_queue, trace_of, IsTraced}
 use Rattle.delivery.proofs.Core.DeliversOfRun.{delivers}
-use Rattle.delivery.proofs.Traces.Lines.{row_in_log}
-use Rattle.delivery.proofs.Traces.OfNets.{row_fits, all_pass}
+use Rattle.delivery.proofs.Traces.TracedRows.{row_in_log, row_of_log}
+use Rattle.delivery.proofs.Traces.OfNets.{row_fits}
 use Rattle.broker_server.specs.Audit.{IsYes, IsAudited}
 use Rattle.broker_server.specs.Input.{input_limit}
 use Rattle.broker_server.specs.ScriptRuns.{IsTracedRun, TracesAuditToYes}
@@ -36,13 +36,13 @@ then_add : (xs ys : List TraceRow) (a b c : TraceData) → AddsRows xs a b → A
 then_add [] ys a b c x y = subst (λ (z : TraceData). AddsRows ys z c) x y
 then_add (r ∷ xs) ys a b c x y = (x.0, then_add xs ys (with_row r a) b c x.1 y)
 
-adds_logs : (ls : List LogLine) (old : TraceData) → list_all (λ (l : LogLine). fits l) ls ≡ true
-    → AddsRows (map (λ (l : LogLine). row.Log l) ls) old (record old { logs = old.logs ++ ls })
-adds_logs [] old f = ap (λ (z : List LogLine). record old { logs = z }) (append-nil old.logs)
+adds_logs : (ls : List TopicRow) (old : TraceData) → list_all (λ (l : TopicRow). fits l) ls ≡ true
+    → AddsRows (map (λ (l : TopicRow). row.Log l) ls) old (record old { logs = old.logs ++ ls })
+adds_logs [] old f = ap (λ (z : List TopicRow). record old { logs = z }) (append-nil old.logs)
 adds_logs (l ∷ ls) old f =
-    let p = and_parts (fits l) (list_all (λ (l : LogLine). fits l) ls) f in (
+    let p = and_parts (fits l) (list_all (λ (l : TopicRow). fits l) ls) f in (
       ap not p.0,
-      subst (λ (z : List LogLine). AddsRows (map (λ (l : LogLine). row.Log l) ls) (with_row (row.Log l) old) (record old { logs = z }))
+      subst (λ (z : List TopicRow). AddsRows (map (λ (l : TopicRow). row.Log l) ls) (with_row (row.Log l) old) (record old { logs = z }))
           (append_assoc old.logs (l ∷ []) ls) (adds_logs ls (with_row (row.Log l) old) p.1),
     )
 
@@ -109,13 +109,9 @@ both_have : (xs ys : List QueueRow) (spans : List SpanRow) → HaveSpans xs span
 both_have [] ys spans h k = k
 both_have (x ∷ xs) ys spans h k = (h.0, both_have xs ys spans h.1 k)
 
-or_true : (a b : Bool) → b ≡ true → (a || b) ≡ true
-or_true true b e = refl
-or_true false b e = e
-
 still_have : (s : SpanRow) (queues : List QueueRow) (spans : List SpanRow) → HaveSpans queues spans → HaveSpans queues (s ∷ spans)
 still_have s [] spans h = tt
-still_have s (q ∷ queues) spans h = (or_true (s.sub == q.sub) (has_span q.sub spans) h.0, still_have s queues spans h.1)
+still_have s (q ∷ queues) spans h = (or_right (s.sub == q.sub) (has_span q.sub spans) h.0, still_have s queues spans h.1)
 
 own_span : (n : ℕ) (items : List Item) (s : SpanRow) (spans : List SpanRow) → s.sub ≡ n
     → HaveSpans (map (λ (i : Item). record { sub = n; id = i.id; stamp = i.stamp }) items) (s ∷ spans)
@@ -129,10 +125,10 @@ have_spans n (q ∷ subs) =
     (own_span n q.queued (traced_span n q) (spans_from (n + 1) subs) refl)
     (still_have (traced_span n q) (queues_from (n + 1) subs) (spans_from (n + 1) subs) (have_spans (n + 1) subs))
 
-report_adds : (r : Report) → list_all (λ (l : LogLine). fits l) (trace_of r).logs ≡ true → AddsRows (rows_in (trace_of r)) no_trace_data (trace_of r)
+report_adds : (r : Report) → list_all (λ (l : TopicRow). fits l) (trace_of r).logs ≡ true → AddsRows (rows_in (trace_of r)) no_trace_data (trace_of r)
 report_adds r f =
     let t = trace_of r in
-    let ls = map (λ (l : LogLine). row.Log l) t.logs in
+    let ls = map (λ (l : TopicRow). row.Log l) t.logs in
     let ss = map (λ (s : SpanRow). row.Span s) t.spans in
     let qs = map (λ (q : QueueRow). row.Queue q) t.queues in
     let logged : TraceData = record { logs = t.logs; spans = []; queues = [] } in
@@ -147,19 +143,13 @@ net_adds : (net : KeptRun) (trace : TraceData) → IsTraced net trace → AddsRo
 net_adds net trace traced =
     let r = report_of (core_of_net net) in
     let d = delivers net.topics net.capacity net.steps traced.is_delivered.answered.is_run in
-    let fit : list_all (λ (l : LogLine). fits l) (trace_of r).logs ≡ true =
-    all_pass (λ (l : LogLine). fits l) (trace_of r).logs (row_fits (account_of net.topics.names net.steps) r d) in
+    let fit : list_all (λ (l : TopicRow). fits l) (trace_of r).logs ≡ true =
+    all_from (λ (l : TopicRow). fits l) (trace_of r).logs (row_fits (account_of net.topics.names net.steps) r d) in
     subst (λ (z : TraceData). AddsRows (rows_in z) no_trace_data z) (sym traced.is_trace) (report_adds r fit)
 
 -- ---- what is alike has the same explanation
 
-row_of_log : (t : Topic) (logs : List LogLine) (r : LogRow) → In r (log_of t logs) → In r (rows_of logs)
-row_of_log t logs r k =
-    let m = In-map_cases (λ (l : LogLine). l.row) r (filter (λ (l : LogLine). l.topic.0 == t.0) logs) k in
-    let f = In-filter_cases (λ (l : LogLine). l.topic.0 == t.0) m.from logs m.stands in
-    subst (λ (z : LogRow). In z (rows_of logs)) m.is (In-map (λ (l : LogLine). l.row) m.from logs f.stands)
-
-logged_again : (a b : List LogLine) (r : LogRow) → ((t : Topic) → log_of t a ≡ log_of t b) → In r (rows_of a) → In r (rows_of b)
+logged_again : (a b : List TopicRow) (r : LogRow) → ((t : Topic) → log_of t a ≡ log_of t b) → In r (rows_of a) → In r (rows_of b)
 logged_again a b r same k = let at = row_in_log a r k in row_of_log at.0 b r (subst (λ (z : List LogRow). In r z) (same at.0) at.1)
 
 alike_is_explained : (a b : TraceData) (rows : List LogRow) → AreAlike a b → IsExplainedBy rows a → IsExplainedBy rows b

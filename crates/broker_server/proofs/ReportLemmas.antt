@@ -6,6 +6,7 @@ use Rattle.std.proofs.lemmas.List.{take_more, take_all, flat_map_more, length-ta
 use Rattle.std.proofs.lemmas.Option.{slice_get_within, slice_get_cases, get_or_from_slice_get}
 use Rattle.mcast_txn.specs.Span.{Item}
 use Rattle.delivery.specs.Core.Reports.{QueueReport}
+use Rattle.delivery.proofs.Traces.Made.{number_last}
 use Rattle.broker_server.specs.EscapedText.{escaped_text}
 use Rattle.broker_server.specs.ReportText.{out_rest, span_line, subscription_lines}
 use Rattle.broker_server.specs.Inner.Lines.{item_line}
@@ -29,13 +30,6 @@ none_more {X} xs i none = elim (slice_get_cases xs i).1 [
 pub lines_end : {X : Type 0} (f : X → List ℕ) (xs : List X) (i : ℕ) → None ≡ slice_get xs i → flat_map f (take (i + 1) xs) ≡ flat_map f (take i xs)
 lines_end {X} f xs i none = ap (flat_map f) (none_more xs i (sym none))
 
--- those with a number, from the first on
-numbers_more : {X : Type 0} (n : ℕ) (xs : List X) (x : X) → enumerate_from n (xs ++ x ∷ []) ≡ enumerate_from n xs ++ (n + length xs, x) ∷ []
-numbers_more {X} n [] x = let e : n ≡ n + 0 = omega arith in ap (λ (k : ℕ). (k, x) ∷ []) e
-numbers_more {X} n (y ∷ xs) x =
-    let e : n + 1 + length xs ≡ n + length (y ∷ xs) = omega arith in
-    ap (λ (z : List (ℕ × X)). (n, y) ∷ z) (numbers_more (n + 1) xs x ∙ ap (λ (k : ℕ). enumerate_from (n + 1) xs ++ (k, x) ∷ []) e)
-
 -- the same of lines that begin with a number
 pub numbered_more : {X : Type 0} (f : ℕ × X → List ℕ) (xs : List X) (i : ℕ) (x : X) → Some x ≡ slice_get xs i
     → flat_map f (enumerate_from 0 (take (i + 1) xs)) ≡ flat_map f (enumerate_from 0 (take i xs)) ++ f (i, x)
@@ -43,7 +37,7 @@ numbered_more {X} f xs i x is =
     let within = slice_get_within xs i x (sym is) in
     let long : 0 + length (take i xs) ≡ i = omega (arith, length-take-le i xs (omega arith)) in
     ap (λ (z : List X). flat_map f (enumerate_from 0 z)) (one_more xs i x is)
-    ∙ ap (flat_map f) (numbers_more 0 (take i xs) x ∙ ap (λ (k : ℕ). enumerate_from 0 (take i xs) ++ (k, x) ∷ []) long)
+    ∙ ap (flat_map f) (number_last 0 (take i xs) x ∙ ap (λ (k : ℕ). enumerate_from 0 (take i xs) ++ (k, x) ∷ []) long)
     ∙ sym (flat_map_more f [] (enumerate_from 0 (take i xs)) (i, x))
 
 -- the same where there are no more

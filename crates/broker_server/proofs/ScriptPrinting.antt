@@ -94,19 +94,8 @@ some_text [] some h = some refl
 some_text (b ∷ octets) some h = some_octet b (escaped_text octets) h
 
 line_spells : (e : Event) → IsSpellable e → SpellsEvent (event_line e (text_of_event e)) e
-line_spells event.Open p = ([], tt, p, refl)
 line_spells (event.Piece c octets) p = (escaped_text octets, (some_text octets p.1, escaped_spells octets p.2), p.0, refl)
-line_spells (event.Next c) p = ([], tt, p, refl)
-line_spells (event.Propose c t) p = ([], tt, p, refl)
-line_spells (event.Decide c) p = ([], tt, p, refl)
-line_spells (event.Withdraw c) p = ([], tt, p, refl)
-line_spells (event.Cancel c t) p = ([], tt, p, refl)
-line_spells (event.Learn t id) p = ([], tt, p, refl)
-line_spells (event.Release t) p = ([], tt, p, refl)
-line_spells (event.Turn t) p = ([], tt, p, refl)
-line_spells (event.Take s) p = ([], tt, p, refl)
-line_spells (event.Leave c) p = ([], tt, p, refl)
-line_spells (event.Lost c) p = ([], tt, p, refl)
+line_spells _ p = ([], tt, p, refl)
 
 -- ---- whole texts
 

@@ -3,9 +3,9 @@ use Rattle.std.proofs.Common.{◌≡◌, ℕ, ◌⊎◌, true, List, [], ◌∷�
 use Rattle.std.specs.Prelude.{IfOk, IfErr}
 use Rattle.std.proofs.lemmas.Bool.{cases_Bool}
 use Rattle.trace_audit.specs.Parsing.{lines_of}
-use Rattle.trace_audit.specs.Inner.InTurn.{AddsInTurn}
+use Rattle.trace_audit.specs.Inner.InOrder.{AddsInOrder}
 use Rattle.trace_audit.proofs.Cuts.{some_is}
-use Rattle.trace_audit.proofs.InTurn.{in_turn, in_turn_again, first_refused, first_refused_again}
+use Rattle.trace_audit.proofs.InOrder.{adds_in_order, adds_in_order_again, first_refused, first_refused_again}
 use Rattle.trace_audit.proofs.Spelling.{bound, passed}
 use Rattle.broker_server.specs.Script.{ScriptLine, SpellsLine, ScriptData, no_script, is_in_place, with_line, AddsScript, IsScript, IsMisplaced, IsFirstBadLine, IsScriptFault, GivesScript}
 use Rattle.broker_server.specs.Inner.ScriptReading.{line_read, after_content, after_line, script_from, ReadsScript}
@@ -42,23 +42,23 @@ bad_again line old bad = go (after_line line old) refl
 
 -- ---- whole texts
 
--- lines that are added in turn say what may stand there, and in order they lead to the same script
-lines_add : (lines : List (List ℕ)) (old new : ScriptData) → AddsInTurn after_line lines old new → AddsScript lines old new
+-- lines that are added in order say what may stand there, and in order they lead to the same script
+lines_add : (lines : List (List ℕ)) (old new : ScriptData) → AddsInOrder after_line lines old new → AddsScript lines old new
 lines_add [] old new a = a
 lines_add (line ∷ lines) old new a =
     let s = line_adds line old a.0 a.1 in
     (s.0, s.1, s.2, subst (λ (z : ScriptData). AddsScript lines z new) (sym s.3) (lines_add lines a.0 new a.2))
 
--- lines that say what may stand there are added in turn
-lines_again : (lines : List (List ℕ)) (old new : ScriptData) → AddsScript lines old new → AddsInTurn after_line lines old new
+-- lines that say what may stand there are added in order
+lines_again : (lines : List (List ℕ)) (old new : ScriptData) → AddsScript lines old new → AddsInOrder after_line lines old new
 lines_again [] old new a = a
 lines_again (line ∷ lines) old new a = (with_line a.0 old, line_added line a.0 old a.1 a.2, lines_again lines (with_line a.0 old) new a.3)
 
 reads_adds : (n : ℕ) (lines : List (List ℕ)) (old new : ScriptData) → script_from n lines old ≡ Ok new → AddsScript lines old new
-reads_adds n lines old new e = lines_add lines old new (in_turn after_line n lines old new e)
+reads_adds n lines old new e = lines_add lines old new (adds_in_order after_line n lines old new e)
 
 adds_reads : (n : ℕ) (lines : List (List ℕ)) (old new : ScriptData) → AddsScript lines old new → script_from n lines old ≡ Ok new
-adds_reads n lines old new a = in_turn_again after_line n lines old new (lines_again lines old new a)
+adds_reads n lines old new a = adds_in_order_again after_line n lines old new (lines_again lines old new a)
 
 -- where reading fails with a number, it is that of the first line that can't be added
 first_bad : (text : List ℕ) (m : ℕ) → script_from 1 (lines_of text) no_script ≡ Err m → IsFirstBadLine text m

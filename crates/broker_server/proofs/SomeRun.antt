@@ -3,7 +3,7 @@ use borrow.Author.Tests.{ltb-true}
 use Rattle.std.proofs.Common.{◌≡◌, ℕ, arith, Bool, true, false, not, nat_lt, List, [], ◌∷◌, ◌++◌, Option, Some, None, inl, inr, refl, sym, ap, subst, ◌∙◌, map, set, reverse}
 use Rattle.std.proofs.lemmas.List.{map-append, reverse-append, reverse-reverse}
 use Rattle.std.proofs.lemmas.Simd.{map-map}
-use Rattle.std.specs.Option.{option_or, option_map, option_to_list, is_some}
+use Rattle.std.specs.Option.{option_or, option_to_list, is_some}
 use Rattle.mcast_txn.specs.Checks.{first_refusal}
 use Rattle.mcast_txn.specs.Lists.{In}
 use Rattle.mcast_txn.proofs.Members.{In-append_left}
@@ -17,11 +17,14 @@ use Rattle.delivery.specs.declared.refusal.Refusal.{Refusal}
 use Rattle.delivery.specs.Topics.{TopicList}
 use Rattle.delivery.specs.Machine.World.{World, topic_at}
 use Rattle.delivery.specs.Machine.Objections.{Objection, refusal_of}
-use Rattle.delivery.specs.Machine.Moves.{Move, Answer, needs_open, needs_idle, is_topic, objections, topic_objection, move_refusal, move_effect, move_answer, world_after, release_answer, queue_has_room, verdict_in}
+use Rattle.delivery.specs.Machine.Moves.{Move, Answer, needs_open, needs_idle, is_topic, move_refusals, topic_objection, move_refusal, move_answer, world_after, release_answer, queue_has_room, verdict_in}
 use Rattle.delivery.specs.Core.Steps.{CoreStep, Reading, kept_of}
 use Rattle.delivery.specs.Core.State.{Core, IsReadBy, unread_at, core_after, core_of, new_core, log_limit}
 use Rattle.delivery.specs.Core.Reports.{report_of}
 use Rattle.delivery.specs.Core.Outcomes.{IsCoreRun, MayStep, outcome_of, move_outcome, unless, reply_outcomes, reading_outcomes}
+use Rattle.delivery.proofs.Machine.Effects.{made_world, same_world}
+use Rattle.delivery.proofs.Views.Events.OneMove.{in_one}
+use Rattle.delivery.proofs.Views.Events.ConnectionIsThere.{refused_outcome}
 
 -- topics, and nobody there
 abbrev bare : ℕ → List TopicState → World
@@ -69,34 +72,20 @@ first_of : {F : Type 0} (b : Bool) (why : F) (rest : List (Bool × F)) → b ≡
 first_of true why rest e = refl
 first_of false why rest e = absurd (let x = e in cc)
 
-first_is : {F : Type 0} (tests : List (Bool × F)) (b : Bool) (why : F) (rest : List (Bool × F)) → tests ≡ (b, why) ∷ rest → b ≡ true → first_refusal tests ≡ Some why
-first_is {F} tests b why rest is e = ap (λ (ts : List (Bool × F)). first_refusal ts) is ∙ first_of b why rest e
+first_is : {F : Type 0} (refusals : List (Bool × F)) (b : Bool) (why : F) (rest : List (Bool × F)) → refusals ≡ (b, why) ∷ rest → b ≡ true → first_refusal refusals ≡ Some why
+first_is {F} refusals b why rest is e = ap (λ (cs : List (Bool × F)). first_refusal cs) is ∙ first_of b why rest e
 
 not_first : {F : Type 0} (b : Bool) (why : F) (rest : List (Bool × F)) → b ≡ false → first_refusal ((b, why) ∷ rest) ≡ first_refusal rest
 not_first false why rest e = refl
 not_first true why rest e = absurd (let x = e in cc)
 
-is_refused : (w : World) (m : Move) (why : Objection) → first_refusal (objections w m) ≡ Some why → move_refusal w m ≡ Some why
+is_refused : (w : World) (m : Move) (why : Objection) → first_refusal (move_refusals w m) ≡ Some why → move_refusal w m ≡ Some why
 is_refused w m why e = ap (λ (o : Option Objection). option_or o (topic_objection w m)) e
-
-stays : (w : World) (m : Move) (why : Objection) → move_refusal w m ≡ Some why → world_after w m ≡ w
-stays w m why n = ap (λ (o : Option Objection). elim o [ None ↦ move_effect w m | Some x ↦ w ]) n
-
-goes_on : (w : World) (m : Move) → move_refusal w m ≡ None → world_after w m ≡ move_effect w m
-goes_on w m n = ap (λ (o : Option Objection). elim o [ None ↦ move_effect w m | Some x ↦ w ]) n
-
-refused_outcome : (k : Core) (m : Move) (why : Objection) (r : Refusal) → move_refusal k.world m ≡ Some why → refusal_of why ≡ Some r → move_outcome k m ≡ Outcome.Refused r ∷ []
-refused_outcome k m why r n p =
-    ap (λ (o : Option Objection). option_to_list (outcome_of (elim o [ None ↦ move_answer k.world m | Some x ↦ Answer.Refused x ]))) n
-    ∙ ap (λ (o : Option Refusal). option_to_list (option_map Outcome.Refused o)) p
 
 given_outcome : (k : Core) (m : Move) (o : Outcome) → move_refusal k.world m ≡ None → outcome_of (move_answer k.world m) ≡ Some o → move_outcome k m ≡ o ∷ []
 given_outcome k m out n p =
     ap (λ (o : Option Objection). option_to_list (outcome_of (elim o [ None ↦ move_answer k.world m | Some x ↦ Answer.Refused x ]))) n
     ∙ ap option_to_list p
-
-alone : (o : Outcome) (os : List Outcome) → os ≡ o ∷ [] → In o os
-alone o os e = subst (In o) (sym e) (inl refl)
 
 -- ---- each event
 
@@ -110,16 +99,16 @@ refused_by names capacity topics steps e m why r n p may leads = record {
   outcome = Outcome.Refused r;
   may = may (refused_outcome (lonely names capacity topics steps) m why r n p);
   left = topics;
-  leads = leads (stays (bare capacity topics) m why n);
+  leads = leads (same_world (bare capacity topics) m why n);
 }
 
 -- the core with another world
 with_world : (names : List (List ℕ)) (steps : List CoreStep) (w v : World) → w ≡ v → ◌≡◌ {A = Core} (record { names = names; world = w; steps = steps }) (record { names = names; world = v; steps = steps })
 with_world names steps w v e = ap (λ (z : World). record { names = names; world = z; steps = steps }) e
 
-nobody_there : (w : World) (m : Move) (c : ℕ) (rest : List (Bool × Objection)) → objections w m ≡ (not (nat_lt c 0), Objection.NoConn) ∷ rest → move_refusal w m ≡ Some Objection.NoConn
+nobody_there : (w : World) (m : Move) (c : ℕ) (rest : List (Bool × Objection)) → move_refusals w m ≡ (not (nat_lt c 0), Objection.NoConn) ∷ rest → move_refusal w m ≡ Some Objection.NoConn
 nobody_there w m c rest e =
-    is_refused w m Objection.NoConn (ap (λ (tests : List (Bool × Objection)). first_refusal tests) e ∙ first_of (not (nat_lt c 0)) Objection.NoConn rest (below_none c))
+    is_refused w m Objection.NoConn (ap (λ (refusals : List (Bool × Objection)). first_refusal refusals) e ∙ first_of (not (nat_lt c 0)) Objection.NoConn rest (below_none c))
 
 goes : (names : List (List ℕ)) (capacity : ℕ) (topics : List TopicState) (steps : List CoreStep) (e : Event) → Goes names capacity topics steps e
 goes names capacity topics steps Event.Open = record {
@@ -155,7 +144,7 @@ goes names capacity topics steps (Event.Next c) =
 goes names capacity topics steps (Event.Propose c t) =
     refused_by names capacity topics steps _ (Move.Proposes c t true) Objection.NoConn Refusal.NoConn
     (nobody_there (bare capacity topics) (Move.Proposes c t true) c _ refl) refl
-    (λ is. record { reading = refl; outcome = In-append_left _ _ _ (alone _ _ is) })
+    (λ is. record { reading = refl; outcome = In-append_left _ _ _ (in_one _ _ is) })
     (λ same. with_world names _ _ _ same)
 goes names capacity topics steps (Event.Decide c) =
     refused_by names capacity topics steps _ (Move.Decides c) Objection.NoConn Refusal.NoConn
@@ -170,7 +159,7 @@ goes names capacity topics steps (Event.Withdraw c) =
 goes names capacity topics steps (Event.Cancel c t) =
     refused_by names capacity topics steps _ (Move.Cancels c t) Objection.NoConn Refusal.NoConn
     (nobody_there (bare capacity topics) (Move.Cancels c t) c _ refl) refl
-    (λ is. record { reading = refl; outcome = alone _ _ is })
+    (λ is. record { reading = refl; outcome = in_one _ _ is })
     (λ same. with_world names _ _ _ same)
 goes names capacity topics steps (Event.Leave c) =
     refused_by names capacity topics steps _ (Move.Leaves c) Objection.NoConn Refusal.NoConn
@@ -180,12 +169,12 @@ goes names capacity topics steps (Event.Leave c) =
 goes names capacity topics steps (Event.Lost c) =
     refused_by names capacity topics steps _ (Move.Lost c) Objection.NoConn Refusal.NoConn
     (nobody_there (bare capacity topics) (Move.Lost c) c _ refl) refl
-    (λ is. record { reading = refl; outcome = alone _ _ is })
+    (λ is. record { reading = refl; outcome = in_one _ _ is })
     (λ same. with_world names _ _ _ same)
 goes names capacity topics steps (Event.Take s) =
     let w = bare capacity topics in
     let m = Move.Takes s in
-    let n : move_refusal w m ≡ Some Objection.NoSub = is_refused w m Objection.NoSub (first_is (objections w m) (not (nat_lt s 0)) Objection.NoSub _ refl (below_none s)) in
+    let n : move_refusal w m ≡ Some Objection.NoSub = is_refused w m Objection.NoSub (first_is (move_refusals w m) (not (nat_lt s 0)) Objection.NoSub _ refl (below_none s)) in
     refused_by names capacity topics steps _ m Objection.NoSub Refusal.NoSub n refl
     (λ is. record { reading = refl; outcome = subst (λ (o : Option Objection). In (Outcome.Refused Refusal.NoSub) (unless o (move_outcome (lonely names capacity topics steps) m ++ Outcome.NoMemory ∷ []))) (sym n) (inl refl) })
     (λ same. with_world names _ _ _ same)
@@ -201,12 +190,12 @@ goes names capacity topics steps (Event.Learn t id) = go (is_topic (bare capacit
     go false e =
         refused_by names capacity topics steps _ m Objection.NotNamed Refusal.NotNamed
         (is_refused w m Objection.NotNamed (first_of (not (is_topic w t)) Objection.NotNamed [] (ap not e))) refl
-        (λ is. record { reading = refl; outcome = alone _ _ is })
+        (λ is. record { reading = refl; outcome = in_one _ _ is })
         (λ same. with_world names _ _ _ same)
     go true e =
         refused_by names capacity topics steps _ m Objection.NotDecided Refusal.NotDecided
         (ap (λ (o : Option Objection). option_or o (topic_objection w m)) (not_first (not (is_topic w t)) Objection.NotNamed [] (ap not e))) refl
-        (λ is. record { reading = refl; outcome = alone _ _ is })
+        (λ is. record { reading = refl; outcome = in_one _ _ is })
         (λ same. with_world names _ _ _ same)
 goes names capacity topics steps (Event.Release t) = go (is_topic (bare capacity topics) t) (due_part (topic_at (bare capacity topics) t)) refl refl
   where
@@ -223,7 +212,7 @@ goes names capacity topics steps (Event.Release t) = go (is_topic (bare capacity
     go false due e d =
         refused_by names capacity topics steps _ m Objection.NotNamed Refusal.NotNamed
         (is_refused w m Objection.NotNamed (first_of (not (is_topic w t)) Objection.NotNamed ((not (is_some (due_part (topic_at w t))), Objection.NothingDue) ∷ []) (ap not e))) refl
-        (λ is. record { reading = refl; outcome = alone _ _ is })
+        (λ is. record { reading = refl; outcome = in_one _ _ is })
         (λ same. with_world names _ _ _ same)
     go true None e d =
         refused_by names capacity topics steps _ m Objection.NothingDue Refusal.NothingDue
@@ -231,7 +220,7 @@ goes names capacity topics steps (Event.Release t) = go (is_topic (bare capacity
         not_first (not (is_topic w t)) Objection.NotNamed ((not (is_some (due_part (topic_at w t))), Objection.NothingDue) ∷ []) (ap not e)
         ∙ first_of (not (is_some (due_part (topic_at w t)))) Objection.NothingDue [] (ap (λ (o : Option Pending). not (is_some o)) d)
         )) refl
-        (λ is. record { reading = refl; outcome = alone _ _ is })
+        (λ is. record { reading = refl; outcome = in_one _ _ is })
         (λ same. with_world names _ _ _ same)
     go true (Some p) e d =
         let n : move_refusal w m ≡ None =
@@ -243,10 +232,10 @@ goes names capacity topics steps (Event.Release t) = go (is_topic (bare capacity
           outcome = Outcome.Released p.part.id;
           may = record {
             reading = refl;
-            outcome = alone _ _ (given_outcome k m (Outcome.Released p.part.id) n (ap (λ (o : Option Pending). outcome_of (release_answer t o)) d));
+            outcome = in_one _ _ (given_outcome k m (Outcome.Released p.part.id) n (ap (λ (o : Option Pending). outcome_of (release_answer t o)) d));
           };
           left = set topics t.0 (after_release (queue_has_room w) (topic_at w t));
-          leads = with_world names _ _ _ (goes_on w m n);
+          leads = with_world names _ _ _ (made_world w m n);
         }
 goes names capacity topics steps (Event.Turn t) = go (is_topic (bare capacity topics) t) refl
   where
@@ -263,16 +252,16 @@ goes names capacity topics steps (Event.Turn t) = go (is_topic (bare capacity to
     go false e =
         refused_by names capacity topics steps _ m Objection.NotNamed Refusal.NotNamed
         (is_refused w m Objection.NotNamed (first_of (not (is_topic w t)) Objection.NotNamed [] (ap not e))) refl
-        (λ is. record { reading = refl; outcome = alone _ _ is })
+        (λ is. record { reading = refl; outcome = in_one _ _ is })
         (λ same. with_world names _ _ _ same)
     go true e =
         let n : move_refusal w m ≡ None =
         ap (λ (o : Option Objection). option_or o (topic_objection w m)) (not_first (not (is_topic w t)) Objection.NotNamed [] (ap not e)) in
         record {
           outcome = Outcome.Turned (turn_count (queue_has_room w) (verdict_in w) (topic_at w t));
-          may = record { reading = refl; outcome = alone _ _ (given_outcome k m (Outcome.Turned (turn_count (queue_has_room w) (verdict_in w) (topic_at w t))) n refl) };
+          may = record { reading = refl; outcome = in_one _ _ (given_outcome k m (Outcome.Turned (turn_count (queue_has_room w) (verdict_in w) (topic_at w t))) n refl) };
           left = set topics t.0 (after_turn (queue_has_room w) (verdict_in w) (topic_at w t));
-          leads = with_world names _ _ _ (goes_on w m n);
+          leads = with_world names _ _ _ (made_world w m n);
         }
 
 -- ---- all events

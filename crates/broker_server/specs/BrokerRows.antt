@@ -40,7 +40,7 @@ IsGateAfter flight gate = (floor : Stamp) × (gate ≡ gate_after flight floor)
 
 -- These calls, in order, made the new broker of the old one; `called` is what one call makes of it. So by no
 -- call it stays as it is.
-abbrev pub AsksInTurn : {B : Type 0} → (B → BrokerRow → B → Type 0) → B → List BrokerRow → B → Type 0
-AsksInTurn called old [] new = new ≡ old
-AsksInTurn {B} called old (row ∷ rows) new =
-    (between : B) × called old row between × AsksInTurn called between rows new
+abbrev pub AsksInOrder : {B : Type 0} → (B → BrokerRow → B → Type 0) → B → List BrokerRow → B → Type 0
+AsksInOrder called old [] new = new ≡ old
+AsksInOrder {B} called old (row ∷ rows) new =
+    (between : B) × called old row between × AsksInOrder called between rows new

@@ -37,8 +37,8 @@ pub record OpenSubState : Type 0 where
 -- a connection: what came and isn't read yet, its session, the names of the topics that it knows, its
 -- sender's gate, its open subscriptions, the octets that wait to be written to it, why it leaves, once it
 -- does, whether a reply was left out since there was no memory for it, whether items may be left in its
--- queues since too many octets waited, how many items each of them holds, and the place of the one whose turn
--- it is
+-- queues since too many octets waited, how many items each of them holds, and the index of the one that
+-- is taken next
 pub record ConversationState : Type 0 where
   pub reader : Unread
   pub session : SessionState
@@ -50,7 +50,7 @@ pub record ConversationState : Type 0 where
   pub cut : Bool
   pub more : Bool
   pub capacity : ℕ
-  pub turn : ℕ
+  pub next : ℕ
 
 -- a connection that has said nothing, of a broker whose queues hold so many items
 pub record IsNew (capacity : ℕ) (c : ConversationState) : Type 0 where
@@ -64,7 +64,7 @@ pub record IsNew (capacity : ℕ) (c : ConversationState) : Type 0 where
   pub cut : c.cut ≡ false
   pub more : c.more ≡ false
   pub capacity_is : c.capacity ≡ capacity
-  pub turn : c.turn ≡ 0
+  pub next : c.next ≡ 0
 
 -- ---- what is written
 
@@ -148,10 +148,10 @@ Begins id topic old asked result new =
 abbrev pub is_of_id : List ℕ → OpenSubState → Bool
 is_of_id id o = bytes_eq o.id id
 
--- Whose turn it is once the subscription at a place has gone: the same one's, or that of the one behind it.
--- So of a, b and c, where it is c's turn, it is c's when a has gone, which is then at place 1.
-abbrev pub turn_without : ℕ → ℕ → ℕ
-turn_without place turn = if nat_lt place turn then turn - 1 else turn
+-- Which index is next once the subscription at an index has gone: that of the same one, or of the one behind
+-- it. So of a, b and c, where c is next, c is still next when a has gone, and then at index 1.
+abbrev pub next_without : ℕ → ℕ → ℕ
+next_without index next = if nat_lt index next then next - 1 else next
 
 -- An UNSUBSCRIBE ends the first open subscription of its id. Where none has it, nothing is asked; the session
 -- refuses such a frame before. So of subscriptions a and b, UNSUBSCRIBE b ends b, and leaves a.
@@ -161,7 +161,7 @@ EndsSub id old asked result new =
     × (((front : List OpenSubState) × (back : List OpenSubState) × (o : OpenSubState)
     × (old.subs ≡ front ++ o ∷ back) × (is_of_id id o ≡ true) × (list_any (is_of_id id) front ≡ false)
     × (asked ≡ Unsubscribes o.sub ∷ [])
-    × (new ≡ record old { subs = front ++ back; turn = turn_without (length front) old.turn }))
+    × (new ≡ record old { subs = front ++ back; next = next_without (length front) old.next }))
     ⊎ ((list_any (is_of_id id) old.subs ≡ false) × (asked ≡ []) × (new ≡ old)))
 
 -- A transaction is begun by the connection's gate, and committed; the gate comes back in each case. Once it

@@ -17,7 +17,7 @@ use Rattle.broker_server.specs.Conversations.{ConversationState, EndsByError, Op
 abbrev pub full_wire : ℕ
 full_wire = 65536
 
--- so many calls are made of one queue before it is another's turn, at most (own); each item writes an octet
+-- so many calls are made of one queue before another is taken, at most (own); each item writes an octet
 -- or more, so the wire is full before
 abbrev pub most_calls : ℕ
 most_calls = 65536
@@ -100,25 +100,25 @@ is_item _ = false
 abbrev pub has_item : List BrokerRow → Bool
 has_item rows = list_any is_item rows
 
--- at which of so many queues it begins: at that whose turn it is, or at the first where none is at its place
+-- at which of so many queues it begins: at the one that is next, or at the first where none has its index
 abbrev pub begins_at : ℕ → ℕ → ℕ
-begins_at turn count = if nat_lt turn count then turn else 0
+begins_at next count = if nat_lt next count then next else 0
 
--- The queues are taken from the one whose turn it is to the last, and then, where each of these was emptied,
--- from the first to that one; the next turn is that of the queue behind the one that wasn't emptied, and else
--- stays. So of three queues of which it is the second's turn, they are taken as second, third and first; and
--- where the second isn't emptied, it is the third's turn, so that none waits for another for ever.
+-- The queues are taken from the next one to the last, and then, where each of these was emptied, from the
+-- first to that one; later the queue behind the one that wasn't emptied is next, and else the same one. So of
+-- three queues of which the second is next, they are taken as second, third and first; and where the second
+-- isn't emptied, the third is next later, so that none waits for another for ever.
 abbrev pub DrainsQueues
     : ℕ → ℕ → List BrokerRow → List OpenSubState → List ℕ → Taking → List OpenSubState → List ℕ → ℕ → Type 0
-DrainsQueues capacity turn asked queues wire end new after next =
+DrainsQueues capacity next asked queues wire end new after later =
     (front back : List OpenSubState) × (queues ≡ front ++ back)
-    × (length front ≡ begins_at turn (length queues))
+    × (length front ≡ begins_at next (length queues))
     × (first rest : List BrokerRow) × (asked ≡ first ++ rest)
     × (one : Taking) × (changed others : List OpenSubState) × (between : List ℕ) × (left unseen : ℕ)
     × DrainsAll capacity first back wire one changed between left × (new ≡ others ++ changed)
     × IfEmptied one
-    (DrainsAll capacity rest front between end others after unseen × (next ≡ length front - unseen))
-    ((rest ≡ []) × (end ≡ one) × (others ≡ front) × (after ≡ between) × (next ≡ length queues - left))
+    (DrainsAll capacity rest front between end others after unseen × (later ≡ length front - unseen))
+    ((rest ≡ []) × (end ≡ one) × (others ≡ front) × (after ≡ between) × (later ≡ length queues - left))
 
 -- ---- a round of the connection
 
@@ -143,6 +143,6 @@ abbrev pub DeliversRound : ConversationState → List BrokerRow → Bool → Con
 DeliversRound old asked result new =
     (IsSome old.exit × (asked ≡ []) × (result ≡ false) × (new ≡ old))
     ⊎ ((old.exit ≡ None) × (first rest : List BrokerRow) × (asked ≡ first ++ rest)
-    × (end : Taking) × (subs : List OpenSubState) × (wire : List ℕ) × (turn : ℕ)
-    × DrainsQueues old.capacity old.turn first old.subs old.wire end subs wire turn
-    × Settles end (has_item first) (record old { subs = subs; wire = wire; turn = turn }) rest result new)
+    × (end : Taking) × (subs : List OpenSubState) × (wire : List ℕ) × (next : ℕ)
+    × DrainsQueues old.capacity old.next first old.subs old.wire end subs wire next
+    × Settles end (has_item first) (record old { subs = subs; wire = wire; next = next }) rest result new)

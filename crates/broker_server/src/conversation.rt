@@ -6,14 +6,14 @@ ghost use Rattle.std.specs.Option.{is_none, is_some, option_map};
 ghost use Rattle.stomp_frame.specs.declared.fault.FrameFault.{FrameFault};
 ghost use Rattle.stomp_frame.specs.declared.raw_frame.RawFrame.{RawFrame};
 ghost use Rattle.stomp_frame.specs.ClientFrames.{raw_of};
-ghost use Rattle.broker_server.specs.BrokerRows.{AsksInTurn, BrokerRow, Unsubscribes};
+ghost use Rattle.broker_server.specs.BrokerRows.{AsksInOrder, BrokerRow, Unsubscribes};
 ghost use Rattle.broker_server.specs.Conversations.{PutsFrames, EndsByError, Performs, Connects, Begins, EndsSub, CommitsSends, CommitsBy, Acts, Answers, IsLost};
 ghost use Rattle.broker_server.specs.Delivering.{DeliversRound, Drains, DrainsAll, DrainsQueues, begins_at, has_item};
 ghost use Rattle.delivery.specs.Core.Outcomes.{is_any};
 ghost use Rattle.stomp_session.specs.Open.{IsKnownTo};
 ghost use Rattle.broker_server.specs.Hearing.{AcceptsFrame, DeniesFrame, Hears, IsNewTo, Rests, TakesAll, TakesFrame, TakesFrames};
 ghost use Rattle.broker_server.specs.Wires.{GoesOut};
-ghost use Rattle.broker_server.specs.Conversations.{closed, IsNew, closing_rows, gate_rows, is_of_id, is_connect_action, replies, turn_without};
+ghost use Rattle.broker_server.specs.Conversations.{closed, IsNew, closing_rows, gate_rows, is_of_id, is_connect_action, next_without, replies};
 ghost use Rattle.broker_server.specs.declared.conversation.exit.Exit.TheVariants as exits;
 
 mod broker_calls;
@@ -44,7 +44,7 @@ use stomp_session::{Action, Names, Session, Step};
 /// From as many octets that wait on, nothing more is read (our choice).
 const MOST: usize = 1_048_576;
 
-/// So many calls are made of one queue before it is another's turn, at most (our choice). An item writes an octet or
+/// So many calls are made of one queue before another is taken, at most (our choice). An item writes an octet or
 /// more, so the wire is full before.
 const MOST_CALLS: usize = 65_536;
 
@@ -68,8 +68,8 @@ pub struct Conversation<C: BrokerCalls> {
     cut: bool,
     /// Whether items may be left in the queues.
     more: bool,
-    /// The place of the subscription whose queue is looked at first.
-    first: usize,
+    /// The index of the subscription whose queue is taken next.
+    next: usize,
     /// How many items a queue holds at most.
     capacity: u64,
 }
@@ -88,7 +88,7 @@ impl<C: BrokerCalls> Drop for Conversation<C> {
             exit: _,
             cut: _,
             more: _,
-            first: _,
+            next: _,
             capacity: _,
         } = self;
         drop(reader);
@@ -116,7 +116,7 @@ impl<C: BrokerCalls> Model for Conversation<C> {
       cut = c.cut;
       more = c.more;
       capacity = c.capacity;
-      turn = c.first;
+      next = c.next;
     } };
 }
 
@@ -136,7 +136,7 @@ impl<C: BrokerCalls> Conversation<C> {
             exit: None,
             cut: false,
             more: false,
-            first: 0,
+            next: 0,
             capacity,
         }
     }
@@ -148,7 +148,7 @@ impl<C: BrokerCalls> Conversation<C> {
         self.names.name(topic)
     }
 
-    /// The open subscription at this place, from 0, if there is one.
+    /// The open subscription at this index, if there is one.
     pub(crate) fn sub_at(&self, at: usize) -> Option<&C::Sub>
         ensures { option_map (λ sub. C.name sub.now) result
             ≡ option_map (λ o. o.sub) (slice_get self.now.subs at) }
@@ -214,7 +214,7 @@ impl<C: BrokerCalls> Conversation<C> {
 
     /// Takes a piece that came, and does what each frame that it ends asks for. Once it leaves, the rest is dropped.
     pub fn hear(&mut self, calls: &mut C, piece: &[u8])
-        ensures { (asked : List BrokerRow) × AsksInTurn C.called calls.old asked calls.new
+        ensures { (asked : List BrokerRow) × AsksInOrder C.called calls.old asked calls.new
             × Hears piece.now self.old asked self.new }
     {
         if self.exit.is_some() {
@@ -228,7 +228,7 @@ impl<C: BrokerCalls> Conversation<C> {
 
     /// Takes the frames that its reader has, and does what they ask for, until it leaves.
     fn hear_all(&mut self, calls: &mut C)
-        ensures { (asked : List BrokerRow) × AsksInTurn C.called calls.old asked calls.new
+        ensures { (asked : List BrokerRow) × AsksInOrder C.called calls.old asked calls.new
             × TakesAll self.old asked self.new }
     {
         'frames: loop {
@@ -245,10 +245,10 @@ impl<C: BrokerCalls> Conversation<C> {
     fn hear_next(&mut self, calls: &mut C) -> bool
         requires { self.old.exit ≡ None }
         ensures took { result ≡ true → (asked : List BrokerRow)
-            × AsksInTurn C.called calls.old asked calls.new
+            × AsksInOrder C.called calls.old asked calls.new
             × (f : RawFrame) × TakesFrames (f ∷ []) self.old asked self.new }
         ensures rests { result ≡ false → (asked : List BrokerRow)
-            × AsksInTurn C.called calls.old asked calls.new
+            × AsksInOrder C.called calls.old asked calls.new
             × Rests self.old asked self.new }
     {
         match self.reader.next(self.alloc) {
@@ -268,7 +268,7 @@ impl<C: BrokerCalls> Conversation<C> {
 
     /// Takes a frame by the case table and the session, and does what it asks for.
     fn take_frame(&mut self, calls: &mut C, frame: RawFrame)
-        ensures { (asked : List BrokerRow) × AsksInTurn C.called calls.old asked calls.new
+        ensures { (asked : List BrokerRow) × AsksInOrder C.called calls.old asked calls.new
             × TakesFrame frame self.old asked self.new }
     {
         let frame = match classify(frame) {
@@ -292,10 +292,10 @@ impl<C: BrokerCalls> Conversation<C> {
     ) -> Result<Step, (ClientFrame, ConversationFault)>
         ensures back { IfErr result (λ e. e.0 ≡ frame) }
         ensures accepted { IfOk result (λ step. (asked : List BrokerRow)
-            × AsksInTurn C.called calls.old asked calls.new
+            × AsksInOrder C.called calls.old asked calls.new
             × AcceptsFrame (raw_of frame) step self.old asked self.new) }
         ensures refused { IfErr result (λ e. (asked : List BrokerRow)
-            × AsksInTurn C.called calls.old asked calls.new
+            × AsksInOrder C.called calls.old asked calls.new
             × DeniesFrame (raw_of frame) e.1 self.old asked self.new) }
     {
         if is_known(&self.names, &frame) {
@@ -312,7 +312,7 @@ impl<C: BrokerCalls> Conversation<C> {
 
     /// Does what an accepted frame asks for, and answers it.
     fn act(&mut self, calls: &mut C, step: Step)
-        ensures { (asked : List BrokerRow) × AsksInTurn C.called calls.old asked calls.new
+        ensures { (asked : List BrokerRow) × AsksInOrder C.called calls.old asked calls.new
             × Acts step self.old asked self.new }
     {
         let Step { action, receipt } = step;
@@ -325,7 +325,7 @@ impl<C: BrokerCalls> Conversation<C> {
 
     /// Does what an accepted frame asks for.
     fn perform(&mut self, calls: &mut C, action: Action) -> Result<(), ConversationFault>
-        ensures { (asked : List BrokerRow) × AsksInTurn C.called calls.old asked calls.new
+        ensures { (asked : List BrokerRow) × AsksInOrder C.called calls.old asked calls.new
             × Performs action self.old asked result self.new }
     {
         macro_rules! answers {
@@ -348,7 +348,7 @@ impl<C: BrokerCalls> Conversation<C> {
     /// Sends the answer to a frame that was accepted. Where there is no memory for it, the connection ends; the RECEIPT
     /// of a DISCONNECT is then left out.
     fn answer(&mut self, calls: &mut C, connects: bool, receipt: &Option<Octets>)
-        ensures { (asked : List BrokerRow) × AsksInTurn C.called calls.old asked calls.new
+        ensures { (asked : List BrokerRow) × AsksInOrder C.called calls.old asked calls.new
             × Answers (replies connects receipt.now) self.old asked self.new }
     {
         match self.write_answer(connects, receipt) {
@@ -379,7 +379,7 @@ impl<C: BrokerCalls> Conversation<C> {
 
     /// A CONNECT: claims its sender.
     fn connect(&mut self, calls: &mut C, client: Option<Octets>) -> Result<(), ConversationFault>
-        ensures { (asked : List BrokerRow) × AsksInTurn C.called calls.old asked calls.new
+        ensures { (asked : List BrokerRow) × AsksInOrder C.called calls.old asked calls.new
             × Connects client self.old asked result self.new }
     {
         match calls.claim(slice_in(&client)) {
@@ -407,7 +407,7 @@ impl<C: BrokerCalls> Conversation<C> {
         id: Octets,
         topic: Topic,
     ) -> Result<(), ConversationFault>
-        ensures { (asked : List BrokerRow) × AsksInTurn C.called calls.old asked calls.new
+        ensures { (asked : List BrokerRow) × AsksInOrder C.called calls.old asked calls.new
             × Begins id topic self.old asked result self.new }
     {
         if self.subs.reserve(1).is_err() {
@@ -431,21 +431,21 @@ impl<C: BrokerCalls> Conversation<C> {
 
     /// An UNSUBSCRIBE: ends the subscription of this id.
     fn unsubscribe(&mut self, calls: &mut C, id: Octets) -> Result<(), ConversationFault>
-        ensures { (asked : List BrokerRow) × AsksInTurn C.called calls.old asked calls.new
+        ensures { (asked : List BrokerRow) × AsksInOrder C.called calls.old asked calls.new
             × EndsSub id self.old asked result self.new }
     {
         let Some(index) = index_of(self.subs.as_slice(), id.as_slice()) else {
             return Ok(());
         };
         let open = self.subs.remove(index);
-        self.first = turn_without(self.first, index);
+        self.next = next_without(self.next, index);
         calls.unsubscribe(open.sub);
         Ok(())
     }
 
     /// A COMMIT, or a SEND outside a transaction: commits the transaction.
     fn commit(&mut self, calls: &mut C, txn: Txn) -> Result<(), ConversationFault>
-        ensures { (asked : List BrokerRow) × AsksInTurn C.called calls.old asked calls.new
+        ensures { (asked : List BrokerRow) × AsksInOrder C.called calls.old asked calls.new
             × CommitsSends txn self.old asked result self.new }
     {
         let Some(gate) = self.gate.take() else {
@@ -459,7 +459,7 @@ impl<C: BrokerCalls> Conversation<C> {
     /// A DISCONNECT: ends what is open.
     fn disconnect(&mut self, calls: &mut C) -> Result<(), ConversationFault>
         ensures closed { self.new ≡ closed exits.Disconnect self.old }
-        ensures rows { AsksInTurn C.called calls.old (closing_rows self.old) calls.new }
+        ensures rows { AsksInOrder C.called calls.old (closing_rows self.old) calls.new }
         ensures ok { OnErr result ⊥ }
     {
         self.close(calls, Exit::Disconnect);
@@ -468,7 +468,7 @@ impl<C: BrokerCalls> Conversation<C> {
 
     /// The connection is lost: what is open is ended, and nothing is written any more.
     pub fn lose(&mut self, calls: &mut C)
-        ensures { (asked : List BrokerRow) × AsksInTurn C.called calls.old asked calls.new
+        ensures { (asked : List BrokerRow) × AsksInOrder C.called calls.old asked calls.new
             × IsLost self.old asked self.new }
     {
         if self.exit.is_none() {
@@ -479,7 +479,7 @@ impl<C: BrokerCalls> Conversation<C> {
     /// Ends what is open: its subscriptions, and then its gate is given back.
     fn close(&mut self, calls: &mut C, exit: Exit)
         ensures closed { self.new ≡ closed exit self.old }
-        ensures rows { AsksInTurn C.called calls.old (closing_rows self.old) calls.new }
+        ensures rows { AsksInOrder C.called calls.old (closing_rows self.old) calls.new }
     {
         self.exit = Some(exit);
         self.more = false;
@@ -491,7 +491,7 @@ impl<C: BrokerCalls> Conversation<C> {
     /// Ends what is open, and then sends an ERROR, which is the last that is sent; out of memory it is left out.
     fn fail(&mut self, calls: &mut C, fault: ConversationFault, receipt: Option<&[u8]>)
         ensures fails { EndsByError fault (option_map (λ id. id.now) receipt.entry) self.old self.new }
-        ensures rows { AsksInTurn C.called calls.old (closing_rows self.old) calls.new }
+        ensures rows { AsksInOrder C.called calls.old (closing_rows self.old) calls.new }
     {
         self.close(calls, Exit::Error(fault));
         let error = ServerFrame::Error {
@@ -508,7 +508,7 @@ impl<C: BrokerCalls> Conversation<C> {
     /// Fails by what an accepted frame asked for; the ERROR has the receipt that it asked for.
     fn refuse(&mut self, calls: &mut C, fault: ConversationFault, receipt: &Option<Octets>)
         ensures fails { EndsByError fault receipt.now self.old self.new }
-        ensures rows { AsksInTurn C.called calls.old (closing_rows self.old) calls.new }
+        ensures rows { AsksInOrder C.called calls.old (closing_rows self.old) calls.new }
     {
         self.fail(calls, fault, slice_in(receipt));
     }
@@ -517,21 +517,15 @@ impl<C: BrokerCalls> Conversation<C> {
     /// behind the subscription where it stopped last, so that none waits for another for ever. A subscription that has
     /// lagged ends the connection once all that it had accepted was taken.
     pub fn deliver(&mut self, calls: &mut C) -> bool
-        ensures { (asked : List BrokerRow) × AsksInTurn C.called calls.old asked calls.new
+        ensures { (asked : List BrokerRow) × AsksInOrder C.called calls.old asked calls.new
             × DeliversRound self.old asked result self.new }
     {
         if self.exit.is_some() {
             return false;
         }
         let queues = self.subs.as_mut_slice();
-        let (drained, next) = drain_queues(
-            calls,
-            queues,
-            self.first,
-            &mut self.wire,
-            self.capacity,
-        );
-        self.first = next;
+        let (drained, next) = drain_queues(calls, queues, self.next, &mut self.wire, self.capacity);
+        self.next = next;
         self.more = false;
         match drained.end {
             Taking::Emptied => drained.any,
@@ -555,36 +549,36 @@ fn index_of<C: BrokerCalls>(subs: &[OpenSub<C>], id: &[u8]) -> Option<usize>
     subs.iter().position(|open| open.id.as_slice() == id)
 }
 
-/// Whose turn it is once the subscription at this index has gone: the same one's, or that of the one behind it.
-fn turn_without(turn: usize, index: usize) -> usize
-    ensures { result ≡ turn_without index turn }
+/// Which index is next once the subscription at this one has gone: that of the same one, or of the one behind it.
+fn next_without(next: usize, index: usize) -> usize
+    ensures { result ≡ next_without index next }
 {
-    if index < turn { turn - 1 } else { turn }
+    if index < next { next - 1 } else { next }
 }
 
-/// At which of so many queues it begins: at that whose turn it is, or at the first where there is none at its place.
-fn begins_at(turn: usize, count: usize) -> usize
-    ensures at { result ≡ begins_at turn count }
+/// At which of so many queues it begins: at the one that is next, or at the first where none has its index.
+fn begins_at(next: usize, count: usize) -> usize
+    ensures at { result ≡ begins_at next count }
     ensures there { result ≤ count }
 {
-    if turn < count { turn } else { 0 }
+    if next < count { next } else { 0 }
 }
 
-/// Takes what is there of each queue, from the one whose turn it is to the last, and then from the first to that one;
-/// and whose turn is next.
+/// Takes what is there of each queue, from the next one to the last, and then from the first to that one; and which
+/// is next later.
 fn drain_queues<C: BrokerCalls>(
     calls: &mut C,
     queues: &mut [OpenSub<C>],
-    turn: usize,
+    next: usize,
     wire: &mut Wire,
     capacity: u64,
 ) -> (Drained, usize)
-    ensures { (asked : List BrokerRow) × AsksInTurn C.called calls.old asked calls.new
-        × DrainsQueues capacity turn asked queues.old wire.old result.0.end queues.new wire.new result.1
+    ensures { (asked : List BrokerRow) × AsksInOrder C.called calls.old asked calls.new
+        × DrainsQueues capacity next asked queues.old wire.old result.0.end queues.new wire.new result.1
         × (result.0.any ≡ has_item asked) }
 {
     let count = queues.len();
-    let first = begins_at(turn, count);
+    let first = begins_at(next, count);
     let (front, back) = queues.split_at_mut(first);
     let (drained, left) = drain_all(calls, back, wire, capacity);
     let Taking::Emptied = drained.end else {
@@ -592,10 +586,10 @@ fn drain_queues<C: BrokerCalls>(
         return (drained, behind);
     };
     let (others, left) = drain_all(calls, front, wire, capacity);
-    let next = first.saturating_sub(left);
+    let later = first.saturating_sub(left);
     let any = drained.any || others.any;
     let end = others.end;
-    (Drained { any, end }, next)
+    (Drained { any, end }, later)
 }
 
 /// Takes what is there of these queues, one after the other, up to the first that isn't emptied; and how many are left
@@ -606,7 +600,7 @@ fn drain_all<C: BrokerCalls>(
     wire: &mut Wire,
     capacity: u64,
 ) -> (Drained, usize)
-    ensures { (asked : List BrokerRow) × AsksInTurn C.called calls.old asked calls.new
+    ensures { (asked : List BrokerRow) × AsksInOrder C.called calls.old asked calls.new
         × DrainsAll capacity asked queues.old wire.old result.0.end queues.new wire.new result.1
         × (result.0.any ≡ has_item asked) }
 {
@@ -633,7 +627,7 @@ fn drain_queue<C: BrokerCalls>(
     wire: &mut Wire,
     capacity: u64,
 ) -> Drained
-    ensures { (asked : List BrokerRow) × AsksInTurn C.called calls.old asked calls.new
+    ensures { (asked : List BrokerRow) × AsksInOrder C.called calls.old asked calls.new
         × Drains capacity 0 asked queue.old wire.old result.end queue.new wire.new
         × (result.any ≡ has_item asked) }
 {
@@ -676,7 +670,7 @@ fn drain_queue<C: BrokerCalls>(
 
 /// Ends these subscriptions, in order.
 fn end_subs<C: BrokerCalls>(calls: &mut C, subs: Vec<OpenSub<C>>)
-    ensures { AsksInTurn C.called calls.old (map (λ o. Unsubscribes o.sub) subs.items) calls.new }
+    ensures { AsksInOrder C.called calls.old (map (λ o. Unsubscribes o.sub) subs.items) calls.new }
 {
     for open in subs {
         calls.unsubscribe(open.sub);
@@ -686,7 +680,7 @@ fn end_subs<C: BrokerCalls>(calls: &mut C, subs: Vec<OpenSub<C>>)
 /// Gives the gate back, if there is one.
 #[tactic(auto, using(crate::proofs::ConversationLemmas::asks_one))]
 fn give_up<C: BrokerCalls>(calls: &mut C, gate: Option<Gate>)
-    ensures { AsksInTurn C.called calls.old (gate_rows gate) calls.new }
+    ensures { AsksInOrder C.called calls.old (gate_rows gate) calls.new }
 {
     match gate {
         Some(gate) => calls.give_back(gate),
@@ -739,7 +733,7 @@ fn commit_by<C: BrokerCalls>(
     gate: Gate,
     txn: Txn,
 ) -> (Gate, Result<(), ConversationFault>)
-    ensures { (asked : List BrokerRow) × AsksInTurn C.called calls.old asked calls.new
+    ensures { (asked : List BrokerRow) × AsksInOrder C.called calls.old asked calls.new
         × CommitsBy gate txn asked result.1 result.0 }
 {
     let flying = match gate.begin(alloc, txn) {

@@ -1,6 +1,7 @@
 //! A log whose writer may wait, while nobody else does.
 
-ghost use Rattle.std.specs.Prelude.{true, [], Some};
+ghost use Rattle.std.specs.Prelude.{◌≡◌, true, [], Some, IfOk};
+ghost use Rattle.crossbeam_queue.specs.Passes.{queue_capacity};
 
 use crossbeam_queue::ArrayQueue;
 use log::kv::Source;
@@ -32,7 +33,9 @@ pub struct LogQueue {
 
 impl LogQueue {
     /// No lines.
-    pub fn new(alloc: Global) -> Result<LogQueue, AllocError> {
+    pub fn new(alloc: Global) -> Result<LogQueue, AllocError>
+        ensures { IfOk result (λ queue. queue_capacity queue.lines ≡ 1024) }
+    {
         Ok(LogQueue {
             alloc,
             lines: ArrayQueue::new(alloc, MAX_LINES)?,

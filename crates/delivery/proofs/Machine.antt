@@ -1,6 +1,7 @@
 -- What every run of the machine keeps, move by move.
 pub mod AnswerLemmas
 pub mod ClocksGrow
+pub mod Effects
 pub mod Invariant
 pub mod InvariantIsKept
 pub mod MadeOnce

@@ -1,6 +1,6 @@
 -- The trace of every run is explained, and complete where all topics are settled.
 pub mod Lists
-pub mod Lines
+pub mod TracedRows
 pub mod Sequence
 pub mod Explained
 pub mod Made

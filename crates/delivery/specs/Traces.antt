@@ -8,7 +8,7 @@ use Rattle.trace_audit.specs.declared.row.QueueRow.{QueueRow}
 use Rattle.trace_audit.specs.declared.fault.AuditFault.{AuditFault}
 use Rattle.trace_audit.specs.Answers.{IsRefusal}
 use Rattle.trace_audit.specs.Explained.{IsExplainedBy, IsCompleteBy}
-use Rattle.trace_audit.specs.Logs.{LogLine}
+use Rattle.trace_audit.specs.Logs.{TopicRow}
 use Rattle.trace_audit.specs.Trace.{TraceData}
 use Rattle.delivery.specs.Topics.{TopicList}
 use Rattle.delivery.specs.Nets.{KeptRun, account_of_net, core_of_net, HasReport}
@@ -23,7 +23,7 @@ use Rattle.delivery.specs.Core.Reports.{QueueReport, Report, report_of}
 -- ---- what a trace has
 
 -- the log of the topic of number t, as rows of a trace
-abbrev pub traced_log : ℕ → List LogRow → List LogLine
+abbrev pub traced_log : ℕ → List LogRow → List TopicRow
 traced_log t rows = map (λ row. record { topic = record { 0 = t }; row = row }) rows
 
 -- the span of subscription s, as a row of a trace

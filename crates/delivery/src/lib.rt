@@ -18,6 +18,7 @@ mod outcome;
 mod refusal;
 mod sender_state;
 mod sending;
+mod shared_topics;
 mod stage;
 mod sub;
 mod table;

@@ -19,6 +19,7 @@ ghost use Rattle.delivery.specs.Inner.View.{is_idle, is_undecided, rested_sender
 use crate::in_flight::InFlight;
 use crate::refusal::Refusal;
 use crate::sending::Sending;
+use crate::shared_topics::SharedTopics;
 use mcast_group::{ProposeFault, Row};
 use mcast_txn::{Part, Stamp, Ticket, Tickets, Topic, Txn, TxnId, Verdict};
 use sender_gate::Gate;
@@ -66,8 +67,8 @@ impl SenderState {
     {
         match mem::replace(&mut self.sending, Sending::Resting) {
             Sending::Idle(gate) => Some(gate),
-            Sending::Flying(flying, row) => {
-                self.sending = Sending::Flying(flying, row);
+            Sending::Flying(flying, shared) => {
+                self.sending = Sending::Flying(flying, shared);
                 None
             }
             Sending::Marked(gate, tickets, fault) => {
@@ -105,12 +106,7 @@ impl SenderState {
             Ok(flying) => {
                 let flying = InFlight::new(flying);
                 let id = flying.id();
-                let row = Row {
-                    id,
-                    topics,
-                    stamp: Stamp::ZERO,
-                };
-                self.sending = Sending::Flying(flying, row);
+                self.sending = Sending::Flying(flying, SharedTopics { topics });
                 Ok(id)
             }
             Err((gate, _txn, _fault)) => {
@@ -152,22 +148,21 @@ impl SenderState {
         ensures err { OnErr result (self.new ≡ self.old) }
     {
         match mem::replace(&mut self.sending, Sending::Resting) {
-            Sending::Flying(flying, row) => match flying.decide() {
-                Ok((gate, verdict)) => {
-                    let Row {
-                        id,
-                        topics,
-                        stamp: _,
-                    } = row;
-                    let stamp = verdict.stamp();
-                    self.sending = Sending::Idle(gate);
-                    Ok((verdict, Row { id, topics, stamp }))
+            Sending::Flying(flying, shared) => {
+                let id = flying.id();
+                match flying.decide() {
+                    Ok((gate, verdict)) => {
+                        let SharedTopics { topics } = shared;
+                        let stamp = verdict.stamp();
+                        self.sending = Sending::Idle(gate);
+                        Ok((verdict, Row { id, topics, stamp }))
+                    }
+                    Err(flying) => {
+                        self.sending = Sending::Flying(flying, shared);
+                        Err(Refusal::Incomplete)
+                    }
                 }
-                Err(flying) => {
-                    self.sending = Sending::Flying(flying, row);
-                    Err(Refusal::Incomplete)
-                }
-            },
+            }
             Sending::Marked(gate, tickets, fault) => {
                 self.sending = Sending::Marked(gate, tickets, fault);
                 Err(Refusal::Marked)
@@ -265,8 +260,8 @@ impl SenderState {
                 self.sending = Sending::Idle(gate);
                 Ok(fault)
             }
-            Sending::Flying(flying, row) => {
-                self.sending = Sending::Flying(flying, row);
+            Sending::Flying(flying, shared) => {
+                self.sending = Sending::Flying(flying, shared);
                 Err(Refusal::NotMarked)
             }
             Sending::Idle(gate) => {
@@ -304,7 +299,7 @@ fn take_gate(sending: &mut Sending) -> Gate
 {
     match mem::replace(sending, Sending::Resting) {
         Sending::Idle(gate) => gate,
-        Sending::Flying(_flying, _row) => unreachable!(),
+        Sending::Flying(_flying, _shared) => unreachable!(),
         Sending::Marked(_gate, _tickets, _fault) => unreachable!(),
         Sending::Resting => unreachable!(),
     }

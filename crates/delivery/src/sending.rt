@@ -1,7 +1,8 @@
 //! What a sender does with its transaction.
 
 use crate::in_flight::InFlight;
-use mcast_group::{ProposeFault, Row};
+use crate::shared_topics::SharedTopics;
+use mcast_group::ProposeFault;
 use mcast_txn::Tickets;
 use sender_gate::Gate;
 
@@ -13,8 +14,8 @@ pub(crate) enum Sending {
     /// None is undecided, and the sender's gate isn't here: it was given back, and no connection speaks for the sender.
     /// While a call changes a sender, it stands for what the call took out.
     Resting,
-    /// One is on its way. With it is the row that the commit list is to have of it, whose stamp isn't known yet.
-    Flying(InFlight, Row),
+    /// One is on its way. With it are its topics, as the row of the commit list is to have them.
+    Flying(InFlight, SharedTopics),
     /// A topic refused it, and why: its tickets are to be cancelled.
     Marked(Gate, Tickets, ProposeFault),
 }

@@ -1,21 +1,22 @@
 -- Subscriptions by rising number: what halving finds among them, and what an edit of them keeps.
-use Rattle.std.proofs.Common.{◌≡◌, ◌≢◌, ℕ, zero, suc, ◌<◌, ◌==◌, ltb, Bool, true, false, cond, inl, inr, List, [], ◌∷◌, map, length, get_or, set, Some, None, Result, Ok, Err, IfOk, IfErr, OnErr, refl, sym, ap, subst, ◌∙◌, arith}
+use Rattle.std.proofs.Common.{◌≡◌, ◌≢◌, ℕ, zero, suc, ◌<◌, ◌==◌, ltb, Bool, true, false, inl, inr, List, [], ◌∷◌, map, length, get_or, set, Some, None, Result, Ok, Err, IfOk, IfErr, OnErr, refl, sym, ap, subst, ◌∙◌, arith}
 use Rattle.std.specs.List.{AllByRecursion, insert, position, position_or_len, remove}
 use Rattle.std.proofs.lemmas.Bool.Decides.{nat_tests}
+use Rattle.std.proofs.lemmas.Bool.{ne_eqb}
 use Rattle.mcast_txn.specs.Lists.{In, RisesBy}
 use Rattle.mcast_txn.specs.declared.stamp.Stamp.{Stamp}
 use Rattle.mcast_txn.specs.Span.{Item}
-use Rattle.mcast_txn.proofs.Rising.{Finds, IsAt, IsGap, below_later, none_in_gap, all-map, rises_alike, rises-map, rises-unmap}
+use Rattle.mcast_txn.proofs.Inserting.{puts_in_gap, rises_inserted}
+use Rattle.mcast_txn.proofs.Rising.{Finds, IsAt, IsGap, below_later, none_in_gap, rises_alike, rises-map, rises-unmap}
 use Rattle.sub_queue.specs.Shown.{Shown}
 use Rattle.mcast_group.specs.declared.subscription.Subscription.{Subscription}
 use Rattle.mcast_group.specs.Machine.{Entry}
 use Rattle.mcast_group.specs.Group.{entries_after}
 use Rattle.mcast_group.specs.Inner.GroupInvariant.{Gave, entry_of}
-use Rattle.mcast_group.specs.Inner.Subscriptions.{IsIndexFor, insert_sub}
-use Rattle.mcast_group.proofs.Numbers.{Numbers-insert}
+use Rattle.mcast_group.specs.Inner.Subscriptions.{IsIndexFor}
 use Rattle.mcast_group.proofs.Parts.{map_length}
 use Rattle.mcast_group.proofs.Queues.{delivered_number}
-use Rattle.mcast_group.proofs.Subscribing.{entries_with, isnt_number}
+use Rattle.mcast_group.proofs.Subscribing.{entries_with}
 use Rattle.mcast_group.proofs.Taking.{map_set}
 
 -- the number of a subscription
@@ -47,12 +48,12 @@ number_found {Q = Q} (s ∷ subs) n i rises at =
     let e : (get_or (s ∷ subs) i s).number ≡ n = at.has_key s in
     found_at_index (λ (z : Subscription Q). z.number == n) (s ∷ subs) i at.in_range
     (first_index (λ (z : Subscription Q). z.number == n) (s ∷ subs) i s at.in_range (same_test (get_or (s ∷ subs) i s).number n e)
-    (λ k l. isnt_number (get_or (s ∷ subs) k s).number n (λ d. (let m : (get_or (s ∷ subs) k s).number < (get_or (s ∷ subs) i s).number = below_later number_of (s ∷ subs) k i s rises l at.in_range in absurd (omega arith)))))
+    (λ k l. ne_eqb (get_or (s ∷ subs) k s).number n (λ d. (let m : (get_or (s ∷ subs) k s).number < (get_or (s ∷ subs) i s).number = below_later number_of (s ∷ subs) k i s rises l at.in_range in absurd (omega arith)))))
 
 end_index : {Q : Type 0} (subs : List (Subscription Q)) (n : ℕ) → AllByRecursion (λ (z : Subscription Q). z.number ≢ n) subs → position_or_len (λ (z : Subscription Q). z.number == n) subs ≡ length subs
 end_index [] n free = refl
 end_index (s ∷ subs) n free =
-    let a : (s.number == n) ≡ false = isnt_number s.number n free.0 in
+    let a : (s.number == n) ≡ false = ne_eqb s.number n free.0 in
     let ih = end_index subs n free.1 in
     rw (a, ih) (omega arith)
 
@@ -63,37 +64,20 @@ number_not_found {Q = Q} subs n free =
     let t : ltb (length subs) (length subs) ≡ false = grind (arith, nat_tests) in
     rw (e, t) refl
 
--- one that is put into the gap of its number is where insert_sub puts it
-puts_in_gap : {Q : Type 0} (subs : List (Subscription Q)) (i : ℕ) (s : Subscription Q) → IsGap number_of subs s.number i → insert subs i s ≡ insert_sub s subs
-puts_in_gap [] zero s gap = refl
-puts_in_gap [] (suc i) s gap = refl
-puts_in_gap (z ∷ subs) zero s gap = grind (arith, nat_tests, gap.above 0 s (omega arith) (omega arith))
-puts_in_gap (z ∷ subs) (suc i) s gap =
-    let ih = puts_in_gap subs i s (record { in_range = omega (arith, gap.in_range); below = λ j d h. gap.below (suc j) d (omega arith); above = λ j d h l. gap.above (suc j) d (omega arith) (omega arith) }) in
-    grind (arith, nat_tests, gap.below 0 s (omega arith))
-
 -- the gap of a number is the index for it
 pub index_found : {Q : Type 0} (subs : List (Subscription Q)) (n i : ℕ) → IsGap number_of subs n i → IsIndexFor n subs i
 index_found {Q = Q} subs n i gap = record {
   within = gap.in_range;
   free = none_in_gap number_of subs n i gap;
-  puts = λ s e. puts_in_gap subs i s (subst (λ (k : ℕ). IsGap number_of subs k i) (sym e) gap);
+  puts = λ s e. puts_in_gap number_of subs i s (subst (λ (k : ℕ). IsGap number_of subs k i) (sym e) gap);
 }
 
 -- ---- what an edit keeps
 
-each_in : (P : Entry → Type 0) (es : List Entry) → AllByRecursion P es → (e : Entry) → In e es → P e
-each_in P [] all e i = absurd i
-each_in P (x ∷ es) all e (inl k) = subst P k all.0
-each_in P (x ∷ es) all e (inr i) = each_in P es all.1 e i
-
--- they rise after one whose number is free was put among them
-pub rises_inserted : {Q : Type 0} (shown : Q → Shown) (s : Subscription Q) (subs : List (Subscription Q)) → RisesBy number_of subs → AllByRecursion (λ (z : Subscription Q). z.number ≢ s.number) subs → RisesBy number_of (insert_sub s subs)
-rises_inserted shown s subs rises free =
-    let before = rises-map (λ (z : Entry). z.number) (entry_of shown) subs rises in
-    let others = all-map (λ (z : Entry). z.number ≢ s.number) (entry_of shown) subs free in
-    let after = Numbers-insert (entry_of shown s) (map (entry_of shown) subs) before (each_in (λ (z : Entry). z.number ≢ s.number) (map (entry_of shown) subs) others) in
-    rises-unmap (λ (z : Entry). z.number) (entry_of shown) (insert_sub s subs) (subst (RisesBy (λ (z : Entry). z.number)) (sym (entries_with shown s subs)) after)
+each_in : {X : Type 0} (P : X → Type 0) (xs : List X) → AllByRecursion P xs → (x : X) → In x xs → P x
+each_in P [] all x i = absurd i
+each_in P (y ∷ ys) all x (inl e) = subst P e all.0
+each_in P (y ∷ ys) all x (inr i) = each_in P ys all.1 x i
 
 all_removed : {Q : Type 0} (P : Subscription Q → Type 0) (subs : List (Subscription Q)) (i : ℕ) → AllByRecursion P subs → AllByRecursion P (remove subs i)
 all_removed P [] zero all = tt
@@ -153,8 +137,8 @@ has_searched subs n (Err i) rises finds = record {
   index = index_found subs n i finds.absent;
 }
 
--- they rise after an insertion at the index for its number, and where it was refused
-pub rises_tried : {Q : Type 0} (shown : Q → Shown) (subs : List (Subscription Q)) (i : ℕ) (s : Subscription Q) (b : Bool) → IsIndexFor s.number subs i → RisesBy number_of subs → RisesBy number_of (cond b (insert subs i s) subs)
-rises_tried shown subs i s true index rises =
-    subst (RisesBy number_of) (sym (index.puts s refl)) (rises_inserted shown s subs rises index.free)
-rises_tried shown subs i s false index rises = rises
+-- they rise after an insertion at the index for its number
+pub rises_put : {Q : Type 0} (subs : List (Subscription Q)) (i : ℕ) (s : Subscription Q) → IsIndexFor s.number subs i → RisesBy number_of subs → RisesBy number_of (insert subs i s)
+rises_put {Q = Q} subs i s index rises =
+    subst (RisesBy number_of) (sym (index.puts s refl))
+    (rises_inserted number_of s subs rises (each_in (λ (z : Subscription Q). z.number ≢ s.number) subs index.free))

@@ -4,7 +4,7 @@ use Rattle.std.proofs.lemmas.List.{length_push, length-take-le}
 use Rattle.mcast_txn.specs.Lists.{In}
 use Rattle.std.specs.List.{insert}
 use Rattle.mcast_txn.specs.Transaction.{TopicPart}
-use Rattle.mcast_txn.proofs.Members.{In-push_cases}
+use Rattle.mcast_txn.proofs.Members.{In-push_cases, In-take}
 use Rattle.mcast_group.specs.Machine.{Pending}
 use Rattle.mcast_group.specs.Inner.Copies.{AreOf, HaveCopies, IsFirst, with_first}
 
@@ -79,12 +79,6 @@ kept_all most zero (c ∷ cs) l = absurd (omega arith)
 kept_all most (suc i) [] l = refl
 kept_all most (suc i) (c ∷ cs) l = ap (λ zs. take most c ∷ zs) (kept_all most i cs (omega arith))
 
-In-cut : {X : Type 0} (x : X) (n : ℕ) (xs : List X) → In x (take n xs) → In x xs
-In-cut x zero xs h = absurd h
-In-cut x (suc n) [] h = h
-In-cut x (suc n) (y ∷ xs) (inl e) = inl e
-In-cut x (suc n) (y ∷ xs) (inr h) = inr (In-cut x n xs h)
-
 -- where each part has n copies and m of them are kept, each has m
 pub copies_kept : (n m : ℕ) (ps : List Pending) (cs : List (List TopicPart)) → m ≤ n → HaveCopies n ps cs → HaveCopies m ps (map (take m) cs)
 copies_kept n m [] [] l h = tt
@@ -92,7 +86,7 @@ copies_kept n m [] (c ∷ cs) l h = h
 copies_kept n m (p ∷ ps) [] l h = h
 copies_kept n m (p ∷ ps) (c ∷ cs) l h =
     let a : length c ≡ n = h.0.0 in
-    ((length-take-le m c (omega arith), λ x k. h.0.1 x (In-cut x m c k)), copies_kept n m ps cs l h.1)
+    ((length-take-le m c (omega arith), λ x k. h.0.1 x (In-take x m c k)), copies_kept n m ps cs l h.1)
 
 -- where the first i parts have one copy more, each has n once n are kept
 pub more_cut : (n i : ℕ) (ps : List Pending) (cs : List (List TopicPart)) → HaveMore n i ps cs → HaveCopies n ps (map (take n) cs)
@@ -102,7 +96,7 @@ more_cut n (suc i) [] (c ∷ cs) h = h
 more_cut n (suc i) (p ∷ ps) [] h = h
 more_cut n (suc i) (p ∷ ps) (c ∷ cs) h =
     let a : length c ≡ n + 1 = h.0.0 in
-    ((length-take-le n c (omega arith), λ x k. h.0.1 x (In-cut x n c k)), more_cut n i ps cs h.1)
+    ((length-take-le n c (omega arith), λ x k. h.0.1 x (In-take x n c k)), more_cut n i ps cs h.1)
 
 -- where all parts have one copy more, each has n + 1
 pub more_all : (n i : ℕ) (ps : List Pending) (cs : List (List TopicPart)) → length ps ≤ i → HaveMore n i ps cs → HaveCopies (n + 1) ps cs

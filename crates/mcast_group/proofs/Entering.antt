@@ -8,7 +8,9 @@ use Rattle.mcast_txn.proofs.Orders.{lt_by_number}
 use Rattle.std.proofs.lemmas.List.Edits.{length-remove}
 use Rattle.mcast_txn.specs.declared.id.TxnId.{TxnId}
 use Rattle.mcast_txn.specs.Transaction.{TopicPart}
+use Rattle.mcast_txn.proofs.Inserting.{insert_length}
 use Rattle.mcast_txn.proofs.Members.{In-get_or}
+use Rattle.mcast_txn.proofs.CheckLemmas.{passes}
 use Rattle.sub_queue.specs.Shown.{Shown}
 use Rattle.mcast_group.specs.declared.subscription.Subscription.{Subscription}
 use Rattle.mcast_group.specs.Sound.{IsSound}
@@ -17,8 +19,8 @@ use Rattle.mcast_group.specs.CellGroup.{open_count}
 use Rattle.mcast_group.specs.Group.{after_enter}
 use Rattle.mcast_group.specs.Inner.Copies.{HaveCopies}
 use Rattle.mcast_group.specs.Inner.GroupInvariant.{IsKept, entry_of}
-use Rattle.mcast_group.proofs.Parts.{insert_length, map_length}
-use Rattle.mcast_group.proofs.Allowed.{keeps_sound, passes}
+use Rattle.mcast_group.proofs.Parts.{map_length}
+use Rattle.mcast_group.proofs.Allowed.{keeps_sound}
 use Rattle.mcast_group.proofs.Releasing.{placed_at, map_within, copies_remove}
 
 -- there are as many subscriptions as there were, where their entries are the same
@@ -52,7 +54,7 @@ kept_grown shown spare x capacity after copies old new h l e grown = record {
 -- IsKept holds after a part has entered, with room, spares and copies for it
 pub kept_entered : {Q : Type 0} (shown : Q → Shown) (spare : Q → ℕ) (x y : TopicState) (capacity after n : ℕ) (copies more : List (List TopicPart)) (old new : List (Subscription Q)) (floor : Stamp) (part : TopicPart) → IsKept spare x capacity copies old → part.topic ≡ x.topic → n ≡ next_number floor x → propose_fault floor part x ≡ None → y ≡ after_enter n part x → length x.held + (length x.pending + 1) ≤ after → map (entry_of shown) new ≡ map (entry_of shown) old → ((k : ℕ) (d : Subscription Q) → k < length old → (get_or new k d).to ≡ None → length x.pending + 1 ≤ spare (get_or new k d).outlet) → HaveCopies (open_count x.subscriptions) y.pending more → IsKept spare y after more new
 kept_entered shown spare x y capacity after n copies more old new floor part h own next none e room same left copied =
-    let grown : length y.pending ≡ suc (length x.pending) = ap (λ (z : TopicState). length z.pending) e ∙ insert_length _ x.pending in
+    let grown : length y.pending ≡ suc (length x.pending) = ap (λ (z : TopicState). length z.pending) e ∙ insert_length _ _ x.pending in
     let many : length y.pending ≡ length x.pending + 1 = omega arith in
     let held : length y.held ≡ length x.held = ap (λ (z : TopicState). length z.held) e in
     record {

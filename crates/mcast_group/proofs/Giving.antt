@@ -28,7 +28,8 @@ each_more f item (a ∷ bs) b zero es d e l = absurd (omega arith)
 each_more f item (a ∷ bs) b (suc i) [] d e l = absurd (omega arith)
 each_more f item (a ∷ bs) b (suc i) (x ∷ es) d e l = ap (λ (z : List Entry). entry_after (λ _. a) f item x ∷ z) (each_more f item bs b i es d (omega arith) (omega arith))
 
-get_or-map : {S T : Type 0} (f : S → T) (xs : List S) (i : ℕ) (d : S) → get_or (map f xs) i (f d) ≡ f (get_or xs i d)
+-- what is read in a mapped list is f of what is read in the list
+pub get_or-map : {S T : Type 0} (f : S → T) (xs : List S) (i : ℕ) (d : S) → get_or (map f xs) i (f d) ≡ f (get_or xs i d)
 get_or-map f [] i d = refl
 get_or-map f (x ∷ xs) zero d = refl
 get_or-map f (x ∷ xs) (suc i) d = get_or-map f xs i d
@@ -47,8 +48,8 @@ set_same (x ∷ xs) zero d y e l = ap (λ (z : _). z ∷ xs) e
 set_same (x ∷ xs) (suc i) d y e l = ap (λ (z : List _). x ∷ z) (set_same xs i d y e (omega arith))
 
 -- what is the same at one index is the same in all
-pub rooms_more : {S T : Type 0} (g : S → T) (i : ℕ) (subs old : List S) (new d : S) → i < length subs → map g subs ≡ map g old → g new ≡ g (get_or subs i d) → map g (set subs i new) ≡ map g old
-rooms_more g i subs old new d l h n = rw map-set (set_same (map g subs) i (g d) (g new) (n ∙ sym (get_or-map g subs i d)) (rw length-map l) ∙ h)
+pub mapped_more : {S T : Type 0} (g : S → T) (i : ℕ) (subs old : List S) (new d : S) → i < length subs → map g subs ≡ map g old → g new ≡ g (get_or subs i d) → map g (set subs i new) ≡ map g old
+mapped_more g i subs old new d l h n = rw map-set (set_same (map g subs) i (g d) (g new) (n ∙ sym (get_or-map g subs i d)) (rw length-map l) ∙ h)
 
 -- one more answer that its outlet may give is added to those that may be given
 pub may_more : {Q : Type 0} (shown : Q → Shown) (may : Shown → Bool → Type 0) (bs : List Bool) (b : Bool) (i : ℕ) (subs : List (Subscription Q)) (d : Subscription Q) → length bs ≡ i → i < length subs → MayGive shown may bs subs → ((get_or subs i d).to ≡ None → may (shown (get_or subs i d).outlet) b) → MayGive shown may (bs ++ b ∷ []) subs

@@ -1,5 +1,5 @@
 -- What a topic's calls answer, and what its group keeps.
-use Rattle.std.proofs.Common.{◌≡◌, ℕ, ◌+◌, ◌<◌, ◌≤◌, nat_lt, max, Bool, true, false, List, [], ◌∷◌, ◌++◌, map, length, Option, Some, None, refl, ap, arith}
+use Rattle.std.proofs.Common.{◌≡◌, ℕ, ◌+◌, ◌<◌, ◌≤◌, nat_lt, max, Bool, true, false, List, [], ◌∷◌, ◌++◌, map, length, Some, None, refl, ap, arith}
 use Rattle.std.specs.Option.{is_some}
 use Rattle.std.proofs.lemmas.Bool.Decides.{nat_tests}
 use Rattle.mcast_txn.specs.declared.id.Topic.{Topic}
@@ -42,16 +42,16 @@ fault_none floor part x e l m = rw (e, lt_of _ _ l, lt_of _ _ m) refl
 -- ---- what stands against a verdict
 
 -- a verdict is refused as Foreign where it isn't the pending part's
-pub fault_foreign : (v : Decision) (ps : List Pending) (o : Option Pending) (p : Pending) → o ≡ Some p → is_foreign v p ≡ true → learn_fault_of v ps o ≡ Some Foreign
-fault_foreign v ps o p e f = rw (e, f) refl
+pub fault_foreign : (v : Decision) (ps : List Pending) (p : Pending) → is_foreign v p ≡ true → learn_fault_of v ps (Some p) ≡ Some Foreign
+fault_foreign v ps p f = rw f refl
 
 -- else it is refused as Clash where it clashes
-pub fault_clash : (v : Decision) (ps : List Pending) (o : Option Pending) (p : Pending) → o ≡ Some p → is_foreign v p ≡ false → clashes v p ps ≡ true → learn_fault_of v ps o ≡ Some Clash
-fault_clash v ps o p e f k = rw (e, f, k) refl
+pub fault_clash : (v : Decision) (ps : List Pending) (p : Pending) → is_foreign v p ≡ false → clashes v p ps ≡ true → learn_fault_of v ps (Some p) ≡ Some Clash
+fault_clash v ps p f k = rw (f, k) refl
 
 -- else a verdict for a pending part isn't refused
-pub no_fault : (v : Decision) (ps : List Pending) (o : Option Pending) (p : Pending) → o ≡ Some p → is_foreign v p ≡ false → clashes v p ps ≡ false → learn_fault_of v ps o ≡ None
-no_fault v ps o p e f k = rw (e, f, k) refl
+pub no_fault : (v : Decision) (ps : List Pending) (p : Pending) → is_foreign v p ≡ false → clashes v p ps ≡ false → learn_fault_of v ps (Some p) ≡ None
+no_fault v ps p f k = rw (f, k) refl
 
 -- ---- what stands against taking a part out
 

@@ -1,7 +1,8 @@
 -- Each step keeps a topic sound.
-use Rattle.std.proofs.Common.{◌≡◌, ◌≢◌, ℕ, suc, ◌+◌, ◌<◌, ◌≤◌, ◌==◌, max, Bool, true, false, cond, not, ◌&&◌, ◌||◌, inl, inr, List, [], ◌∷◌, ◌++◌, length, Option, Some, None, refl, sym, ap, subst, ◌∙◌, arith}
+use Rattle.std.proofs.Common.{◌≡◌, ◌≢◌, ℕ, suc, ◌+◌, ◌<◌, ◌≤◌, ◌==◌, max, Bool, true, false, cond, not, ◌&&◌, inl, inr, List, [], ◌∷◌, ◌++◌, length, Option, Some, None, refl, sym, ap, subst, ◌∙◌, arith}
 use Rattle.std.specs.List.{filter, list_any}
-use Rattle.std.proofs.lemmas.Bool.{true≢false, not-false, and_parts}
+use Rattle.std.proofs.lemmas.Bool.{true≢false, not-false, and_parts, or_parts}
+use Rattle.std.proofs.lemmas.List.{length_push}
 use Rattle.mcast_txn.specs.Stamp.{stamp_lt, zero_stamp, same_stamp}
 use Rattle.mcast_txn.specs.Transaction.{TopicPart}
 use Rattle.mcast_txn.specs.Ids.{same_id}
@@ -10,15 +11,16 @@ use Rattle.mcast_txn.specs.Ballot.{Decision}
 use Rattle.mcast_txn.specs.declared.id.Topic.{Topic}
 use Rattle.mcast_txn.specs.declared.id.TxnId.{TxnId}
 use Rattle.mcast_txn.specs.declared.stamp.Stamp.{Stamp}
-use Rattle.mcast_txn.proofs.Orders.{lt_irrefl, lt_asym, lt_le, le_lt, lt_by_number, strictly, id_equal, id_same, id_turned, id_itself}
+use Rattle.mcast_txn.proofs.Orders.{lt_irrefl, lt_asym, lt_le, le_lt, lt_by_number, strictly, id_equal, id_same, id_turned, id_itself, same_stamp_is, same_stamp_itself}
+use Rattle.mcast_txn.proofs.Inserting.{insert_length, insert_one, insert_two, rises_inserted}
 use Rattle.mcast_txn.proofs.Members.{In-map_cases, In-filter_cases, any_found, any_from, push_one}
 use Rattle.mcast_txn.proofs.Sorting.{Rises-push}
 use Rattle.mcast_txn.proofs.Greatest.{greatest_past}
 use Rattle.mcast_txn.specs.Span.{LogRow, last_stamp, row_stamp}
 use Rattle.mcast_group.specs.Sound.{IsSound, IsQueueOf}
-use Rattle.mcast_group.specs.Machine.{TopicState, Pending, Entry, decided_stamp, key, new_topic, next_number, after_propose, is_pending, has_row, is_foreign, has_learnt_other, clashes, learn_fault, learn_fault_of, find_pending, after_learn, with_stamp, after_cancel, after_release_of, row_of, item_of, entry_after, after_subscribe, after_unsubscribe, after_drain}
-use Rattle.mcast_group.proofs.Parts.{insert_length, insert_one, insert_two, RisesById-insert, RisesById-told, RisesById-without, not_pending, each_told, each_two_told, part_with_stamp, map_length, Due, others, found_part, same_stamp_is, same_stamp_itself}
-use Rattle.mcast_group.proofs.Numbers.{Numbers-insert, Numbers-map, Numbers-filter, entry_one}
+use Rattle.mcast_group.specs.Machine.{TopicState, Pending, Entry, decided_stamp, key, new_topic, next_number, after_propose, is_pending, has_row, is_foreign, has_learnt_other, clashes, learn_fault, learn_fault_of, find_pending, insert_pending, after_learn, with_stamp, after_cancel, after_release_of, row_of, item_of, entry_after, after_subscribe, after_unsubscribe, after_drain}
+use Rattle.mcast_group.proofs.Parts.{RisesById-insert, RisesById-told, RisesById-without, not_pending, each_told, each_two_told, part_with_stamp, map_length, Due, others, found_part}
+use Rattle.mcast_group.proofs.Numbers.{Numbers-map, Numbers-filter}
 use Rattle.mcast_group.proofs.Queues.{delivered_number, Queue-delivered, Queue-new, Queue-drained, Next}
 
 -- a new topic is sound
@@ -49,26 +51,26 @@ Sound-proposed floor part x h own new room =
     let n = next_number floor x in
     let p : Pending = record { part = part; number = n; learnt = None } in
     let far : x.frontier.n ≤ x.clock = h.clock_frontier in
-    let more = insert_length p x.pending in
+    let more : length (insert_pending p x.pending) ≡ suc (length x.pending) = insert_length _ p x.pending in
     record {
       rises = h.rises;
       above_base = h.above_base;
       frontier = h.frontier;
       past = h.past;
       base_past = h.base_past;
-      own = insert_one (λ (q : Pending). q.part.topic ≡ x.topic) x.pending p h.own own;
+      own = insert_one _ (λ (q : Pending). q.part.topic ≡ x.topic) x.pending p h.own own;
       by_id = RisesById-insert p x.pending h.by_id (λ q k e. not_pending part.id x.pending new q k e);
-      one_part = insert_two (λ (a b : Pending). same_id a.part.id b.part.id ≡ true → a ≡ b) x.pending p h.one_part
+      one_part = insert_two _ (λ (a b : Pending). same_id a.part.id b.part.id ≡ true → a ≡ b) x.pending p h.one_part
           (λ q k e. absurd (not_pending part.id x.pending new q k e))
           (λ q k e. absurd (not_pending part.id x.pending new q k (id_turned part.id q.part.id e)))
           (λ e. refl);
-      differ = insert_two (λ (a b : Pending). key a ≡ key b → a ≡ b) x.pending p h.differ
+      differ = insert_two _ (λ (a b : Pending). key a ≡ key b → a ≡ b) x.pending p h.differ
           (λ q k e. absurd (let l : (key q).n ≤ x.clock = h.clock_keys q k in let d : (key q).n ≡ n = ap (λ (s : Stamp). s.n) e in omega arith))
           (λ q k e. absurd (let l : (key q).n ≤ x.clock = h.clock_keys q k in let d : n ≡ (key q).n = ap (λ (s : Stamp). s.n) e in omega arith))
           (λ e. refl);
-      above = insert_one (λ (q : Pending). stamp_lt x.frontier (key q) ≡ true) x.pending p h.above
+      above = insert_one _ (λ (q : Pending). stamp_lt x.frontier (key q) ≡ true) x.pending p h.above
           (lt_by_number x.frontier (key p) (omega arith));
-      clock_keys = insert_one (λ (q : Pending). (key q).n ≤ n) x.pending p
+      clock_keys = insert_one _ (λ (q : Pending). (key q).n ≤ n) x.pending p
           (λ q k. let l : (key q).n ≤ x.clock = h.clock_keys q k in omega arith) (omega arith);
       clock_frontier = omega arith;
       numbers = h.numbers;
@@ -88,14 +90,6 @@ pub record Learns (id : TxnId) (v : Decision) (x : TopicState) : Type 0 where
   pub again : has_learnt_other (decided_stamp v) part.learnt ≡ false
   pub new : (q : Pending) → In q x.pending → key q ≡ decided_stamp v → same_id q.part.id id ≡ true
 
-or_left : (a b : Bool) → (a || b) ≡ false → a ≡ false
-or_left true b e = e
-or_left false b e = refl
-
-or_right : (a b : Bool) → (a || b) ≡ false → b ≡ false
-or_right true b e = absurd (true≢false e)
-or_right false b e = e
-
 new_case : (id : TxnId) (v : Decision) (p : Pending) (ps : List Pending) → p.part.id ≡ id → list_any (λ (z : Pending). not (same_id z.part.id p.part.id) && same_stamp (key z) (decided_stamp v)) ps ≡ false → (q : Pending) → In q ps → key q ≡ decided_stamp v → (b : Bool) → same_id q.part.id p.part.id ≡ b → same_id q.part.id id ≡ true
 new_case id v p ps e none q k s true d = subst (λ z. same_id q.part.id z ≡ true) e d
 new_case id v p ps e none q k s false d =
@@ -111,8 +105,8 @@ learns_clash id v x p i e f c =
       is = e;
       verdict = id_equal v.id p.part.id own.0 ∙ e;
       row = own.1;
-      again = or_left (has_learnt_other (decided_stamp v) p.learnt) _ c;
-      new = λ q k s. new_case id v p x.pending e (or_right (has_learnt_other (decided_stamp v) p.learnt) _ c) q k s (same_id q.part.id p.part.id) refl;
+      again = (or_parts (has_learnt_other (decided_stamp v) p.learnt) _ c).0;
+      new = λ q k s. new_case id v p x.pending e (or_parts (has_learnt_other (decided_stamp v) p.learnt) _ c).1 q k s (same_id q.part.id p.part.id) refl;
     }
 
 learns_checks : (id : TxnId) (v : Decision) (x : TopicState) (p : Pending) → In p x.pending → p.part.id ≡ id → (a b : Bool) → is_foreign v p ≡ a → clashes v p x.pending ≡ b → learn_fault_of v x.pending (Some p) ≡ None → Learns id v x
@@ -230,13 +224,10 @@ Sound-cancelled id x h = record {
 
 -- ---- release
 
-last_push : (base : Stamp) (rows : List LogRow) (r : LogRow) → r.stamp ≡ last_stamp base (rows ++ r ∷ [])
+-- after a push the last stamp is that of the new row
+pub last_push : (base : Stamp) (rows : List LogRow) (r : LogRow) → r.stamp ≡ last_stamp base (rows ++ r ∷ [])
 last_push base [] r = refl
 last_push base (q ∷ rows) r = last_push q.stamp rows r
-
-push_length : {X : Type 0} (xs : List X) (x : X) → length (xs ++ x ∷ []) ≡ suc (length xs)
-push_length [] x = refl
-push_length (y ∷ xs) x = ap suc (push_length xs x)
 
 filter_lt_case : {X : Type 0} (n : ℕ) (b : Bool) (x : X) (xs : List X) → length xs < n → length (cond b (x ∷ xs) xs) < suc n
 filter_lt_case n true x xs l = omega arith
@@ -282,7 +273,7 @@ Sound-released takes p x h due =
           (Queue-delivered takes x.base x.frontier x.held (row_of p) (item_of p) m.from (next_of x p h i) (h.queues m.from m.stands));
       limit =
           let l = filter_lt (λ (q : Pending). not (same_id q.part.id p.part.id)) p x.pending i (rw (id_itself p.part.id) refl) in
-          let m = push_length x.held (row_of p) in
+          let m = length_push x.held (row_of p) in
           let r : length x.pending + length x.held ≤ x.log_limit = h.limit in omega arith;
     }
 
@@ -303,8 +294,8 @@ Sound-subscribed number x h free = record {
   above = h.above;
   clock_keys = h.clock_keys;
   clock_frontier = h.clock_frontier;
-  numbers = Numbers-insert _ x.subscriptions h.numbers free;
-  queues = entry_one (λ (e : Entry). IsQueueOf x.base x.frontier x.held e.from e.to e.accepted) x.subscriptions _ h.queues
+  numbers = rises_inserted (λ (e : Entry). e.number) _ x.subscriptions h.numbers free;
+  queues = insert_one _ (λ (e : Entry). IsQueueOf x.base x.frontier x.held e.from e.to e.accepted) x.subscriptions _ h.queues
       (Queue-new x.base x.frontier x.held h.past);
   limit = h.limit;
 }

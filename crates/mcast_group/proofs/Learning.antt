@@ -1,26 +1,29 @@
 -- A stamp that is learnt, and verdicts that are found.
 use Rattle.std.proofs.Common.{◌≡◌, ℕ, zero, suc, ◌+◌, ◌<◌, ◌≤◌, Bool, true, false, cond, if◌then◌else◌, inl, inr, List, [], ◌∷◌, ◌++◌, map, length, get_or, Option, Some, None, refl, sym, ap, subst, ◌∙◌, arith}
+use Rattle.std.specs.List.{position}
+use Rattle.std.specs.Option.{is_some}
+use Rattle.std.proofs.lemmas.Bool.{true≢false, false≢true}
 use Rattle.std.proofs.lemmas.List.{length_push}
 use Rattle.mcast_txn.specs.declared.id.TxnId.{TxnId}
 use Rattle.mcast_txn.specs.declared.stamp.Stamp.{Stamp}
 use Rattle.mcast_txn.specs.Lists.{In}
-use Rattle.mcast_txn.specs.Ids.{same_id, id_lt}
+use Rattle.mcast_txn.specs.Ids.{same_id}
 use Rattle.mcast_txn.specs.Ballot.{Decision}
 use Rattle.mcast_txn.specs.Transaction.{TopicPart}
 use Rattle.mcast_txn.specs.Span.{LogRow}
 use Rattle.sub_queue.specs.Shown.{Shown}
 use Rattle.mcast_txn.proofs.Orders.{id_itself, id_same}
-use Rattle.std.proofs.lemmas.Bool.Decides.{nat_tests}
 use Rattle.mcast_group.specs.declared.fault.LearnFault.{LearnFault}
 use Rattle.mcast_group.specs.declared.subscription.Subscription.{Subscription}
 use Rattle.mcast_group.specs.Sound.{IsSound, RisesById}
-use Rattle.mcast_group.specs.Machine.{TopicState, Pending, Entry, decided_stamp, key, learn_fault, after_learn, with_stamp, after_try, after_tries, due_part, after_release, row_of}
+use Rattle.mcast_group.specs.Machine.{TopicState, Pending, Entry, decided_stamp, find_pending, key, learn_fault, learn_fault_of, after_learn, with_stamp, after_try, after_tries, due_part, after_release, row_of}
 use Rattle.mcast_group.specs.Group.{AreFound, CanLearn, GroupState, Tries, TriesAll, Turns, group_after_releases, group_after_release, group_after_tries}
 use Rattle.mcast_group.specs.CellGroup.{open_count}
 use Rattle.mcast_group.specs.Inner.Copies.{HaveCopies}
 use Rattle.mcast_group.specs.Inner.GroupInvariant.{IsKept}
-use Rattle.mcast_group.proofs.Parts.{map_length, told_how, after_release_if}
+use Rattle.mcast_group.proofs.Parts.{map_length, told_how, after_release_if, earlier_differs}
 use Rattle.mcast_group.proofs.Indices.{part_at as index_of_part}
+use Rattle.mcast_group.proofs.ByKey.{own_index}
 use Rattle.mcast_group.proofs.Keeping.{Learns, key_past, learns_is, Sound-learned}
 use Rattle.mcast_txn.specs.Stamp.{stamp_lt}
 use Rattle.mcast_txn.proofs.Members.{In-get_or}
@@ -67,18 +70,32 @@ may_learn id i stamp x h can =
 
 -- ---- one part
 
+-- why the part doesn't learn whose index is found for a transaction is why that transaction's doesn't
+pub fault_found : (id : TxnId) (v : Decision) (ps : List Pending) (i : ℕ) (d : Pending) → position (λ (p : Pending). same_id p.part.id id) ps ≡ Some i → learn_fault_of v ps (Some (get_or ps i d)) ≡ learn_fault_of v ps (find_pending id ps)
+fault_found id v ps i d e = ap (learn_fault_of v ps) (sym (index_of_part id ps i d e).found)
+
+-- why the part at an index doesn't learn is why its transaction's doesn't
+pub fault_at : (v : Decision) (x : TopicState) (i : ℕ) (p : Pending) → RisesById x.pending → i < length x.pending → p ≡ get_or x.pending i p → learn_fault_of v x.pending (Some (get_or x.pending i p)) ≡ learn_fault p.part.id v x
+fault_at v x i p rises l e = fault_found p.part.id v x.pending i p (own_index x.pending i p rises l e)
+
+-- no fault
+pub is_allowed : (o : Option LearnFault) → is_some o ≡ false → o ≡ None
+is_allowed None e = refl
+is_allowed (Some fault) e = absurd (true≢false e)
+
 -- what was found is refused
-pub tried_fault : (finds : TopicPart → Option Decision → Type 0) (p : Pending) (g : GroupState) (o : Option Decision) (v : Decision) (fault : LearnFault) → finds p.part o → o ≡ Some v → learn_fault p.part.id v g.topic ≡ Some fault → Tries finds p g g
-tried_fault finds p g o v fault h e k =
-    (Some v, subst (finds p.part) e h, ap (λ (x : TopicState). record { topic = x; rooms = g.rooms }) (sym (same k)))
+pub tried_fault : (finds : TopicPart → Option Decision → Type 0) (p : Pending) (g : GroupState) (o : Option Decision) (v : Decision) → finds p.part o → o ≡ Some v → is_some (learn_fault p.part.id v g.topic) ≡ true → Tries finds p g g
+tried_fault finds p g o v h e k =
+    (Some v, subst (finds p.part) e h, ap (λ (x : TopicState). record { topic = x; gauges = g.gauges }) (sym (same (learn_fault p.part.id v g.topic) k)))
   where
-    same : learn_fault p.part.id v g.topic ≡ Some fault → after_try p.part.id (Some v) g.topic ≡ g.topic
-    same k = rw (k, after_try) refl
+    same : (o : Option LearnFault) → is_some o ≡ true → let y : TopicState = elim o [ None ↦ after_learn p.part.id (decided_stamp v) g.topic | Some fault ↦ g.topic ] in y ≡ g.topic
+    same None k = absurd (false≢true k)
+    same (Some fault) k = refl
 
 -- what was found is learnt
 pub tried_learns : (finds : TopicPart → Option Decision → Type 0) (p : Pending) (g new : GroupState) (o : Option Decision) (v : Decision) (stamp : Stamp) → finds p.part o → o ≡ Some v → learn_fault p.part.id v g.topic ≡ None → stamp ≡ decided_stamp v → new ≡ record g { topic = after_learn p.part.id stamp g.topic } → Tries finds p g new
 tried_learns finds p g new o v stamp h e k s n =
-    (Some v, subst (finds p.part) e h, n ∙ ap (λ (x : TopicState). record { topic = x; rooms = g.rooms }) (ap (λ (z : Stamp). after_learn p.part.id z g.topic) s ∙ sym (same k)))
+    (Some v, subst (finds p.part) e h, n ∙ ap (λ (x : TopicState). record { topic = x; gauges = g.gauges }) (ap (λ (z : Stamp). after_learn p.part.id z g.topic) s ∙ sym (same k)))
   where
     same : learn_fault p.part.id v g.topic ≡ None → after_try p.part.id (Some v) g.topic ≡ after_learn p.part.id (decided_stamp v) g.topic
     same k = rw (k, after_try) refl
@@ -165,9 +182,6 @@ found_same f h [] (p ∷ ps) e a = a
 found_same f h (b ∷ found) [] e a = a
 found_same f h (b ∷ found) (p ∷ ps) e a = (e p (inl refl) ∙ a.0, found_same f h found ps (λ q k. e q (inr k)) a.1)
 
-lower_differs : (a b : TxnId) → id_lt a b ≡ true → same_id a b ≡ false
-lower_differs a b e = grind (arith, nat_tests)
-
 -- found_of gives for each part what was found for it
 pub has_found : (found : List (Option Decision)) (ps : List Pending) → RisesById ps → length found ≡ length ps → HasFound (found_of ps found) found ps
 has_found [] [] h l = tt
@@ -175,7 +189,7 @@ has_found [] (p ∷ ps) h l = absurd (omega arith)
 has_found (a ∷ found) [] h l = absurd (omega arith)
 has_found (a ∷ found) (p ∷ ps) h l = (
   ap (λ (t : Bool). cond t a (found_of ps found p.part.id)) (id_itself p.part.id),
-  found_same (found_of ps found) (found_of (p ∷ ps) (a ∷ found)) found ps (λ q k. ap (λ (t : Bool). cond t a (found_of ps found q.part.id)) (lower_differs p.part.id q.part.id (h.0 q k))) (has_found found ps h.1 (omega arith)),
+  found_same (found_of ps found) (found_of (p ∷ ps) (a ∷ found)) found ps (λ q k. ap (λ (t : Bool). cond t a (found_of ps found q.part.id)) (earlier_differs p.part.id q.part.id (h.0 q k))) (has_found found ps h.1 (omega arith)),
 )
 
 are_found : (finds : TopicPart → Option Decision → Type 0) (find : TxnId → Option Decision) (found : List (Option Decision)) (ps : List Pending) → HasFound find found ps → FoundEach finds found ps → AreFound finds find ps
@@ -198,7 +212,7 @@ all_tried finds found g new h l k e =
     let has = has_found found g.topic.pending h l in (
       found_of g.topic.pending found,
       are_found finds (found_of g.topic.pending found) found g.topic.pending has k,
-      e ∙ ap (λ (x : TopicState). record { topic = x; rooms = g.rooms }) (each_all (found_of g.topic.pending found) found g.topic.pending g.topic has),
+      e ∙ ap (λ (x : TopicState). record { topic = x; gauges = g.gauges }) (each_all (found_of g.topic.pending found) found g.topic.pending g.topic has),
     )
 
 -- ---- a turn takes no row from the log

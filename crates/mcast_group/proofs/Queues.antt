@@ -1,5 +1,5 @@
 -- What a queue accepted, beside the held rows.
-use Rattle.std.proofs.Common.{◌≡◌, ℕ, Bool, true, false, cond, not, ◌⊎◌, inl, inr, List, [], ◌∷◌, ◌++◌, Option, Some, None, refl, sym, ap, subst, ◌∙◌}
+use Rattle.std.proofs.Common.{◌≡◌, ℕ, Bool, true, false, cond, not, ◌⊎◌, inl, inr, List, [], ◌∷◌, ◌++◌, Option, Some, None, refl, sym, ap, subst, ◌∙◌, append_assoc}
 use Rattle.std.proofs.lemmas.Bool.{true≢false, and_parts, and_from}
 use Rattle.mcast_txn.specs.Stamp.{stamp_lt}
 use Rattle.mcast_txn.specs.Lists.{In}
@@ -168,17 +168,13 @@ nothing_more : (xs : List Item) → xs ≡ xs ++ []
 nothing_more [] = refl
 nothing_more (x ∷ xs) = ap (λ z. x ∷ z) (nothing_more xs)
 
-append_again : (xs ys zs : List Item) → (xs ++ ys) ++ zs ≡ xs ++ (ys ++ zs)
-append_again [] ys zs = refl
-append_again (x ∷ xs) ys zs = ap (λ z. x ∷ z) (append_again xs ys zs)
-
 -- More holds of a list and itself
 pub More-same : (xs : List Item) → More xs xs
 More-same xs = record { more = []; is = nothing_more xs }
 
 -- More is transitive
 pub More-then : (xs ys zs : List Item) → More xs ys → More ys zs → More xs zs
-More-then xs ys zs a b = record { more = a.more ++ b.more; is = b.is ∙ (ap (λ z. z ++ b.more) a.is ∙ append_again xs a.more b.more) }
+More-then xs ys zs a b = record { more = a.more ++ b.more; is = b.is ∙ (ap (λ z. z ++ b.more) a.is ∙ append_assoc xs a.more b.more) }
 
 delivered_more : (takes : Entry → Bool) (frontier : Stamp) (i : Item) (number : ℕ) (from : Stamp) (to : Option Stamp) (accepted : List Item) → More accepted (entry_after takes frontier i (entry number from to accepted)).accepted
 delivered_more takes frontier i number from None accepted = by (takes (entry number from None accepted))

@@ -1,10 +1,10 @@
 -- A release, given to each subscription.
-use Rattle.std.proofs.Common.{◌≡◌, ◌≢◌, ℕ, zero, suc, ◌+◌, ◌<◌, ◌≤◌, ◌==◌, Bool, true, false, cond, if◌then◌else◌, inl, inr, List, [], ◌∷◌, ◌++◌, map, length, get_or, Option, Some, None, refl, sym, ap, subst, ◌∙◌, arith}
+use Rattle.std.proofs.Common.{◌≡◌, ℕ, zero, suc, ◌+◌, ◌<◌, ◌≤◌, ◌==◌, Bool, true, false, cond, if◌then◌else◌, inl, inr, List, [], ◌∷◌, ◌++◌, map, length, get_or, Option, Some, None, refl, sym, ap, subst, ◌∙◌, arith}
 use Rattle.std.specs.List.{remove}
 use Rattle.std.specs.Option.{is_some}
-use Rattle.std.proofs.lemmas.Bool.Decides.{nat_tests}
 use Rattle.std.proofs.lemmas.List.{length-map, length_push, get_or_default}
 use Rattle.std.proofs.lemmas.List.Edits.{length-remove}
+use Rattle.std.proofs.lemmas.Bool.{eq-eqb, ne_eqb}
 use Rattle.mcast_txn.specs.declared.stamp.Stamp.{Stamp}
 use Rattle.mcast_txn.specs.Lists.{In}
 use Rattle.mcast_txn.specs.Stamp.{stamp_lt}
@@ -12,7 +12,7 @@ use Rattle.mcast_txn.specs.Span.{Item}
 use Rattle.mcast_txn.specs.Transaction.{TopicPart}
 use Rattle.mcast_txn.proofs.Members.{In-map, In-map_cases, In-get_or}
 use Rattle.mcast_txn.proofs.Orders.{le_lt}
-use Rattle.sub_queue.specs.Shown.{Shown, Room, IsAboveLast}
+use Rattle.sub_queue.specs.Shown.{Shown, Gauge, IsAboveLast}
 use Rattle.mcast_group.specs.declared.subscription.Subscription.{Subscription}
 use Rattle.mcast_group.specs.Sound.{IsSound}
 use Rattle.mcast_group.specs.Machine.{TopicState, Entry, Pending, entry_after, due_part, item_of, key, least_part, after_release, after_release_of, row_of}
@@ -20,10 +20,11 @@ use Rattle.mcast_group.specs.Group.{GroupState, OutletsAnswer, AnswersEach, Rele
 use Rattle.mcast_group.specs.Sound.{NumbersDiffer}
 use Rattle.mcast_group.specs.CellGroup.{open_count}
 use Rattle.mcast_group.specs.Inner.Copies.{AreOf, HaveCopies}
-use Rattle.mcast_group.specs.Inner.GroupInvariant.{Gave, IsKept, IsReady, MayGive, entry_of, room_of}
+use Rattle.mcast_group.specs.Inner.GroupInvariant.{Gave, IsKept, IsReady, MayGive, entry_of, gauge_of}
 use Rattle.mcast_group.proofs.Groups.{due_here, release_is, release_none}
 use Rattle.mcast_group.proofs.Parts.{due_is, map_length}
 use Rattle.mcast_group.proofs.Turning.{Sound-release}
+use Rattle.mcast_group.proofs.Giving.{get_or-map}
 
 -- ---- answers as a function of the entry
 
@@ -46,23 +47,18 @@ answers_same t u [] (e ∷ es) h a = a
 answers_same t u (b ∷ bs) [] h a = a
 answers_same t u (b ∷ bs) (e ∷ es) h a = (h e (inl refl) ∙ a.0, answers_same t u bs es (λ f k. h f (inr k)) a.1)
 
-same_number : (n : ℕ) → (n == n) ≡ true
-same_number n = grind (arith, nat_tests)
-
-other_number : (n m : ℕ) → n ≢ m → (n == m) ≡ false
-other_number n m h = grind (arith, nat_tests)
-
 -- answer_of gives each entry its answer of the list
 pub has_answers : (bs : List Bool) (es : List Entry) → NumbersDiffer es → length bs ≡ length es → HasAnswers (answer_of es bs) bs es
 has_answers [] [] h l = tt
 has_answers [] (e ∷ es) h l = absurd (omega arith)
 has_answers (b ∷ bs) [] h l = absurd (omega arith)
 has_answers (b ∷ bs) (e ∷ es) h l = (
-  ap (λ (t : Bool). cond t b (answer_of es bs e)) (same_number e.number),
-  answers_same (answer_of es bs) (answer_of (e ∷ es) (b ∷ bs)) bs es (λ f k. ap (λ (t : Bool). cond t b (answer_of es bs f)) (other_number f.number e.number (h.0 f k))) (has_answers bs es h.1 (omega arith)),
+  ap (λ (t : Bool). cond t b (answer_of es bs e)) (eq-eqb e.number e.number refl),
+  answers_same (answer_of es bs) (answer_of (e ∷ es) (b ∷ bs)) bs es (λ f k. ap (λ (t : Bool). cond t b (answer_of es bs f)) (ne_eqb f.number e.number (h.0 f k))) (has_answers bs es h.1 (omega arith)),
 )
 
-delivered_by : (t u : Entry → Bool) (f : Stamp) (i : Item) (e : Entry) → t e ≡ u e → entry_after t f i e ≡ entry_after u f i e
+-- an entry after an item is the same under two tests that agree of it
+pub delivered_by : (t u : Entry → Bool) (f : Stamp) (i : Item) (e : Entry) → t e ≡ u e → entry_after t f i e ≡ entry_after u f i e
 delivered_by t u f i e k = ap (λ (b : Bool). entry_after (λ _. b) f i e) k
 
 -- the entries after the answers of a list are those after a function that gives them
@@ -75,7 +71,7 @@ each_is takes f i (b ∷ bs) (e ∷ es) h =
     rw (delivered_by (λ _. b) takes f i e (sym h.0), ih) refl
 
 -- answers that may be given one by one may be given by a function that gives them
-pub may_is : {Q : Type 0} (shown : Q → Shown) (may : Shown → Bool → Type 0) (takes : Entry → Bool) (bs : List Bool) (subs : List (Subscription Q)) → HasAnswers takes bs (map (entry_of shown) subs) → MayGive shown may bs subs → MayAnswer may takes (map (entry_of shown) subs) (map (room_of shown) subs)
+pub may_is : {Q : Type 0} (shown : Q → Shown) (may : Shown → Bool → Type 0) (takes : Entry → Bool) (bs : List Bool) (subs : List (Subscription Q)) → HasAnswers takes bs (map (entry_of shown) subs) → MayGive shown may bs subs → MayAnswer may takes (map (entry_of shown) subs) (map (gauge_of shown) subs)
 may_is shown may takes [] [] h a = tt
 may_is shown may takes [] (s ∷ subs) h a = absurd h
 may_is shown may takes (b ∷ bs) [] h a = absurd h
@@ -123,11 +119,6 @@ placed_at x (y ∷ xs) (inr h) =
     let p = placed_at x xs h in
     let l : p.index < length xs = p.within in
     record { index = suc p.index; within = omega arith; is = p.is }
-
-map_at : {X Y : Type 0} (f : X → Y) (xs : List X) (i : ℕ) (d : X) → get_or (map f xs) i (f d) ≡ f (get_or xs i d)
-map_at f [] i d = refl
-map_at f (x ∷ xs) zero d = refl
-map_at f (x ∷ xs) (suc i) d = map_at f xs i d
 
 -- what is at an index of a mapped list is f of what is there in the list
 pub map_within : {X Y : Type 0} (f : X → Y) (xs : List X) (i : ℕ) (d : Y) (e : X) → i < length xs → get_or (map f xs) i d ≡ f (get_or xs i e)
@@ -193,7 +184,7 @@ module _ {Q : Type 0} (shown : Q → Shown) (spare : Q → ℕ) (x : TopicState)
             sym (map_within (entry_of shown) new k (entry_of shown s) s w.within ∙ ap (entry_of shown) (w.is s))
             ∙ (ap (λ (es : List Entry). get_or es k (entry_of shown s)) (sym are ∙ (subs ∙ ap (map (entry_after takes x.frontier (item_of p))) is))
             ∙ (map_within (entry_after takes x.frontier (item_of p)) (map (entry_of shown) old) k (entry_of shown s) (entry_of shown s) (rw length-map in_old)
-            ∙ ap (entry_after takes x.frontier (item_of p)) (map_at (entry_of shown) old k s))) in
+            ∙ ap (entry_after takes x.frontier (item_of p)) (get_or-map (entry_of shown) old k s))) in
             let was : d.to ≡ None = open_before takes x.frontier (item_of p) (entry_of shown d) (sym (ap (λ (z : Entry). z.to) here) ∙ n) in
             let before : length x.pending ≤ spare d.outlet = h.spares d (In-get_or old k s in_old) was in
             let after : spare d.outlet ≤ spare s.outlet + 1 = subst (λ (z : Subscription Q). spare d.outlet ≤ spare z.outlet + 1) (w.is s) (left k s in_old) in
@@ -204,13 +195,13 @@ module _ {Q : Type 0} (shown : Q → Shown) (spare : Q → ℕ) (x : TopicState)
 -- ---- what is given is a release
 
 -- a function of the entry, which gives the answers
-pub record Taken (may : Shown → Bool → Type 0) (f : Stamp) (item : Item) (es new : List Entry) (rooms : List Room) : Type 0 where
+pub record Taken (may : Shown → Bool → Type 0) (f : Stamp) (item : Item) (es new : List Entry) (gauges : List Gauge) : Type 0 where
   pub takes : Entry → Bool
-  pub answered : MayAnswer may takes es rooms
+  pub answered : MayAnswer may takes es gauges
   pub is : new ≡ map (entry_after takes f item) es
 
 -- where an item was given to each subscription, the entries are the machine's, with these answers
-pub taken : {Q : Type 0} (shown : Q → Shown) (may : Shown → Bool → Type 0) (f : Stamp) (item : Item) (old new : List (Subscription Q)) → NumbersDiffer (map (entry_of shown) old) → Gave shown may f item old new → Taken may f item (map (entry_of shown) old) (map (entry_of shown) new) (map (room_of shown) old)
+pub taken : {Q : Type 0} (shown : Q → Shown) (may : Shown → Bool → Type 0) (f : Stamp) (item : Item) (old new : List (Subscription Q)) → NumbersDiffer (map (entry_of shown) old) → Gave shown may f item old new → Taken may f item (map (entry_of shown) old) (map (entry_of shown) new) (map (gauge_of shown) old)
 taken shown may f item old new h gave =
     let es = map (entry_of shown) old in
     let has = has_answers gave.answers es h (gave.many ∙ sym (map_length (entry_of shown) old)) in
@@ -222,7 +213,7 @@ taken shown may f item old new h gave =
 
 -- nothing is due, and nothing changes
 pub nothing : (takes : Entry → Bool) (g : GroupState) → due_part g.topic ≡ None → g ≡ group_after_release takes g
-nothing takes g e = ap (λ (x : TopicState). record { topic = x; rooms = g.rooms }) (sym (release_none takes g.topic e))
+nothing takes g e = ap (λ (x : TopicState). record { topic = x; gauges = g.gauges }) (sym (release_none takes g.topic e))
 
 -- ---- what release answers
 
@@ -234,12 +225,12 @@ none_released may g e = ((λ _. true), (λ p k. absurd (some_none p (sym k ∙ e
     some_none p k = cc
 
 -- where a part is due, giving its item to each entry is a release
-pub some_released : (may : Shown → Bool → Type 0) (x y : TopicState) (rooms after : List Room) (p : Pending) (es : List Entry) → due_part x ≡ Some p → (t : Taken may x.frontier (item_of p) x.subscriptions es rooms) → y ≡ after_release_of t.takes p x → after ≡ rooms → Releases may (record { topic = x; rooms = rooms }) (record { topic = y; rooms = after })
-some_released may x y rooms after p es due t e k = (
+pub some_released : (may : Shown → Bool → Type 0) (x y : TopicState) (gauges after : List Gauge) (p : Pending) (es : List Entry) → due_part x ≡ Some p → (t : Taken may x.frontier (item_of p) x.subscriptions es gauges) → y ≡ after_release_of t.takes p x → after ≡ gauges → Releases may (record { topic = x; gauges = gauges }) (record { topic = y; gauges = after })
+some_released may x y gauges after p es due t e k = (
   t.takes,
   (λ q l. t.answered),
-  ap (λ (z : TopicState). record { topic = z; rooms = after }) (e ∙ sym (release_is t.takes x p due))
-      ∙ ap (λ (z : List Room). record { topic = after_release t.takes x; rooms = z }) k,
+  ap (λ (z : TopicState). record { topic = z; gauges = after }) (e ∙ sym (release_is t.takes x p due))
+      ∙ ap (λ (z : List Gauge). record { topic = after_release t.takes x; gauges = z }) k,
 )
 
 -- the part at the index of least key is due, once it has learnt

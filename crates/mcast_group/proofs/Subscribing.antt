@@ -1,26 +1,28 @@
 -- Subscriptions that begin and end.
-use Rattle.std.proofs.Common.{◌≡◌, ◌≢◌, ℕ, zero, suc, ◌+◌, ◌<◌, ◌≤◌, ◌==◌, Bool, true, false, cond, not, ◌||◌, inl, inr, ◌⊎◌, nat_lt, List, [], ◌∷◌, map, length, get_or, Some, None, refl, sym, ap, subst, ◌∙◌, arith}
+use Rattle.std.proofs.Common.{◌≡◌, ◌≢◌, ℕ, zero, suc, ◌+◌, ◌<◌, ◌≤◌, ◌==◌, Bool, true, false, cond, not, ◌||◌, inl, inr, nat_lt, List, [], ◌∷◌, map, length, get_or, Some, None, refl, sym, ap, subst, ◌∙◌, arith}
 use Rattle.std.specs.List.{list_any, position, remove, filter}
 use Rattle.std.specs.Option.{is_some}
 use Rattle.std.proofs.lemmas.Bool.Decides.{nat_tests}
 use Rattle.mcast_group.proofs.Opens.{open_with}
 use Rattle.std.proofs.lemmas.List.Quantifiers.{position-Some}
+use Rattle.std.proofs.lemmas.Bool.{eqb-true, ne_eqb}
+use Rattle.mcast_txn.proofs.Inserting.{In-insert_cases, map_insert}
 use Rattle.mcast_txn.specs.declared.stamp.Stamp.{Stamp}
 use Rattle.mcast_txn.specs.Lists.{In}
 use Rattle.mcast_txn.specs.Transaction.{TopicPart}
 use Rattle.mcast_txn.specs.Span.{LogRow}
 use Rattle.mcast_txn.specs.declared.id.Topic.{Topic}
-use Rattle.sub_queue.specs.Shown.{Shown, Room}
+use Rattle.sub_queue.specs.Shown.{Shown, Gauge}
 use Rattle.mcast_group.specs.declared.state.SubState.{SubState}
 use Rattle.mcast_group.specs.Machine.{state_of_entry}
 use Rattle.mcast_group.specs.declared.subscription.Subscription.{Subscription}
 use Rattle.mcast_group.specs.declared.fault.SubFault.TheVariants.{SubInUse}
 use Rattle.mcast_group.specs.Machine.{TopicState, Entry, Pending, find_entry, insert_entry, subscribe_fault, after_subscribe, after_unsubscribe, unsubscribe_fault}
-use Rattle.mcast_group.specs.Group.{topic_state, room_at, rooms_with, rooms_without}
+use Rattle.mcast_group.specs.Group.{topic_state, gauge_at, gauges_with, gauges_without}
 use Rattle.mcast_group.specs.Sound.{NumbersDiffer}
 use Rattle.mcast_group.specs.CellGroup.{open_count}
 use Rattle.mcast_group.specs.Inner.Copies.{HaveCopies}
-use Rattle.mcast_group.specs.Inner.GroupInvariant.{IsKept, entry_of, room_of}
+use Rattle.mcast_group.specs.Inner.GroupInvariant.{IsKept, entry_of, gauge_of}
 use Rattle.mcast_group.specs.Inner.Subscriptions.{insert_sub}
 use Rattle.mcast_group.proofs.Giving.{none_of}
 use Rattle.mcast_group.proofs.Indices.{none_at, some_at}
@@ -50,48 +52,31 @@ not_in_use {Q = Q} shown x n subs e p =
 
 -- ---- a new one
 
--- a subscription after an insertion was there before, or is the new one
-In-sub_cases : {Q : Type 0} (z s : Subscription Q) (subs : List (Subscription Q)) → In z (insert_sub s subs) → In z subs ⊎ (s ≡ z)
-In-sub_cases z s [] (inl e) = inr e
-In-sub_cases z s [] (inr i) = absurd i
-In-sub_cases {Q = Q} z s (y ∷ ys) i = go (nat_lt s.number y.number) (In-sub_cases z s ys) i
-  where
-    go : (b : Bool) → (In z (insert_sub s ys) → In z ys ⊎ (s ≡ z)) → In z (cond b (s ∷ y ∷ ys) (y ∷ insert_sub s ys)) → In z (y ∷ ys) ⊎ (s ≡ z)
-    go true ih (inl e) = inr e
-    go true ih (inr k) = inl k
-    go false ih (inl e) = inl (inl e)
-    go false ih (inr k) = elim (ih k) [ inl o ↦ inl (inr o) | inr e ↦ inr e ]
-
 -- IsKept holds after a subscription began, with spare and copies for it
 pub kept_subscribed : {Q : Type 0} (shown : Q → Shown) (spare : Q → ℕ) (x y : TopicState) (capacity : ℕ) (copies more : List (List TopicPart)) (subs : List (Subscription Q)) (s : Subscription Q) → IsKept spare x capacity copies subs → subscribe_fault s.number x ≡ None → y ≡ after_subscribe s.number x → (s.to ≡ None → length x.pending ≤ spare s.outlet) → HaveCopies (open_count x.subscriptions + 1) x.pending more → IsKept spare y capacity more (insert_sub s subs)
 kept_subscribed shown spare x y capacity copies more subs s h none e left copied =
     subst (λ (z : TopicState). IsKept spare z capacity more (insert_sub s subs)) (sym e) (record {
       sound = keeps_sound.subscribes s.number x h.sound none;
       room = h.room;
-      spares = λ z k n. elim (In-sub_cases z s subs k) [
-        | inl o ↦ h.spares z o n
-        | inr m ↦ subst (λ (w : Subscription _). length x.pending ≤ spare w.outlet) m (left (subst (λ (w : Subscription _). w.to ≡ None) (sym m) n))
+      spares = λ z k n. elim (In-insert_cases _ z s subs k) [
+        | inl m ↦ subst (λ (w : Subscription _). length x.pending ≤ spare w.outlet) m (left (subst (λ (w : Subscription _). w.to ≡ None) (sym m) n))
+        | inr o ↦ h.spares z o n
       ];
       copied = subst (λ (k : ℕ). HaveCopies k x.pending more) (sym (open_with _ x.subscriptions refl)) copied;
     })
 
 -- the entries after an insertion are the machine's
 pub entries_with : {Q : Type 0} (shown : Q → Shown) (s : Subscription Q) (subs : List (Subscription Q)) → map (entry_of shown) (insert_sub s subs) ≡ insert_entry (entry_of shown s) (map (entry_of shown) subs)
-entries_with shown s [] = refl
-entries_with {Q = Q} shown s (y ∷ ys) = go (nat_lt s.number y.number) (entries_with shown s ys)
-  where
-    go : (b : Bool) → map (entry_of shown) (insert_sub s ys) ≡ insert_entry (entry_of shown s) (map (entry_of shown) ys) → map (entry_of shown) (cond b (s ∷ y ∷ ys) (y ∷ insert_sub s ys)) ≡ cond b (entry_of shown s ∷ entry_of shown y ∷ map (entry_of shown) ys) (entry_of shown y ∷ insert_entry (entry_of shown s) (map (entry_of shown) ys))
-    go true ih = refl
-    go false ih = ap (λ (es : List Entry). entry_of shown y ∷ es) ih
+entries_with shown s subs = map_insert _ _ (entry_of shown) s subs (λ y. refl)
 
--- the rooms after an insertion have the new one where its entry is
-pub rooms_are_with : {Q : Type 0} (shown : Q → Shown) (s : Subscription Q) (subs : List (Subscription Q)) → map (room_of shown) (insert_sub s subs) ≡ rooms_with s.number (room_of shown s) (map (entry_of shown) subs) (map (room_of shown) subs)
-rooms_are_with shown s [] = refl
-rooms_are_with {Q = Q} shown s (y ∷ ys) = go (nat_lt s.number y.number) (rooms_are_with shown s ys)
+-- the gauges after an insertion have the new one where its entry is
+pub gauges_are_with : {Q : Type 0} (shown : Q → Shown) (s : Subscription Q) (subs : List (Subscription Q)) → map (gauge_of shown) (insert_sub s subs) ≡ gauges_with s.number (gauge_of shown s) (map (entry_of shown) subs) (map (gauge_of shown) subs)
+gauges_are_with shown s [] = refl
+gauges_are_with {Q = Q} shown s (y ∷ ys) = go (nat_lt s.number y.number) (gauges_are_with shown s ys)
   where
-    go : (b : Bool) → map (room_of shown) (insert_sub s ys) ≡ rooms_with s.number (room_of shown s) (map (entry_of shown) ys) (map (room_of shown) ys) → map (room_of shown) (cond b (s ∷ y ∷ ys) (y ∷ insert_sub s ys)) ≡ cond b (room_of shown s ∷ room_of shown y ∷ map (room_of shown) ys) (room_of shown y ∷ rooms_with s.number (room_of shown s) (map (entry_of shown) ys) (map (room_of shown) ys))
+    go : (b : Bool) → map (gauge_of shown) (insert_sub s ys) ≡ gauges_with s.number (gauge_of shown s) (map (entry_of shown) ys) (map (gauge_of shown) ys) → map (gauge_of shown) (cond b (s ∷ y ∷ ys) (y ∷ insert_sub s ys)) ≡ cond b (gauge_of shown s ∷ gauge_of shown y ∷ map (gauge_of shown) ys) (gauge_of shown y ∷ gauges_with s.number (gauge_of shown s) (map (entry_of shown) ys) (map (gauge_of shown) ys))
     go true ih = refl
-    go false ih = ap (λ (rs : List Room). room_of shown y ∷ rs) ih
+    go false ih = ap (λ (rs : List Gauge). gauge_of shown y ∷ rs) ih
 
 -- a subscription at its index, with nothing accepted, is the machine's new entry
 pub subscribed_state : {Q : Type 0} (shown : Q → Shown) (t : Topic) (clock limit : ℕ) (ps : List Pending) (base : Stamp) (rows : List LogRow) (f : Stamp) (subs : List (Subscription Q)) (s : Subscription Q) → entry_of shown s ≡ record { number = s.number; from = f; to = None; accepted = [] } → topic_state t clock limit ps base rows f (map (entry_of shown) (insert_sub s subs)) ≡ after_subscribe s.number (topic_state t clock limit ps base rows f (map (entry_of shown) subs))
@@ -103,8 +88,8 @@ subscribed_state shown t clock limit ps base rows f subs s e =
 -- the subscription at an index, which is the first of its number
 pub record EndsAt {Q : Type 0} (shown : Q → Shown) (n : ℕ) (subs : List (Subscription Q)) (i : ℕ) (d : Subscription Q) : Type 0 where
   pub found : find_entry n (map (entry_of shown) subs) ≡ Some (entry_of shown (get_or subs i d))
-  pub roomed : room_at n (map (entry_of shown) subs) (map (room_of shown) subs) ≡ Some (room_of shown (get_or subs i d))
-  pub rooms : rooms_without n (map (entry_of shown) subs) (map (room_of shown) subs) ≡ map (room_of shown) (remove subs i)
+  pub gauged : gauge_at n (map (entry_of shown) subs) (map (gauge_of shown) subs) ≡ Some (gauge_of shown (get_or subs i d))
+  pub gauges : gauges_without n (map (entry_of shown) subs) (map (gauge_of shown) subs) ≡ map (gauge_of shown) (remove subs i)
   pub left : NumbersDiffer (map (entry_of shown) subs) → filter (λ (e : Entry). not (e.number == n)) (map (entry_of shown) subs) ≡ map (entry_of shown) (remove subs i)
 
 -- a test that two numbers are equal holds with the two exchanged
@@ -115,18 +100,11 @@ flip_true a b e = grind (arith, nat_tests)
 pub flip_false : (a b : ℕ) → (a == b) ≡ false → (b == a) ≡ false
 flip_false a b e = grind (arith, nat_tests)
 
--- numbers that pass the test of equality are equal
-pub is_number : (a b : ℕ) → (a == b) ≡ true → a ≡ b
-is_number a b e = grind (arith, nat_tests)
-
--- numbers that differ fail the test of equality
-pub isnt_number : (a b : ℕ) → a ≢ b → (a == b) ≡ false
-isnt_number a b h = grind (arith, nat_tests)
-
-others_stay : (n : ℕ) (es : List Entry) → ((e : Entry) → In e es → e.number ≢ n) → filter (λ (e : Entry). not (e.number == n)) es ≡ es
+-- without a number that no entry has the entries stay
+pub others_stay : (n : ℕ) (es : List Entry) → ((e : Entry) → In e es → e.number ≢ n) → filter (λ (e : Entry). not (e.number == n)) es ≡ es
 others_stay n [] h = refl
 others_stay n (e ∷ es) h =
-    let k : (e.number == n) ≡ false = isnt_number e.number n (h e (inl refl)) in
+    let k : (e.number == n) ≡ false = ne_eqb e.number n (h e (inl refl)) in
     let ih = others_stay n es (λ f i. h f (inr i)) in
     rw (k, ih) refl
 
@@ -135,11 +113,11 @@ pub ends_at : {Q : Type 0} (shown : Q → Shown) (n : ℕ) (subs : List (Subscri
 ends_at shown n [] i d l e f = absurd (omega arith)
 ends_at shown n (s ∷ subs) zero d l e f =
     let m = flip_true s.number n e in
-    let k = is_number s.number n e in
+    let k = eqb-true s.number n e in
     record {
       found = rw e refl;
-      roomed = rw m refl;
-      rooms = rw e refl;
+      gauged = rw m refl;
+      gauges = rw e refl;
       left = λ h. rw e (others_stay n (map (entry_of shown) subs) (λ z i q. h.0 z i (q ∙ sym k)));
     }
 ends_at shown n (s ∷ subs) (suc i) d l e f =
@@ -148,8 +126,8 @@ ends_at shown n (s ∷ subs) (suc i) d l e f =
     let ih = ends_at shown n subs i d (omega arith) e (λ k m. f (suc k) (omega arith)) in
     record {
       found = rw a ih.found;
-      roomed = rw b ih.roomed;
-      rooms = rw a (ap (λ (rs : List Room). room_of shown s ∷ rs) ih.rooms);
+      gauged = rw b ih.gauged;
+      gauges = rw a (ap (λ (rs : List Gauge). gauge_of shown s ∷ rs) ih.gauges);
       left = λ h. rw a (ap (λ (es : List Entry). entry_of shown s ∷ es) (ih.left h.1));
     }
 

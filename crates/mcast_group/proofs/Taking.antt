@@ -1,4 +1,4 @@
--- A take of a subscription: its room alone changes.
+-- A take of a subscription: its gauge alone changes.
 use Rattle.std.proofs.Common.{◌≡◌, ℕ, zero, suc, ◌<◌, ◌≤◌, ◌==◌, Bool, true, false, ◌||◌, inl, inr, ◌⊎◌, List, [], ◌∷◌, map, length, get_or, set, Some, None, refl, sym, ap, subst, ◌∙◌, arith}
 use Rattle.std.specs.List.{list_any, position}
 use Rattle.std.proofs.lemmas.Bool.{true≢false}
@@ -7,12 +7,12 @@ use Rattle.mcast_txn.specs.Lists.{In}
 use Rattle.mcast_txn.specs.Stamp.{zero_stamp}
 use Rattle.mcast_txn.specs.Transaction.{TopicPart}
 use Rattle.mcast_txn.proofs.Members.{In-get_or}
-use Rattle.sub_queue.specs.Shown.{Shown, Room, room_after_take}
+use Rattle.sub_queue.specs.Shown.{Shown, Gauge, gauge_after_take}
 use Rattle.sub_queue.specs.declared.vec_outlet.VecOutlet.{VecOutlet}
 use Rattle.mcast_group.specs.declared.subscription.Subscription.{Subscription}
 use Rattle.mcast_group.specs.Machine.{TopicState}
-use Rattle.mcast_group.specs.Counted.{rooms_after_take}
-use Rattle.mcast_group.specs.Inner.GroupInvariant.{IsKept, entry_of, room_of}
+use Rattle.mcast_group.specs.Counted.{gauges_after_take}
+use Rattle.mcast_group.specs.Inner.GroupInvariant.{IsKept, entry_of, gauge_of}
 use Rattle.mcast_group.proofs.Indices.{none_at}
 use Rattle.mcast_group.proofs.Subscribing.{flip_true, flip_false}
 
@@ -43,37 +43,37 @@ same_length [] (suc i) x = refl
 same_length (y ∷ ys) zero x = refl
 same_length (y ∷ ys) (suc i) x = ap suc (same_length ys i x)
 
--- the room of the first subscription of a number counts one more item as taken
-taken_rooms : {Q : Type 0} (shown : Q → Shown) (n : ℕ) (subs : List (Subscription Q)) (i : ℕ) (d new : Subscription Q) → i < length subs → ((get_or subs i d).number == n) ≡ true → ((k : ℕ) → k < i → ((get_or subs k d).number == n) ≡ false) → room_of shown new ≡ room_after_take (shown (get_or subs i d).outlet) → rooms_after_take n (map (entry_of shown) subs) (map (room_of shown) subs) ≡ map (room_of shown) (set subs i new)
-taken_rooms shown n [] i d new l e f r = absurd (omega arith)
-taken_rooms shown n (s ∷ subs) zero d new l e f r =
+-- the gauge of the first subscription of a number counts one more item as taken
+taken_gauges : {Q : Type 0} (shown : Q → Shown) (n : ℕ) (subs : List (Subscription Q)) (i : ℕ) (d new : Subscription Q) → i < length subs → ((get_or subs i d).number == n) ≡ true → ((k : ℕ) → k < i → ((get_or subs k d).number == n) ≡ false) → gauge_of shown new ≡ gauge_after_take (shown (get_or subs i d).outlet) → gauges_after_take n (map (entry_of shown) subs) (map (gauge_of shown) subs) ≡ map (gauge_of shown) (set subs i new)
+taken_gauges shown n [] i d new l e f r = absurd (omega arith)
+taken_gauges shown n (s ∷ subs) zero d new l e f r =
     let m = flip_true s.number n e in
-    rw m (ap (λ (z : Room). z ∷ map (room_of shown) subs) (sym r))
-taken_rooms shown n (s ∷ subs) (suc i) d new l e f r =
+    rw m (ap (λ (z : Gauge). z ∷ map (gauge_of shown) subs) (sym r))
+taken_gauges shown n (s ∷ subs) (suc i) d new l e f r =
     let a : (s.number == n) ≡ false = f zero (omega arith) in
     let b = flip_false s.number n a in
-    let ih = taken_rooms shown n subs i d new (omega arith) e (λ k m. f (suc k) (omega arith)) r in
-    rw b (ap (λ (rs : List Room). room_of shown s ∷ rs) ih)
+    let ih = taken_gauges shown n subs i d new (omega arith) e (λ k m. f (suc k) (omega arith)) r in
+    rw b (ap (λ (rs : List Gauge). gauge_of shown s ∷ rs) ih)
 
--- the rooms after a take of a number: those with its subscription replaced by the one that took
-pub taken_at : {Q : Type 0} (shown : Q → Shown) (n : ℕ) (subs : List (Subscription Q)) (i : ℕ) (d new : Subscription Q) → position (λ (z : Subscription Q). z.number == n) subs ≡ Some i → room_of shown new ≡ room_after_take (shown (get_or subs i d).outlet) → rooms_after_take n (map (entry_of shown) subs) (map (room_of shown) subs) ≡ map (room_of shown) (set subs i new)
+-- the gauges after a take of a number: those with its subscription replaced by the one that took
+pub taken_at : {Q : Type 0} (shown : Q → Shown) (n : ℕ) (subs : List (Subscription Q)) (i : ℕ) (d new : Subscription Q) → position (λ (z : Subscription Q). z.number == n) subs ≡ Some i → gauge_of shown new ≡ gauge_after_take (shown (get_or subs i d).outlet) → gauges_after_take n (map (entry_of shown) subs) (map (gauge_of shown) subs) ≡ map (gauge_of shown) (set subs i new)
 taken_at {Q = Q} shown n subs i d new e r =
     let k = position-Some (λ (z : Subscription Q). z.number == n) subs i d e in
-    taken_rooms shown n subs i d new k.0 k.1 k.2 r
+    taken_gauges shown n subs i d new k.0 k.1 k.2 r
 
--- where no subscription has the number, each room stays
-none_taken : {Q : Type 0} (shown : Q → Shown) (n : ℕ) (subs : List (Subscription Q)) → list_any (λ (z : Subscription Q). z.number == n) subs ≡ false → rooms_after_take n (map (entry_of shown) subs) (map (room_of shown) subs) ≡ map (room_of shown) subs
+-- where no subscription has the number, each gauge stays
+none_taken : {Q : Type 0} (shown : Q → Shown) (n : ℕ) (subs : List (Subscription Q)) → list_any (λ (z : Subscription Q). z.number == n) subs ≡ false → gauges_after_take n (map (entry_of shown) subs) (map (gauge_of shown) subs) ≡ map (gauge_of shown) subs
 none_taken shown n [] h = refl
 none_taken {Q = Q} shown n (s ∷ subs) h = go (none_taken shown n subs) (s.number == n) refl h
   where
-    go : (list_any (λ (z : Subscription Q). z.number == n) subs ≡ false → rooms_after_take n (map (entry_of shown) subs) (map (room_of shown) subs) ≡ map (room_of shown) subs) → (b : Bool) → (s.number == n) ≡ b → (b || list_any (λ (z : Subscription Q). z.number == n) subs) ≡ false → rooms_after_take n (map (entry_of shown) (s ∷ subs)) (map (room_of shown) (s ∷ subs)) ≡ map (room_of shown) (s ∷ subs)
+    go : (list_any (λ (z : Subscription Q). z.number == n) subs ≡ false → gauges_after_take n (map (entry_of shown) subs) (map (gauge_of shown) subs) ≡ map (gauge_of shown) subs) → (b : Bool) → (s.number == n) ≡ b → (b || list_any (λ (z : Subscription Q). z.number == n) subs) ≡ false → gauges_after_take n (map (entry_of shown) (s ∷ subs)) (map (gauge_of shown) (s ∷ subs)) ≡ map (gauge_of shown) (s ∷ subs)
     go ih true k e = absurd (true≢false e)
     go ih false k e =
         let b = flip_false s.number n k in
-        rw b (ap (λ (rs : List Room). room_of shown s ∷ rs) (ih e))
+        rw b (ap (λ (rs : List Gauge). gauge_of shown s ∷ rs) (ih e))
 
--- where no subscription has the number, a take changes no room
-pub untouched : {Q : Type 0} (shown : Q → Shown) (n : ℕ) (subs : List (Subscription Q)) → position (λ (z : Subscription Q). z.number == n) subs ≡ None → rooms_after_take n (map (entry_of shown) subs) (map (room_of shown) subs) ≡ map (room_of shown) subs
+-- where no subscription has the number, a take changes no gauge
+pub untouched : {Q : Type 0} (shown : Q → Shown) (n : ℕ) (subs : List (Subscription Q)) → position (λ (z : Subscription Q). z.number == n) subs ≡ None → gauges_after_take n (map (entry_of shown) subs) (map (gauge_of shown) subs) ≡ map (gauge_of shown) subs
 untouched {Q = Q} shown n subs e = none_taken shown n subs (none_at (λ (z : Subscription Q). z.number == n) subs e)
 
 -- a group keeps what it keeps where the outlet of one subscription has changed, and not its spare

@@ -1,5 +1,5 @@
 -- Parts that wait to learn their stamp, and what they learn from cells.
-use Rattle.std.proofs.Common.{◌≡◌, ℕ, zero, suc, ◌+◌, ◌<◌, ◌≤◌, Bool, true, false, cond, inl, inr, List, [], ◌∷◌, ◌++◌, map, length, get_or, Option, Some, None, IfSome, refl, sym, ap, subst, ◌∙◌, arith}
+use Rattle.std.proofs.Common.{◌≡◌, ℕ, zero, suc, ◌+◌, ◌<◌, ◌≤◌, Bool, true, false, cond, inl, inr, List, [], ◌∷◌, ◌++◌, map, length, get_or, Option, Some, None, IfSome, refl, sym, ap, subst, ◌∙◌, arith, append-nil, append_assoc}
 use Rattle.std.specs.List.{insert}
 use Rattle.std.specs.List.Sorted.{IsPartitionedBy}
 use Rattle.std.specs.Option.{is_some}
@@ -12,19 +12,19 @@ use Rattle.mcast_txn.specs.Transaction.{TopicPart}
 use Rattle.mcast_txn.specs.declared.id.TxnId.{TxnId}
 use Rattle.mcast_txn.specs.declared.stamp.Stamp.{Stamp}
 use Rattle.std.proofs.lemmas.List.{length_push, length-append}
-use Rattle.mcast_txn.proofs.Members.{In-get_or, any_from}
+use Rattle.mcast_txn.proofs.Members.{In-append_right, In-get_or, any_from}
 use Rattle.mcast_txn.proofs.Orders.{id_equal, id_same}
+use Rattle.mcast_txn.proofs.CheckLemmas.{passes}
 use Rattle.mcast_group.specs.CellGroup.{Waiting, ReadsOwn, IsRead, insert_waiting, waiting_ids, waiting_without}
 use Rattle.mcast_group.specs.Inner.CellGroup.{LearnsFirst, LearnsWaiting, RisesInId, still_waiting, taken_of}
-use Rattle.mcast_group.specs.Inner.Keys.{IsIndexPast}
 use Rattle.mcast_group.specs.Group.{GroupState, MayBeFound}
 use Rattle.mcast_group.specs.Machine.{TopicState, Pending, HasOneRowEach, insert_pending, parts_without, with_stamp, after_try, after_tries, learn_fault}
 use Rattle.mcast_group.specs.Sound.{RisesById}
-use Rattle.mcast_group.proofs.ByKey.{id_trans, earlier_differs, not_earlier, earlier_not_later}
+use Rattle.mcast_group.proofs.ByKey.{not_earlier, earlier_not_later}
 use Rattle.mcast_group.proofs.Indices.{later_differs, told_others, without_others}
-use Rattle.mcast_group.proofs.Parts.{due_is, not_true}
+use Rattle.mcast_group.proofs.Parts.{due_is, not_true, id_lt_trans, earlier_differs}
 use Rattle.mcast_group.proofs.Groups.{release_is, release_none}
-use Rattle.mcast_group.proofs.Allowed.{keeps_sound, passes}
+use Rattle.mcast_group.proofs.Allowed.{keeps_sound}
 use Rattle.mcast_group.specs.Group.{group_after_release, group_after_releases}
 use Rattle.mcast_group.specs.Machine.{Entry, after_learn, after_release, decided_stamp, due_part, is_pending, propose_fault, propose_refusals}
 use Rattle.mcast_group.specs.Sound.{IsSound}
@@ -106,22 +106,11 @@ pub waiting_parted : (id : TxnId) (ws : List Waiting) → RisesInId ws → IsPar
 waiting_parted id [] rises i j d l m below = absurd (omega arith)
 waiting_parted id (w ∷ ws) rises zero zero d l m below = below
 waiting_parted id (w ∷ ws) rises zero (suc j) d l m below =
-    id_trans w.id (get_or ws j d).id id (rises.0 (get_or ws j d) (In-get_or ws j d (omega arith))) below
+    id_lt_trans w.id (get_or ws j d).id id (rises.0 (get_or ws j d) (In-get_or ws j d (omega arith))) below
 waiting_parted id (w ∷ ws) rises (suc i) zero d l m below = absurd (omega arith)
 waiting_parted id (w ∷ ws) rises (suc i) (suc j) d l m below = waiting_parted id ws rises.1 i j d (omega arith) (omega arith) below
 
 -- ---- a part that is entered
-
--- one that is put at the index past those of lower ids is where insert_waiting puts it
-pub put_waiting : (w : Waiting) (ws : List Waiting) (i : ℕ) → IsIndexPast (λ (v : Waiting). id_lt v.id w.id) ws i → ((v : Waiting) → In v ws → same_id v.id w.id ≡ false) → insert ws i w ≡ insert_waiting w ws
-put_waiting w [] zero index free = refl
-put_waiting w [] (suc i) index free = absurd index
-put_waiting w (v ∷ vs) zero index free =
-    let a = not_earlier v.id w.id index (free v (inl refl)) in rw a refl
-put_waiting w (v ∷ vs) (suc i) index free =
-    let a = earlier_not_later v.id w.id index.0 in
-    let ih = put_waiting w vs i index.1 (λ u k. free u (inr k)) in
-    rw a (ap (λ (z : List Waiting). v ∷ z) ih)
 
 front : (w : Waiting) (ws : List Waiting) → ((v : Waiting) → In v ws → id_lt w.id v.id ≡ true) → insert_waiting w ws ≡ w ∷ ws
 front w [] h = refl
@@ -135,7 +124,7 @@ entered_ids w p (q ∷ qs) ws own new h e = go (λ vs f. entered_ids w p qs vs o
   where
     above : id_lt p.part.id q.part.id ≡ true → (r : Pending) → In r (q ∷ qs) → id_lt p.part.id r.part.id ≡ true
     above k r (inl m) = subst (λ (z : Pending). id_lt p.part.id z.part.id ≡ true) m k
-    above k r (inr m) = id_trans p.part.id q.part.id r.part.id k (h.0 r m)
+    above k r (inr m) = id_lt_trans p.part.id q.part.id r.part.id k (h.0 r m)
 
     all : id_lt p.part.id q.part.id ≡ true → (v : Waiting) → In v ws → id_lt w.id v.id ≡ true
     all k v i =
@@ -306,20 +295,12 @@ pub tried_push : (ss : List Step) (s : Step) (x : TopicState) → tried (ss ++ s
 tried_push [] s x = refl
 tried_push (r ∷ ss) s x = tried_push ss s (after_try r.0.id r.1 x)
 
-append_nil : {X : Type 0} (xs : List X) → xs ++ [] ≡ xs
-append_nil [] = refl
-append_nil (x ∷ xs) = let ih = append_nil xs in rw ih refl
-
-pub append_assoc : {X : Type 0} (xs ys zs : List X) → (xs ++ ys) ++ zs ≡ xs ++ (ys ++ zs)
-append_assoc [] ys zs = refl
-append_assoc (x ∷ xs) ys zs = let ih = append_assoc xs ys zs in rw ih refl
-
 pub taken_push : (ss : List Step) (s : Step) → taken (ss ++ s ∷ []) ≡ taken ss ++ taken_of s.0 s.1
-taken_push [] s = append_nil (taken_of s.0 s.1)
+taken_push [] s = append-nil (taken_of s.0 s.1)
 taken_push (r ∷ ss) s = ap (λ (z : List Sight). taken_of r.0 r.1 ++ z) (taken_push ss s) ∙ sym (append_assoc (taken_of r.0 r.1) (taken ss) (taken_of s.0 s.1))
 
 pub left_push : (ss : List Step) (s : Step) → left (ss ++ s ∷ []) ≡ left ss ++ still_waiting s.0 s.1
-left_push [] s = append_nil (still_waiting s.0 s.1)
+left_push [] s = append-nil (still_waiting s.0 s.1)
 left_push (r ∷ ss) s = ap (λ (z : List Waiting). still_waiting r.0 r.1 ++ z) (left_push ss s) ∙ sym (append_assoc (still_waiting r.0 r.1) (left ss) (still_waiting s.0 s.1))
 
 pub fit_push : (ss : List Step) (s : Step) → AreFit ss → IfSome s.1 HasOneRowEach → AreFit (ss ++ s ∷ [])
@@ -336,7 +317,8 @@ length_steps (s ∷ ss) = ap suc (length_steps ss)
 
 -- ---- what was found
 
-same_found : (f h : TxnId → Option Decision) (ps : List Pending) (x : TopicState) → ((q : Pending) → In q ps → f q.part.id ≡ h q.part.id) → after_tries f ps x ≡ after_tries h ps x
+-- tries of parts for which two searches find the same
+pub same_found : (f h : TxnId → Option Decision) (ps : List Pending) (x : TopicState) → ((q : Pending) → In q ps → f q.part.id ≡ h q.part.id) → after_tries f ps x ≡ after_tries h ps x
 same_found f h [] x e = refl
 same_found f h (p ∷ ps) x e =
     ap (λ (o : Option Decision). after_tries f ps (after_try p.part.id o x)) (e p (inl refl))
@@ -372,10 +354,6 @@ tries_are ss (p ∷ ps) x h e = go (λ rs y f. tries_are rs ps y h.1 f) ss e (is
         ∙ (ih rs (after_try p.part.id r.1 x) more
         ∙ ap (λ (i : TxnId). tried rs (after_try i r.1 x)) (sym own)))
 
-In-more : {X : Type 0} (x : X) (xs ys : List X) → In x ys → In x (xs ++ ys)
-In-more x [] ys i = i
-In-more x (z ∷ xs) ys i = inr (In-more x xs ys i)
-
 -- what was found for a transaction was read in the cell of its part's own flight
 pub read_own : (ss : List Step) (part : TopicPart) (o : Option Decision) → AreFit ss → found_in ss part.id ≡ o → MayBeFound (IsRead (of_steps ss) (taken ss)) part o
 read_own ss part None fit e = (tt, tt)
@@ -383,7 +361,7 @@ read_own [] part (Some v) fit e = cc
 read_own (s ∷ ss) part (Some v) fit e = go (λ is. read_own ss part (Some v) fit.1 is) (same_id s.0.id part.id) refl
   where
     wider : ReadsOwn (of_steps ss) (taken ss) part v → ReadsOwn (of_steps (s ∷ ss)) (taken (s ∷ ss)) part v
-    wider r = record { cell = r.cell; waited = inr r.waited; noted = In-more _ (taken_of s.0 s.1) (taken ss) r.noted }
+    wider r = record { cell = r.cell; waited = inr r.waited; noted = In-append_right _ (taken_of s.0 s.1) (taken ss) r.noted }
 
     own : (w : Waiting) (id : TxnId) → w.id ≡ id → w ≡ record { id = id; cell = w.cell }
     own w id k = ap (λ (z : TxnId). record { id = z; cell = w.cell }) k
@@ -422,7 +400,7 @@ pub record Stepping (waited waiting : List Waiting) (notes more : List Sight) (g
   pub here : waiting ≡ rest ++ left steps
   pub noted : more ≡ notes ++ taken steps
   pub fit : AreFit steps
-  pub is : now ≡ record { topic = tried steps g.topic; rooms = g.rooms }
+  pub is : now ≡ record { topic = tried steps g.topic; gauges = g.gauges }
   pub wait : ids (left steps ++ rest) ≡ waiting_ids now.topic.pending
   pub sound : IsSound now.topic
 
@@ -433,8 +411,8 @@ no_step waiting notes g e h = record {
   rest = waiting;
   all = refl;
   many = refl;
-  here = sym (append_nil waiting);
-  noted = sym (append_nil notes);
+  here = sym (append-nil waiting);
+  noted = sym (append-nil notes);
   fit = tt;
   is = refl;
   wait = e;
@@ -457,7 +435,7 @@ one_step waited waiting after notes more most g now new count l s f sound = go s
   where
     go : (rest : List Waiting) → waited ≡ of_steps s.steps ++ rest → waiting ≡ rest ++ left s.steps → ids (left s.steps ++ rest) ≡ waiting_ids now.topic.pending → Stepping waited after notes most g new (count + 1)
     go [] all here wait =
-        let n = ap (λ (z : List Waiting). length z) (all ∙ append_nil (of_steps s.steps)) in
+        let n = ap (λ (z : List Waiting). length z) (all ∙ append-nil (of_steps s.steps)) in
         let m = length_steps s.steps in
         let k = s.many in
         absurd (omega arith)
@@ -467,7 +445,7 @@ one_step waited waiting after notes more most g now new count l s f sound = go s
         let rest : f.rest ≡ rs ++ left s.steps = rest_same f.first r f.rest (rs ++ left s.steps) both in
         let step : Step = (r, f.found) in
         let may : IfSome f.found (λ v. HasOneRowEach v × (learn_fault r.id v now.topic ≡ None)) = subst (λ (z : Waiting). IfSome f.found (λ v. HasOneRowEach v × (learn_fault z.id v now.topic ≡ None))) first f.may in
-        let group : new ≡ record { topic = after_try r.id f.found now.topic; rooms = now.rooms } = f.group ∙ ap (λ (z : Waiting). record { topic = after_try z.id f.found now.topic; rooms = now.rooms }) first in
+        let group : new ≡ record { topic = after_try r.id f.found now.topic; gauges = now.gauges } = f.group ∙ ap (λ (z : Waiting). record { topic = after_try z.id f.found now.topic; gauges = now.gauges }) first in
         record {
           steps = s.steps ++ step ∷ [];
           rest = rs;
@@ -485,8 +463,8 @@ one_step waited waiting after notes more most g now new count l s f sound = go s
               ∙ ap (λ (z : List Sight). notes ++ z) (sym (taken_push s.steps step)))));
           fit = fit_push s.steps step s.fit (one_row f.found r.id now.topic may);
           is = group
-              ∙ (ap (λ (z : GroupState). record { topic = after_try r.id f.found z.topic; rooms = z.rooms }) s.is
-              ∙ ap (λ (z : TopicState). record { topic = z; rooms = g.rooms }) (sym (tried_push s.steps step g.topic)));
+              ∙ (ap (λ (z : GroupState). record { topic = after_try r.id f.found z.topic; gauges = z.gauges }) s.is
+              ∙ ap (λ (z : TopicState). record { topic = z; gauges = g.gauges }) (sym (tried_push s.steps step g.topic)));
           wait = ap (λ (z : List Waiting). ids (z ++ rs)) (left_push s.steps step)
               ∙ (waits_on (left s.steps) r rs f.found now.topic s.sound.by_id wait may
               ∙ ap (λ (z : GroupState). waiting_ids z.topic.pending) (sym group));
@@ -515,13 +493,13 @@ none_more notes (s ∷ more) e =
 idle_steps : (ss : List Step) (g new : GroupState) (after : List Waiting) (notes more : List Sight) → new ≡ record g { topic = tried ss g.topic } → after ≡ left ss → more ≡ notes ++ taken ss → more ≡ notes → (new ≡ g) × (after ≡ of_steps ss)
 idle_steps ss g new after notes more is l t e =
     let h = none_taken ss (none_more notes (taken ss) (sym t ∙ e)) in
-    (is ∙ ap (λ (x : TopicState). record { topic = x; rooms = g.rooms }) (h.1 g.topic), l ∙ h.0)
+    (is ∙ ap (λ (x : TopicState). record { topic = x; gauges = g.gauges }) (h.1 g.topic), l ∙ h.0)
 
 -- all that waited have learnt, or wait on
 pub learns_waiting : (ss : List Step) (g new : GroupState) (after : List Waiting) (notes more : List Sight) → RisesById g.topic.pending → ids (of_steps ss) ≡ waiting_ids g.topic.pending → AreFit ss → new ≡ record g { topic = tried ss g.topic } → after ≡ left ss → more ≡ notes ++ taken ss → ids (left ss) ≡ waiting_ids new.topic.pending → LearnsWaiting g new (of_steps ss) after notes more
 learns_waiting ss g new after notes more rises e fit is l t i = record {
   taken = taken ss;
-  tries = (found_in ss, (λ p k. read_own ss p.part (found_in ss p.part.id) fit refl), is ∙ ap (λ (x : TopicState). record { topic = x; rooms = g.rooms }) (sym (tries_are ss g.topic.pending g.topic rises e)));
+  tries = (found_in ss, (λ p k. read_own ss p.part (found_in ss p.part.id) fit refl), is ∙ ap (λ (x : TopicState). record { topic = x; gauges = g.gauges }) (sym (tries_are ss g.topic.pending g.topic rises e)));
   kept = t;
   stays = λ w k. stayed ss w (subst (In w) l k);
   ids = ap ids l ∙ i;
@@ -534,9 +512,9 @@ all_stepped waited waiting notes more g now count l rises e s = go s.rest s.all 
   where
     go : (rest : List Waiting) → waited ≡ of_steps s.steps ++ rest → waiting ≡ rest ++ left s.steps → ids (left s.steps ++ rest) ≡ waiting_ids now.topic.pending → LearnsWaiting g now waited waiting notes more
     go [] all here wait =
-        let own : waited ≡ of_steps s.steps = all ∙ append_nil (of_steps s.steps) in
+        let own : waited ≡ of_steps s.steps = all ∙ append-nil (of_steps s.steps) in
         subst (λ (ws : List Waiting). LearnsWaiting g now ws waiting notes more) (sym own)
-        (learns_waiting s.steps g now waiting notes more rises (ap ids (sym own) ∙ e) s.fit s.is here s.noted (ap ids (sym (append_nil (left s.steps))) ∙ wait))
+        (learns_waiting s.steps g now waiting notes more rises (ap ids (sym own) ∙ e) s.fit s.is here s.noted (ap ids (sym (append-nil (left s.steps))) ∙ wait))
     go (r ∷ rs) all here wait =
         let n = ap (λ (z : List Waiting). length z) all in
         let k = length-append (of_steps s.steps) (r ∷ rs) in
@@ -560,17 +538,8 @@ steps_left waited waiting notes more g now count l s = go s.rest s.all s.here
   where
     go : (rest : List Waiting) → waited ≡ of_steps s.steps ++ rest → waiting ≡ rest ++ left s.steps → 0 < length waiting
     go [] all here =
-        let n = ap (λ (z : List Waiting). length z) (all ∙ append_nil (of_steps s.steps)) in
+        let n = ap (λ (z : List Waiting). length z) (all ∙ append-nil (of_steps s.steps)) in
         let m = length_steps s.steps in
         let k = s.many in
         absurd (omega arith)
     go (r ∷ rs) all here = subst (λ (z : List Waiting). 0 < length z) (sym here) (omega arith)
-
-insert_many : (w v : Waiting) (vs : List Waiting) (b : Bool) → length (insert_waiting w vs) ≡ suc (length vs) → length (cond b (w ∷ v ∷ vs) (v ∷ insert_waiting w vs)) ≡ suc (suc (length vs))
-insert_many w v vs true e = refl
-insert_many w v vs false e = ap suc e
-
--- one part more waits
-pub insert_waiting_length : (w : Waiting) (ws : List Waiting) → length (insert_waiting w ws) ≡ suc (length ws)
-insert_waiting_length w [] = refl
-insert_waiting_length w (v ∷ vs) = insert_many w v vs (id_lt w.id v.id) (insert_waiting_length w vs)

@@ -7,7 +7,7 @@ use Rattle.mcast_txn.specs.declared.stamp.Stamp.{Stamp}
 use Rattle.mcast_txn.specs.Ballot.{Decision}
 use Rattle.mcast_txn.specs.Flight.{Sight}
 use Rattle.mcast_txn.specs.Ids.{same_id, id_lt}
-use Rattle.mcast_txn.specs.Lists.{In}
+use Rattle.mcast_txn.specs.Lists.{In, insert_before}
 use Rattle.mcast_txn.specs.Transaction.{TopicPart}
 use Rattle.sub_queue.specs.Shown.{Shown}
 use Rattle.mcast_group.specs.Group.{GroupState, Turns}
@@ -19,7 +19,7 @@ pub record Waiting : Type 0 where
   pub cell : ℕ
 
 -- A topic whose parts learn from cells.
--- group: the topic, with the rooms of its outlets.
+-- group: the topic, with the gauges of its outlets.
 -- waiting: the parts that haven't learnt their stamp, by rising id.
 -- notes: what the notes say by which parts learnt theirs, in the order in which they did.
 pub record CellGroupState : Type 0 where
@@ -35,7 +35,7 @@ pub record ProposalState : Type 0 where
 -- a topic at which nothing was done
 abbrev pub new_cell_group : Topic → ℕ → ℕ → CellGroupState
 new_cell_group topic log_limit clock = record {
-  group = record { topic = new_topic topic log_limit clock; rooms = [] };
+  group = record { topic = new_topic topic log_limit clock; gauges = [] };
   waiting = [];
   notes = [];
 }
@@ -47,8 +47,7 @@ waiting_ids (p ∷ ps) = if is_some p.learnt then waiting_ids ps else p.part.id 
 
 -- w among parts that rise by id
 abbrev pub insert_waiting : Waiting → List Waiting → List Waiting
-insert_waiting w [] = w ∷ []
-insert_waiting w (v ∷ vs) = if id_lt w.id v.id then w ∷ v ∷ vs else v ∷ insert_waiting w vs
+insert_waiting w = insert_before (λ v. id_lt w.id v.id) w
 
 -- the parts but this transaction's
 abbrev pub waiting_without : TxnId → List Waiting → List Waiting

@@ -4,23 +4,23 @@ use Rattle.std.specs.Prelude.{Option, Some, None, if◌then◌else◌}
 use Rattle.mcast_txn.specs.Span.{Item}
 use Rattle.mcast_txn.specs.declared.id.TxnId.{TxnId}
 use Rattle.mcast_txn.specs.Ballot.{Decision}
-use Rattle.sub_queue.specs.Shown.{Shown, Room, has_room, next_index, room_after_take}
+use Rattle.sub_queue.specs.Shown.{Shown, Gauge, has_room, next_index, gauge_after_take}
 use Rattle.mcast_group.specs.Machine.{Entry, after_turn, find_entry}
 use Rattle.mcast_group.specs.Sound.{NumbersDiffer}
-use Rattle.mcast_group.specs.Group.{GroupState, Releases, ReleasesAll, group_after_release, room_at, shown_at, shows, group_after_tries}
+use Rattle.mcast_group.specs.Group.{GroupState, Releases, ReleasesAll, group_after_release, gauge_at, shown_at, shows, group_after_tries}
 
--- fewer items of the subscription than the room's capacity are untaken, where there is a room
-abbrev pub takes_in : Option Room → Entry → Bool
+-- fewer items of the subscription than the gauge's capacity are untaken, where there is a gauge
+abbrev pub takes_in : Option Gauge → Entry → Bool
 takes_in None e = false
-takes_in (Some room) e = has_room (shows e room)
+takes_in (Some gauge) e = has_room (shows e gauge)
 
--- the same, with the room of its number
-abbrev pub takes_with : List Entry → List Room → Entry → Bool
-takes_with es rooms e = takes_in (room_at e.number es rooms) e
+-- the same, with the gauge of its number
+abbrev pub takes_with : List Entry → List Gauge → Entry → Bool
+takes_with es gauges e = takes_in (gauge_at e.number es gauges) e
 
 -- the same, in a group
 abbrev pub takes_of : GroupState → Entry → Bool
-takes_of g e = takes_with g.topic.subscriptions g.rooms e
+takes_of g e = takes_with g.topic.subscriptions g.gauges e
 
 -- an outlet that counts answers so, and in no other way
 abbrev pub counted : Shown → Bool → Type 0
@@ -50,16 +50,17 @@ next_in (Some s) = next_index s
 abbrev pub next_at : ℕ → GroupState → Option ℕ
 next_at number g = next_in (shown_at number g)
 
--- the rooms after a take of this number: its subscription's counts one more item as taken, where one was left
-abbrev pub rooms_after_take : ℕ → List Entry → List Room → List Room
-rooms_after_take number [] rooms = rooms
-rooms_after_take number (e ∷ es) [] = []
-rooms_after_take number (e ∷ es) (r ∷ rooms) =
-    if number == e.number then room_after_take (shows e r) ∷ rooms else r ∷ rooms_after_take number es rooms
+-- the gauges after a take of this number: its subscription's counts one more as taken, where one was left
+abbrev pub gauges_after_take : ℕ → List Entry → List Gauge → List Gauge
+gauges_after_take number [] gauges = gauges
+gauges_after_take number (e ∷ es) [] = []
+gauges_after_take number (e ∷ es) (gauge ∷ gauges) =
+    if number == e.number then gauge_after_take (shows e gauge) ∷ gauges
+    else gauge ∷ gauges_after_take number es gauges
 
 -- a group after a take of this number
 abbrev pub group_after_take : ℕ → GroupState → GroupState
-group_after_take number g = record g { rooms = rooms_after_take number g.topic.subscriptions g.rooms }
+group_after_take number g = record g { gauges = gauges_after_take number g.topic.subscriptions g.gauges }
 
 -- the item of this index among those that a subscription's queue accepted, if there are both
 abbrev pub item_in : ℕ → Option Entry → Option Item

@@ -9,7 +9,7 @@ use Rattle.mcast_txn.specs.Ids.{same_id}
 use Rattle.mcast_txn.specs.Lists.{In}
 use Rattle.mcast_txn.specs.Span.{LogRow, Item}
 use Rattle.mcast_txn.specs.Transaction.{TopicPart}
-use Rattle.sub_queue.specs.Shown.{Shown, Room}
+use Rattle.sub_queue.specs.Shown.{Shown, Gauge}
 use Rattle.mcast_group.specs.declared.cause.Cause.{Cause}
 use Rattle.mcast_group.specs.declared.fault.ProposeFault.{ProposeFault}
 use Rattle.mcast_group.specs.declared.fault.SubFault.{SubFault}
@@ -19,10 +19,10 @@ use Rattle.mcast_group.specs.Machine.{HasOneRowEach}
 use Rattle.mcast_group.specs.Machine.{learn_fault, after_try, after_tries, due_part, after_release, entry_after}
 use Rattle.mcast_group.specs.Machine.{find_entry, end_of, after_subscribe, after_unsubscribe}
 
--- a topic, and for each of its subscriptions, in their order, the room that its outlet shows
+-- a topic, and for each of its subscriptions, in their order, the gauge that its outlet shows
 pub record GroupState : Type 0 where
   pub topic : TopicState
-  pub rooms : List Room
+  pub gauges : List Gauge
 
 -- a topic, field by field
 abbrev pub topic_state : Topic → ℕ → ℕ → List Pending → Stamp → List LogRow → Stamp → List Entry → TopicState
@@ -38,21 +38,21 @@ topic_state topic clock log_limit pending base rows frontier subscriptions = rec
 }
 
 -- what a subscription's outlet shows
-abbrev pub shows : Entry → Room → Shown
-shows e room = record { accepted = e.accepted; room = room }
+abbrev pub shows : Entry → Gauge → Shown
+shows e gauge = record { accepted = e.accepted; gauge = gauge }
 
 -- ---- release
 
 -- each open subscription's outlet may answer a push as `takes` says
-abbrev pub MayAnswer : (Shown → Bool → Type 0) → (Entry → Bool) → List Entry → List Room → Type 0
-MayAnswer may takes [] rooms = Unit {0}
+abbrev pub MayAnswer : (Shown → Bool → Type 0) → (Entry → Bool) → List Entry → List Gauge → Type 0
+MayAnswer may takes [] gauges = Unit {0}
 MayAnswer may takes (e ∷ es) [] = Prim.⊥
-MayAnswer may takes (e ∷ es) (r ∷ rooms) =
-    (e.to ≡ None → may (shows e r) (takes e)) × MayAnswer may takes es rooms
+MayAnswer may takes (e ∷ es) (own ∷ gauges) =
+    (e.to ≡ None → may (shows e own) (takes e)) × MayAnswer may takes es gauges
 
 -- the same of a whole group
 abbrev pub OutletsAnswer : (Shown → Bool → Type 0) → (Entry → Bool) → GroupState → Type 0
-OutletsAnswer may takes g = MayAnswer may takes g.topic.subscriptions g.rooms
+OutletsAnswer may takes g = MayAnswer may takes g.topic.subscriptions g.gauges
 
 -- each entry after an item was due to it, where its outlet answered as the list says
 abbrev pub entries_after : Stamp → Item → List Bool → List Entry → List Entry
@@ -143,35 +143,35 @@ pub record CanLearn (id : TxnId) (index : ℕ) (stamp : Stamp) (x : TopicState) 
 
 -- ---- subscriptions
 
--- the room of the subscription of this number
-abbrev pub room_at : ℕ → List Entry → List Room → Option Room
-room_at number [] rooms = None
-room_at number (e ∷ es) [] = None
-room_at number (e ∷ es) (r ∷ rooms) = if number == e.number then Some r else room_at number es rooms
+-- the gauge of the subscription of this number
+abbrev pub gauge_at : ℕ → List Entry → List Gauge → Option Gauge
+gauge_at number [] gauges = None
+gauge_at number (e ∷ es) [] = None
+gauge_at number (e ∷ es) (own ∷ gauges) = if number == e.number then Some own else gauge_at number es gauges
 
--- what an outlet shows that has this entry and this room, if there are both
-abbrev pub shown_with : Option Entry → Option Room → Option Shown
-shown_with None room = None
+-- what an outlet shows that has this entry and this gauge, if there are both
+abbrev pub shown_with : Option Entry → Option Gauge → Option Shown
+shown_with None gauge = None
 shown_with (Some e) None = None
-shown_with (Some e) (Some room) = Some (shows e room)
+shown_with (Some e) (Some gauge) = Some (shows e gauge)
 
 -- what the outlet of the subscription of this number shows, if there is one
 abbrev pub shown_at : ℕ → GroupState → Option Shown
 shown_at number g =
-    shown_with (find_entry number g.topic.subscriptions) (room_at number g.topic.subscriptions g.rooms)
+    shown_with (find_entry number g.topic.subscriptions) (gauge_at number g.topic.subscriptions g.gauges)
 
--- the rooms with that of a new subscription of this number, where its entry is
-abbrev pub rooms_with : ℕ → Room → List Entry → List Room → List Room
-rooms_with number room [] rooms = room ∷ []
-rooms_with number room (e ∷ es) [] = room ∷ []
-rooms_with number room (e ∷ es) (r ∷ rooms) =
-    if nat_lt number e.number then room ∷ r ∷ rooms else r ∷ rooms_with number room es rooms
+-- the gauges with that of a new subscription of this number, where its entry is
+abbrev pub gauges_with : ℕ → Gauge → List Entry → List Gauge → List Gauge
+gauges_with number gauge [] gauges = gauge ∷ []
+gauges_with number gauge (e ∷ es) [] = gauge ∷ []
+gauges_with number gauge (e ∷ es) (own ∷ gauges) =
+    if nat_lt number e.number then gauge ∷ own ∷ gauges else own ∷ gauges_with number gauge es gauges
 
--- a new subscription, whose outlet shows this room
-abbrev pub group_after_subscribe : ℕ → Room → GroupState → GroupState
-group_after_subscribe number room g = record {
+-- a new subscription, whose outlet shows this gauge
+abbrev pub group_after_subscribe : ℕ → Gauge → GroupState → GroupState
+group_after_subscribe number gauge g = record {
   topic = after_subscribe number g.topic;
-  rooms = rooms_with number room g.topic.subscriptions g.rooms;
+  gauges = gauges_with number gauge g.topic.subscriptions g.gauges;
 }
 
 -- why a subscription is refused: its number is in use, or else out of memory
@@ -179,30 +179,30 @@ abbrev pub sub_refusal : Option SubFault → SubFault
 sub_refusal None = SubFault.NoMemory
 sub_refusal (Some fault) = fault
 
--- the rooms but that of this number
-abbrev pub rooms_without : ℕ → List Entry → List Room → List Room
-rooms_without number [] rooms = rooms
-rooms_without number (e ∷ es) [] = []
-rooms_without number (e ∷ es) (r ∷ rooms) =
-    if e.number == number then rooms else r ∷ rooms_without number es rooms
+-- the gauges but that of this number
+abbrev pub gauges_without : ℕ → List Entry → List Gauge → List Gauge
+gauges_without number [] gauges = gauges
+gauges_without number (e ∷ es) [] = []
+gauges_without number (e ∷ es) (own ∷ gauges) =
+    if e.number == number then gauges else own ∷ gauges_without number es gauges
 
 -- the subscription of this number is dropped
 abbrev pub group_after_unsubscribe : ℕ → GroupState → GroupState
 group_after_unsubscribe number g = record {
   topic = after_unsubscribe number g.topic;
-  rooms = rooms_without number g.topic.subscriptions g.rooms;
+  gauges = gauges_without number g.topic.subscriptions g.gauges;
 }
 
 -- What the subscription of this number leaves.
--- found, roomed: it has this entry and this room.
+-- found, gauged: it has this entry and this gauge.
 -- shows_it: its outlet shows what it showed.
 -- end, why: its end and its cause are the machine's.
 pub record HasLeft (number : ℕ) (g : GroupState) (shown : Shown) (to : Stamp) (cause : Cause) : Type 0 where
   pub entry : Entry
-  pub room : Room
+  pub gauge : Gauge
   pub found : find_entry number g.topic.subscriptions ≡ Some entry
-  pub roomed : room_at number g.topic.subscriptions g.rooms ≡ Some room
-  pub shows_it : shown ≡ shows entry room
+  pub gauged : gauge_at number g.topic.subscriptions g.gauges ≡ Some gauge
+  pub shows_it : shown ≡ shows entry gauge
   pub end : to ≡ (end_of g.topic.frontier entry).to
   pub why : cause ≡ (end_of g.topic.frontier entry).cause
 

@@ -10,7 +10,7 @@ use Rattle.mcast_txn.specs.declared.stamp.Stamp.{Stamp}
 use Rattle.mcast_txn.specs.Ballot.{Decision}
 use Rattle.mcast_txn.specs.Checks.{first_refusal}
 use Rattle.mcast_txn.specs.Ids.{same_id, id_lt}
-use Rattle.mcast_txn.specs.Lists.{In}
+use Rattle.mcast_txn.specs.Lists.{In, insert_before, insert_by_number}
 use Rattle.mcast_txn.specs.Span.{LogRow, Item}
 use Rattle.mcast_txn.specs.Stamp.{zero_stamp, stamp_lt, same_stamp, greatest}
 use Rattle.mcast_txn.specs.Transaction.{TopicPart}
@@ -98,8 +98,7 @@ key p = elim p.learnt [ None ↦ ticket_stamp p | Some stamp ↦ stamp ]
 
 -- p among parts that rise by id
 abbrev pub insert_pending : Pending → List Pending → List Pending
-insert_pending p [] = p ∷ []
-insert_pending p (q ∷ qs) = if id_lt p.part.id q.part.id then p ∷ q ∷ qs else q ∷ insert_pending p qs
+insert_pending p = insert_before (λ q. id_lt p.part.id q.part.id) p
 
 -- the pending part of this transaction, if it has one
 abbrev pub find_pending : TxnId → List Pending → Option Pending
@@ -286,8 +285,7 @@ subscribe_fault number x =
 
 -- an entry among entries that rise by number
 abbrev pub insert_entry : Entry → List Entry → List Entry
-insert_entry e [] = e ∷ []
-insert_entry e (f ∷ fs) = if nat_lt e.number f.number then e ∷ f ∷ fs else f ∷ insert_entry e fs
+insert_entry = insert_by_number (λ e. e.number)
 
 -- a subscription begins after the frontier
 abbrev pub after_subscribe : ℕ → TopicState → TopicState

@@ -239,7 +239,7 @@ impl<Q: Outlet + Drop> CellGroup<Q> {
         ensures from { IfOk result (λ from. from ≡ self.old.group.topic.frontier) }
         ensures allowed { OnOk result (subscribe_fault number self.old.group.topic ≡ None) }
         ensures ok { OnOk result (self.new
-            ≡ record self.old { group = group_after_subscribe number (Q.shown outlet).room self.old.group }) }
+            ≡ record self.old { group = group_after_subscribe number (Q.shown outlet).gauge self.old.group }) }
         ensures fault { IfErr result (λ e. e.0 ≡ sub_refusal (subscribe_fault number self.old.group.topic)) }
         ensures back { IfErr result (λ e. Q.shown e.1 ≡ Q.shown outlet) }
         ensures err { OnErr result (self.new ≡ self.old) }

@@ -45,7 +45,7 @@ use std::sync::Arc;
 use sub_queue::{Outlet, VecOutlet};
 
 /// A topic of the multicast: its clock, its pending parts, the rows that it released, and its subscriptions. In
-/// contracts it is a topic of `specs/Machine.antt`, and for each subscription the room that its outlet shows.
+/// contracts it is a topic of `specs/Machine.antt`, and for each subscription the gauge that its outlet shows.
 pub struct Group<Q: Outlet + Drop> {
     alloc: Global,
     topic: Topic,
@@ -87,14 +87,14 @@ impl<Q: Outlet + Drop> Drop for Group<Q> {
 impl<Q: Outlet + Drop> Model for Group<Q> {
     ghost use Rattle.std.specs.Prelude.{map};
     ghost use Rattle.mcast_group.specs.Group.{GroupState, topic_state};
-    ghost use Rattle.mcast_group.specs.Inner.GroupInvariant.{IsKept, entry_of, room_of};
+    ghost use Rattle.mcast_group.specs.Inner.GroupInvariant.{IsKept, entry_of, gauge_of};
 
     ghost Value = { GroupState };
 
     ghost view = { λ g. record {
       topic = topic_state g.topic g.clock g.log_limit g.pending g.base g.rows.items g.frontier
           (map (entry_of Q.shown) g.subscriptions);
-      rooms = map (room_of Q.shown) g.subscriptions;
+      gauges = map (gauge_of Q.shown) g.subscriptions;
     } };
 
     ghost invariant = { λ g. IsKept Q.spare
@@ -106,7 +106,7 @@ impl<Q: Outlet + Drop> Model for Group<Q> {
 impl<Q: Outlet + Drop> Group<Q> {
     /// An empty topic with this clock, of at most `log_limit` parts and rows, taken together. It takes no memory.
     pub fn new(alloc: Global, topic: Topic, clock: u64, log_limit: usize) -> Group<Q>
-        ensures { result ≡ record { topic = new_topic topic log_limit clock; rooms = [] } }
+        ensures { result ≡ record { topic = new_topic topic log_limit clock; gauges = [] } }
     {
         Group {
             alloc,
@@ -222,7 +222,12 @@ impl<Q: Outlet + Drop> Group<Q> {
             ≡ record self.old { topic = after_learn id (decided_stamp verdict.now) self.old.topic }) }
         ensures err { OnErr result (self.new ≡ self.old) }
     {
-        let index = self.pending.index_to_learn(id, verdict)?;
+        let Some(index) = self.pending.index_of(id) else {
+            return Err(LearnFault::NotPending);
+        };
+        if let Some(fault) = self.pending.learn_fault_at(index, verdict) {
+            return Err(fault);
+        }
         self.store(id, index, verdict.stamp());
         Ok(())
     }
@@ -375,14 +380,14 @@ impl<Q: Outlet + Drop> Group<Q> {
         ensures fault { IfErr result (IsRefusedBy C.refused None counter.old counter.new) }
         ensures err { OnErr result (self.new ≡ self.old) }
     {
-        let (entry, made) = prepared.into_entry(self.alloc, n, self.subscriptions.open_len())?;
+        let (part, made) = prepared.into_numbered(self.alloc, n, self.subscriptions.open_len())?;
         self.rows.reserve(self.pending.len() + 1)?;
         self.subscriptions.reserve_each(self.pending.len() + 1)?;
         put(
             &mut self.pending,
             &mut self.copies,
             index,
-            entry,
+            part,
             made,
             counter,
         )?;
@@ -415,7 +420,7 @@ impl<Q: Outlet + Drop> Group<Q> {
         requires { (Q.shown outlet).accepted ≡ [] }
         ensures from { IfOk result (λ from. from ≡ self.old.topic.frontier) }
         ensures allowed { OnOk result (subscribe_fault number self.old.topic ≡ None) }
-        ensures ok { OnOk result (self.new ≡ group_after_subscribe number (Q.shown outlet).room self.old) }
+        ensures ok { OnOk result (self.new ≡ group_after_subscribe number (Q.shown outlet).gauge self.old) }
         ensures fault { IfErr result (λ e. e.0 ≡ sub_refusal (subscribe_fault number self.old.topic)) }
         ensures back { IfErr result (λ e. Q.shown e.1 ≡ Q.shown outlet) }
         ensures err { OnErr result (self.new ≡ self.old) }
@@ -490,11 +495,11 @@ impl<Q: Outlet + Drop> Group<Q> {
             return;
         };
         has_one_row_each(found.verdict);
-        let Ok(at) = self.pending.index_to_learn(id, found.verdict) else {
+        if self.pending.learn_fault_at(index, found.verdict).is_some() {
             return;
-        };
+        }
         let stamp = found.verdict.stamp();
-        self.store(id, at, stamp);
+        self.store(id, index, stamp);
     }
 
     /// Writes a stamp that isn't refused.
@@ -582,17 +587,17 @@ fn put<C: TicketCounter>(
     pending: &mut PendingParts,
     copies: &mut VecDeque<Copies>,
     index: usize,
-    entry: BoxedPart,
+    part: BoxedPart,
     made: Copies,
     counter: &mut C,
 ) -> Result<(), ProposeFault>
     requires same { length copies.old.items ≡ length pending.old }
-    requires at { IsIndexPast (λ p. id_lt p.part.id entry.part.id) pending.old index }
-    requires free { is_pending entry.part.id pending.old ≡ false }
-    requires above { (q : Pending) → In q pending.old → stamp_lt (key q) (key entry) ≡ true }
-    ensures ok { OnOk result (pending.new ≡ insert_pending entry pending.old) }
+    requires at { IsIndexPast (λ p. id_lt p.part.id part.part.id) pending.old index }
+    requires free { is_pending part.part.id pending.old ≡ false }
+    requires above { (q : Pending) → In q pending.old → stamp_lt (key q) (key part) ≡ true }
+    ensures ok { OnOk result (pending.new ≡ insert_pending part pending.old) }
     ensures copies { OnOk result ((n : ℕ) → HaveCopies n pending.old copies.old.items → length made ≡ n
-        → AreOf entry.part made → HaveCopies n pending.new copies.new.items) }
+        → AreOf part.part made → HaveCopies n pending.new copies.new.items) }
     ensures err { OnErr result (pending.new ≡ pending.old) }
     ensures kept { OnErr result (copies.new.items ≡ copies.old.items) }
     ensures counted { OnOk result (C.counted counter.old counter.new) }
@@ -601,7 +606,7 @@ fn put<C: TicketCounter>(
     let Ok(()) = copies.reserve(1) else {
         return Err(ProposeFault::NoMemory);
     };
-    pending.insert(index, entry, counter)?;
+    pending.insert(index, part, counter)?;
     copies.insert(index, made).unwrap();
     Ok(())
 }

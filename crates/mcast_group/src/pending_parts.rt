@@ -5,7 +5,7 @@ ghost use Rattle.std.specs.List.{insert, position, remove};
 ghost use Rattle.mcast_txn.specs.Ids.{id_lt, same_id};
 ghost use Rattle.mcast_txn.specs.Lists.{In};
 ghost use Rattle.mcast_txn.specs.Stamp.{stamp_lt};
-ghost use Rattle.mcast_group.specs.Machine.{Pending, clashes, find_pending, insert_pending, is_pending, key, learn_fault_of, least_part};
+ghost use Rattle.mcast_group.specs.Machine.{Pending, clashes, insert_pending, is_pending, key, learn_fault_of, least_part};
 ghost use Rattle.mcast_group.specs.Group.{IsRefusedBy};
 ghost use Rattle.mcast_group.specs.Inner.Keys.{IsIndexPast};
 
@@ -132,24 +132,20 @@ impl PendingParts {
         self.index_of(id)
     }
 
-    /// The index of the part that is to learn the verdict's stamp.
-    pub(crate) fn index_to_learn(&self, id: TxnId, verdict: &Verdict) -> Result<usize, LearnFault>
-        ensures fault { IfErr result
-            (λ fault. learn_fault_of verdict.now self.now (find_pending id self.now) ≡ Some fault) }
-        ensures learns { OnOk result (learn_fault_of verdict.now self.now (find_pending id self.now) ≡ None) }
-        ensures index { IfOk result (λ index. position (λ p. same_id p.part.id id) self.now ≡ Some index) }
+    /// Why the part at an index doesn't learn the verdict's stamp, if it doesn't.
+    pub(crate) fn learn_fault_at(&self, index: usize, verdict: &Verdict) -> Option<LearnFault>
+        requires { index < length self.now }
+        ensures { (d : Pending) → result
+            ≡ learn_fault_of verdict.now self.now (Some (slice_index_or self.now index d)) }
     {
-        let Some(index) = self.index_of(id) else {
-            return Err(LearnFault::NotPending);
-        };
         let part = self.at(index);
         if part.is_foreign(verdict) {
-            return Err(LearnFault::Foreign);
+            return Some(LearnFault::Foreign);
         }
         if self.clashes(index, verdict) {
-            return Err(LearnFault::Clash);
+            return Some(LearnFault::Clash);
         }
-        Ok(index)
+        None
     }
 
     /// Whether the part at an index has learnt another stamp than the verdict's, or another part has that stamp as its

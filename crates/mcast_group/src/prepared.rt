@@ -16,7 +16,7 @@ use std::sync::Arc;
 /// A part on the heap, as it will be among those that are pending, and a copy for each of so many subscriptions. In
 /// contracts it is what the part says.
 pub(crate) struct Prepared {
-    entry: BoxedPart,
+    part: BoxedPart,
     copies: Copies,
     many: usize,
 }
@@ -25,11 +25,11 @@ impl Drop for Prepared {
     /// Written out, so that letting a part go is one call for the prover wherever it happens.
     fn drop(self) {
         let Prepared {
-            entry,
+            part,
             copies,
             many: _,
         } = self;
-        drop(entry);
+        drop(part);
         drop(copies);
     }
 }
@@ -40,9 +40,9 @@ impl Model for Prepared {
 
     ghost Value = { TopicPart };
 
-    ghost view = { λ p. p.entry.part };
+    ghost view = { λ p. p.part.part };
 
-    ghost invariant = { λ p. IsPrepared p.entry p.copies p.many };
+    ghost invariant = { λ p. IsPrepared p.part p.copies p.many };
 }
 
 impl Prepared {
@@ -50,10 +50,10 @@ impl Prepared {
     pub(crate) fn new(alloc: Global, part: Arc<Part>) -> Result<Prepared, NoMemory>
         ensures { IfOk result (λ prepared. prepared ≡ data_of (arc_value part)) }
     {
-        let entry = BoxedPart::new(alloc, PendingPart::new(part, 0)?)?;
-        let copies = Copies::of(alloc, entry.part(), 0)?;
+        let boxed = BoxedPart::new(alloc, PendingPart::new(part, 0)?)?;
+        let copies = Copies::of(alloc, boxed.part(), 0)?;
         Ok(Prepared {
-            entry,
+            part: boxed,
             copies,
             many: 0,
         })
@@ -63,7 +63,7 @@ impl Prepared {
     pub(crate) fn part(&self) -> &Part
         ensures { data_of result.now ≡ self.now }
     {
-        self.entry.part().part()
+        self.part.part().part()
     }
 
     /// Makes a copy for each of so many subscriptions, where it has fewer.
@@ -71,7 +71,7 @@ impl Prepared {
         ensures { self.new ≡ self.old }
     {
         if self.many < many {
-            self.copies = Copies::of(alloc, self.entry.part(), many)?;
+            self.copies = Copies::of(alloc, self.part.part(), many)?;
             self.many = many;
         }
         Ok(())
@@ -79,25 +79,25 @@ impl Prepared {
 
     /// The part with the number of its ticket, and a copy for each of so many subscriptions: with no memory where it
     /// had them.
-    pub(crate) fn into_entry(
+    pub(crate) fn into_numbered(
         self,
         alloc: Global,
         number: u64,
         many: usize,
     ) -> Result<(BoxedPart, Copies), NoMemory>
-        ensures entry { IfOk result
+        ensures part { IfOk result
             (λ made. made.0 ≡ record { part = self; number = number; learnt = None }) }
         ensures many { IfOk result (λ made. length made.1 ≡ many) }
         ensures copies { IfOk result (λ made. AreOf self made.1) }
     {
         let Prepared {
-            mut entry,
+            part: mut boxed,
             copies,
             many: had,
         } = self;
-        let copies = enough(alloc, entry.part(), copies, had, many)?;
-        entry.number_as(number);
-        Ok((entry, copies))
+        let copies = enough(alloc, boxed.part(), copies, had, many)?;
+        boxed.number_as(number);
+        Ok((boxed, copies))
     }
 }
 

@@ -5,7 +5,7 @@ ghost use Rattle.mcast_txn.specs.Lists.{In};
 ghost use Rattle.mcast_txn.specs.Transaction.{TopicPart};
 ghost use Rattle.mcast_group.specs.Machine.{entry_after, end_of, item_of, key, state_of_entry};
 ghost use Rattle.mcast_group.specs.Inner.Copies.{AreOf};
-ghost use Rattle.mcast_group.specs.Inner.GroupInvariant.{IsReady, entry_of, room_of};
+ghost use Rattle.mcast_group.specs.Inner.GroupInvariant.{IsReady, entry_of, gauge_of};
 ghost use Rattle.mcast_group.specs.declared.subscription.Subscription.{Subscription};
 
 use crate::cause::Cause;
@@ -27,7 +27,7 @@ pub(crate) struct Subscription<Q> {
 }
 
 impl<Q: Outlet + Drop> Subscription<Q> {
-    ghost use Rattle.mcast_group.specs.Inner.GroupInvariant.{entry_of, room_of};
+    ghost use Rattle.mcast_group.specs.Inner.GroupInvariant.{entry_of, gauge_of};
 
     /// What it leaves at this frontier.
     pub(crate) fn end(self, frontier: Stamp) -> Ended<Q>
@@ -62,7 +62,7 @@ impl<Q: Outlet + Drop> Subscription<Q> {
     /// Makes room for `more` items in an open outlet.
     pub(crate) fn reserve(&mut self, more: usize) -> Result<(), NoMemory>
         ensures entry { entry_of Q.shown self.new ≡ entry_of Q.shown self.old }
-        ensures room { room_of Q.shown self.new ≡ room_of Q.shown self.old }
+        ensures gauge { gauge_of Q.shown self.new ≡ gauge_of Q.shown self.old }
         ensures spare { Q.spare self.old.outlet ≤ Q.spare self.new.outlet }
         ensures ok { OnOk result (self.new.to ≡ None → more ≤ Q.spare self.new.outlet) }
     {
@@ -86,7 +86,7 @@ impl<Q: Outlet + Drop> Subscription<Q> {
         requires copies { AreOf part.now.part copies.old }
         ensures entry { entry_of Q.shown self.new
             ≡ entry_after (λ _. result) frontier (item_of part.now) (entry_of Q.shown self.old) }
-        ensures room { room_of Q.shown self.new ≡ room_of Q.shown self.old }
+        ensures gauge { gauge_of Q.shown self.new ≡ gauge_of Q.shown self.old }
         ensures answer { self.old.to ≡ None → Q.may_accept (Q.shown self.old.outlet) result }
         ensures spare { Q.spare self.old.outlet ≤ Q.spare self.new.outlet + 1 }
         ensures copies { AreOf part.now.part copies.new }

@@ -8,7 +8,7 @@ ghost use Rattle.sub_queue.specs.VecQueue.{after_take, shown_of};
 ghost use Rattle.mcast_group.specs.CellGroup.{open_count};
 ghost use Rattle.mcast_group.specs.Machine.{item_of, key};
 ghost use Rattle.mcast_group.specs.Inner.Copies.{AreOf};
-ghost use Rattle.mcast_group.specs.Inner.GroupInvariant.{Gave, IsReady, entry_of, room_of};
+ghost use Rattle.mcast_group.specs.Inner.GroupInvariant.{Gave, IsReady, entry_of, gauge_of};
 ghost use Rattle.mcast_group.specs.Inner.Subscriptions.{IsIndexFor, endless_count, insert_sub};
 ghost use Rattle.mcast_group.specs.declared.subscription.Subscription.{Subscription};
 
@@ -155,7 +155,7 @@ impl<Q: Outlet + Drop> Subscriptions<Q> {
     /// Makes room for `more` items in the outlet of each open subscription; no spare falls.
     pub(crate) fn reserve_each(&mut self, more: usize) -> Result<(), NoMemory>
         ensures entries { map (entry_of Q.shown) self.new ≡ map (entry_of Q.shown) self.old }
-        ensures rooms { map (room_of Q.shown) self.new ≡ map (room_of Q.shown) self.old }
+        ensures gauges { map (gauge_of Q.shown) self.new ≡ map (gauge_of Q.shown) self.old }
         ensures spares { (k : ℕ) (d : Subscription Q) → k < length self.old
             → Q.spare (slice_index_or self.old k d).outlet ≤ Q.spare (slice_index_or self.new k d).outlet }
         ensures ok { OnOk result ((k : ℕ) (d : Subscription Q) → k < length self.old
@@ -213,7 +213,7 @@ fn reserve_in_each<Q: Outlet + Drop>(
     more: usize,
 ) -> Result<(), NoMemory>
     ensures entries { map (entry_of Q.shown) subs.new.items ≡ map (entry_of Q.shown) subs.old.items }
-    ensures rooms { map (room_of Q.shown) subs.new.items ≡ map (room_of Q.shown) subs.old.items }
+    ensures gauges { map (gauge_of Q.shown) subs.new.items ≡ map (gauge_of Q.shown) subs.old.items }
     ensures spares { (k : ℕ) (d : Subscription Q) → k < length subs.old.items
         → Q.spare (slice_index_or subs.old.items k d).outlet ≤ Q.spare (slice_index_or subs.new.items k d).outlet }
     ensures ok { OnOk result ((k : ℕ) (d : Subscription Q) → k < length subs.old.items

@@ -60,7 +60,7 @@ found-lookup id (e ∷ es) = by (bytes_eq id e.0.items) (found-lookup id es)
     by true rest = refl
     by false rest = rest
 
--- what a look-up finds is at its place, and it alone is used by a claim
+-- what a look-up finds is at its index, and it alone is used by a claim
 record IsFoundAt (id : List ℕ) (es : List Entry) (i : ℕ) (v : KeptGate) : Type 0 where
   pub found : find (λ k. bytes_eq id k.client) (map kept_sender_of es) ≡ Some (kept_as id v)
   pub at : slice_get (map kept_sender_of es) i ≡ Some (kept_as id v)
@@ -77,8 +77,8 @@ others_not_used id (e ∷ es) all = rw (not_used id e (bytes_eq id e.0.items) re
 found_at : (id : List ℕ) (es : List Entry) (i : ℕ) (v : KeptGate) → IsDistinct same_key (keys_of es)
     → i ≡ position_or_len (is_key id) (keys_of es) → slice_get (values_of es) i ≡ Some v → IsFoundAt id es i v
 unfolding IsDistinct
-found_at id [] i v distinct place at = absurd (none-some v at)
-found_at id (e ∷ es) i v distinct place at = by (bytes_eq id e.0.items) refl i place at (λ j. found_at id es j v distinct.1)
+found_at id [] i v distinct index at = absurd (none-some v at)
+found_at id (e ∷ es) i v distinct index at = by (bytes_eq id e.0.items) refl i index at (λ j. found_at id es j v distinct.1)
   where
     here : bytes_eq id e.0.items ≡ true → e.1 ≡ v → IsFoundAt id (e ∷ es) 0 v
     here t same =
@@ -101,14 +101,14 @@ found_at id (e ∷ es) i v distinct place at = by (bytes_eq id e.0.items) refl i
     by : (b : Bool) → bytes_eq id e.0.items ≡ b → (i : ℕ) → i ≡ position_or_len (is_key id) (keys_of (e ∷ es)) → slice_get (values_of (e ∷ es)) i ≡ Some v
         → ((j : ℕ) → j ≡ position_or_len (is_key id) (keys_of es) → slice_get (values_of es) j ≡ Some v → IsFoundAt id es j v)
         → IsFoundAt id (e ∷ es) i v
-    by true t zero place at rest = here t cc
-    by true t (suc i) place at rest = let none : suc i ≡ 0 = rw t at place in absurd (omega (arith, none))
-    by false t zero place at rest = let none : 0 ≡ 1 + position_or_len (is_key id) (keys_of es) = rw t at place in absurd (omega (arith, none))
-    by false t (suc i) place at rest =
-        let next : suc i ≡ 1 + position_or_len (is_key id) (keys_of es) = rw t at place in
+    by true t zero index at rest = here t cc
+    by true t (suc i) index at rest = let none : suc i ≡ 0 = rw t at index in absurd (omega (arith, none))
+    by false t zero index at rest = let none : 0 ≡ 1 + position_or_len (is_key id) (keys_of es) = rw t at index in absurd (omega (arith, none))
+    by false t (suc i) index at rest =
+        let next : suc i ≡ 1 + position_or_len (is_key id) (keys_of es) = rw t at index in
         later t i (rest i (omega (arith, next)) at)
 
--- what the kept sender at a place has, from its entry
+-- what the kept sender at an index has, from its entry
 pub gate_at : (es : List Entry) (i : ℕ) (v : KeptGate) → slice_get (values_of es) i ≡ Some v → option_and_then (λ (k : KeptSender). k.gate) (slice_get (map kept_sender_of es) i) ≡ v.gate
 gate_at [] i v at = absurd (none-some v at)
 gate_at (e ∷ es) zero v at = let here : e.1 ≡ v = cc in ap (λ (w : KeptGate). w.gate) here
@@ -150,11 +150,11 @@ first_at id ks i at = by (nat_lt (position_or_len (is_key id) ks) (length ks)) r
         (own, omega (arith, own, within))
     by false t at = absurd (none-some i (sym at))
 
--- a look-up of a client-id finds the place of the sender that its claim goes on with
-pub place_found : (id : List ℕ) (count : ℕ) (es : List Entry) (r : Option ℕ) → r ≡ position (is_key id) (keys_of es) → IsDistinct same_key (keys_of es)
+-- a look-up of a client-id finds the index of the sender that its claim goes on with
+pub index_found : (id : List ℕ) (count : ℕ) (es : List Entry) (r : Option ℕ) → r ≡ position (is_key id) (keys_of es) → IsDistinct same_key (keys_of es)
     → IfSome r (IsClaimedAt (Some id) (the_senders count (map kept_sender_of es)))
-place_found id count es None at distinct = tt
-place_found id count es (Some i) at distinct =
+index_found id count es None at distinct = tt
+index_found id count es (Some i) at distinct =
     let first = first_at id (keys_of es) i at in
     let value = value_at es i first.1 in
     let found = found_at id es i value.0 distinct first.0 value.1 in
@@ -167,7 +167,7 @@ place_found id count es (Some i) at distinct =
 
 -- ---- writes
 
--- an entry's value is written at its place
+-- an entry's value is written at its index
 pub kept_sender_of-set_value_at : (es : List Entry) (i : ℕ) (k : KeptSender) (w : KeptGate) → slice_get (map kept_sender_of es) i ≡ Some k → w.sender ≡ k.sender
     → map kept_sender_of (set_value_at es i w) ≡ slice_set (map kept_sender_of es) i (record k { gate = w.gate })
 kept_sender_of-set_value_at [] i k w at own = refl

@@ -5,7 +5,7 @@ ghost use Rattle.sender_gate.specs.Senders.{max_senders};
 
 use mcast_txn::Sender;
 
-/// What a claim that isn't refused goes on with: the kept sender at a place, which isn't in use, or a new one.
+/// What a claim that isn't refused goes on with: the kept sender at an index, which isn't in use, or a new one.
 #[derive(Drop)]
 pub(crate) enum Claim {
     Kept(usize),

@@ -86,8 +86,8 @@ impl Senders {
         ensures err { OnErr result (self.new ≡ self.old) }
     {
         match self.judge(client)? {
-            Claim::Kept(place) => Ok(self.take(place)),
-            Claim::New(sender) => self.begin(sender, client),
+            Claim::Kept(index) => Ok(self.take(index)),
+            Claim::New(sender) => self.add(sender, client),
         }
     }
 
@@ -100,16 +100,16 @@ impl Senders {
         let found = self
             .kept
             .binary_search_by_key(&number, |_: &Vec<u8>, kept: &KeptGate| kept.sender.0);
-        if let Ok(place) = found {
-            let kept = self.kept.get_index_mut(place).unwrap();
+        if let Ok(index) = found {
+            let kept = self.kept.get_index_mut(index).unwrap();
             if kept.gate.is_none() {
                 kept.gate = Some(gate);
             }
         }
     }
 
-    /// The place of the kept sender that such a claim goes on with, if there is one. It is found without a walk.
-    fn place_of(&self, client: Option<&[u8]>) -> Option<usize>
+    /// The index of the kept sender that such a claim goes on with, if there is one. It is found without a walk.
+    fn index_of(&self, client: Option<&[u8]>) -> Option<usize>
         ensures none { is_some result ≡ is_some (claimed (option_map (λ id. id.now) client.entry) self.now) }
         ensures at { IfSome result (IsClaimedAt (option_map (λ id. id.now) client.entry) self.now) }
     {
@@ -121,11 +121,11 @@ impl Senders {
         ensures fault { result_err result ≡ claim_refusal (option_map (λ id. id.now) client.entry) self.now }
         ensures claim { IfOk result (IsClaim (option_map (λ id. id.now) client.entry) self.now) }
     {
-        if let Some(place) = self.place_of(client) {
-            if self.kept[place].gate.is_none() {
+        if let Some(index) = self.index_of(client) {
+            if self.kept[index].gate.is_none() {
                 return Err(ClaimFault::SenderInUse);
             }
-            return Ok(Claim::Kept(place));
+            return Ok(Claim::Kept(index));
         }
         if client.is_some() && self.kept.len() >= MAX_CLIENTS {
             return Err(ClaimFault::TooManyClients);
@@ -136,18 +136,18 @@ impl Senders {
         }
     }
 
-    /// Takes the gate of the kept sender at a place, which has one: it is then in use.
-    fn take(&mut self, place: usize) -> Gate
-        requires { is_some (option_and_then (λ k. k.gate) (slice_get self.old.kept place)) ≡ true }
-        ensures gate { option_and_then (λ k. k.gate) (slice_get self.old.kept place) ≡ Some result }
-        ensures after { (k : KeptSender) → slice_get self.old.kept place ≡ Some k
-            → self.new ≡ with_used_at place k self.old }
+    /// Takes the gate of the kept sender at an index, which has one: it is then in use.
+    fn take(&mut self, index: usize) -> Gate
+        requires { is_some (option_and_then (λ k. k.gate) (slice_get self.old.kept index)) ≡ true }
+        ensures gate { option_and_then (λ k. k.gate) (slice_get self.old.kept index) ≡ Some result }
+        ensures after { (k : KeptSender) → slice_get self.old.kept index ≡ Some k
+            → self.new ≡ with_used_at index k self.old }
     {
-        self.kept.get_index_mut(place).unwrap().gate.take().unwrap()
+        self.kept.get_index_mut(index).unwrap().gate.take().unwrap()
     }
 
-    /// Begins the next sender, and keeps it where it has a client-id, which isn't kept yet.
-    fn begin(&mut self, sender: Sender, client: Option<&[u8]>) -> Result<Gate, ClaimFault>
+    /// Adds the next sender, which is kept where it has a client-id; this isn't kept yet.
+    fn add(&mut self, sender: Sender, client: Option<&[u8]>) -> Result<Gate, ClaimFault>
         requires { IsNextSender (option_map (λ id. id.now) client) self.old sender }
         ensures gate { IfOk result (λ gate. gate ≡ new_gate sender) }
         ensures ok { OnOk result

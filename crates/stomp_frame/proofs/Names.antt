@@ -27,13 +27,15 @@ either_way xs ys = same_from_decides (bytes_eq xs ys) (bytes_eq ys xs) (bytes_eq
 same_cond : {X : Type 0} (a b : Bool) (x v y w : X) → a ≡ b → x ≡ v → y ≡ w → cond a x y ≡ cond b v w
 same_cond a b x v y w p q r = cc
 
-or_swap : (a b : Bool) → (a || b) ≡ (b || a)
+-- of two tests either may come first
+pub or_swap : (a b : Bool) → (a || b) ≡ (b || a)
 or_swap true true = refl
 or_swap true false = refl
 or_swap false true = refl
 or_swap false false = refl
 
-or_third : (a b c : Bool) → (a || (b || c)) ≡ (b || (a || c))
+-- of three tests the second may come first
+pub or_third : (a b c : Bool) → (a || (b || c)) ≡ (b || (a || c))
 or_third true true c = refl
 or_third true false c = refl
 or_third false true c = refl

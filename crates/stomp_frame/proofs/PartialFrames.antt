@@ -19,7 +19,7 @@ use Rattle.stomp_frame.specs.ContentLength.{length_of, content_length}
 use Rattle.stomp_frame.specs.Inner.Parser.{Halt, Fault, ◌>>=◌, Stops, cut, line_at, after_eols, command_of, header_of, headers_at, counted_at, uncounted_at, body_at, frame_at}
 use Rattle.stomp_frame.specs.Inner.PartialFrames.{IsUnfound, HasBegun, IsReadUpTo, IsPartial, IsReaderState, body_length, body_of, frame_of_body, frame_resumed, frame_after_headers, frame_after_front}
 use Rattle.stomp_frame.proofs.Loop.{with_front, line_fails, header_fails, ends, too_many, goes_on}
-use Rattle.stomp_frame.proofs.Sound.{eols_take, eols_again}
+use Rattle.stomp_frame.proofs.Sound.{eols_take, eols_again, same_front}
 use Rattle.stomp_frame.proofs.Steady.{Extends, line_open, line_steady, eols_cases, eols_steady}
 
 -- ---- what was searched
@@ -73,14 +73,6 @@ read_up_to_none limits text = record { within = omega arith; few = omega arith; 
 
 -- ---- the end-of-lines before a frame
 
-by_eols : (limits : Limits) (a b : List ℕ) → after_eols a ≡ after_eols b → frame_at limits a ≡ frame_at limits b
-unfolding frame_at
-by_eols limits a b e = rw e refl
-
--- end-of-lines are skipped once for all
-pub eols_once : (rest : List ℕ) → after_eols (after_eols rest) ≡ after_eols rest
-eols_once rest = let t = eols_take rest in sym (ap after_eols t.1 ∙ eols_again t.0 (after_eols rest))
-
 -- skipping goes on from where it stopped
 pub eols_more : (rest more : List ℕ) → after_eols (rest ++ more) ≡ after_eols (after_eols rest ++ more)
 eols_more rest more =
@@ -88,21 +80,18 @@ eols_more rest more =
     let front = flat_map eol t.0 in
     ap (λ (r : List ℕ). after_eols (r ++ more)) t.1 ∙ ap after_eols (append_assoc front (after_eols rest) more) ∙ eols_again t.0 (after_eols rest ++ more)
 
-shorter : (text : List ℕ) (front start : ℕ) → front ≤ length text → start ≤ length text → drop start text ≡ after_eols (drop front text) → front ≤ start
-shorter text front start w v e =
+-- skipping goes forward
+pub front_order : (text : List ℕ) (front start : ℕ) → front ≤ length text → start ≤ length text → drop start text ≡ after_eols (drop front text) → front ≤ start
+front_order text front start w v e =
     let t = eols_take (drop front text) in
     let long = ap length t.1 ∙ length-append (flat_map eol t.0) (after_eols (drop front text)) in
     let left = ap length e in
     omega (arith, long, left, length-drop start text, length-drop front text)
 
--- skipping goes forward
-pub front_order : (text : List ℕ) (front start : ℕ) → front ≤ length text → start ≤ length text → drop start text ≡ after_eols (drop front text) → front ≤ start
-front_order text front start w v e = shorter text front start w v e
-
 -- where nothing was skipped the frame begins where it did
 pub front_same : (limits : Limits) (text : List ℕ) (awaited : Awaited) (headers : List Header) (parsed searched front start : ℕ) → front ≤ length text → start ≤ length text → start ≤ front → drop start text ≡ after_eols (drop front text) → IsReadUpTo limits (drop front text) awaited headers parsed searched → IsReadUpTo limits (drop start text) awaited headers parsed searched
 front_same limits text awaited headers parsed searched front start w v le e h =
-    let more = shorter text front start w v e in
+    let more = front_order text front start w v e in
     let same : front ≡ start = omega arith in
     subst (λ (k : ℕ). IsReadUpTo limits (drop k text) awaited headers parsed searched) same h
 
@@ -328,4 +317,4 @@ same_skipped a b c p q = ap after_eols (sym (append-nil a)) ∙ p [] ∙ q [] �
 
 -- the frame is the same after the end-of-lines
 pub same_frame : (limits : Limits) (a b c : List ℕ) → ((more : List ℕ) → after_eols (a ++ more) ≡ after_eols (b ++ more)) → ((more : List ℕ) → after_eols (b ++ more) ≡ after_eols (c ++ more)) → frame_at limits a ≡ frame_at limits c
-same_frame limits a b c p q = by_eols limits a c (same_skipped a b c p q)
+same_frame limits a b c p q = same_front limits a c (same_skipped a b c p q)

@@ -10,7 +10,7 @@ use Rattle.stomp_frame.specs.Headers.{Header}
 use Rattle.stomp_frame.specs.Writing.{header_line, header_lines, spelling_of, Extends}
 use Rattle.stomp_frame.specs.ServerFrames.{optional_header, first_entries, withheld, message_id, receipt_frame, error_frame}
 use Rattle.stomp_frame.proofs.Digits.{decimal_plain, id_plain}
-use Rattle.stomp_frame.proofs.Names.{has, seen, either_way, seen_more, rest_at, same_names, at_cons, again}
+use Rattle.stomp_frame.proofs.Names.{has, seen, either_way, or_swap, seen_more, rest_at, same_names, at_cons, again}
 use Rattle.stomp_frame.proofs.Written.{taken}
 
 -- a header's line, with its LF
@@ -102,12 +102,6 @@ error_put old b c d e message receipt version pb pc pd pe =
 before_has : (hs : List Header) (q : List ℕ) → list_any (λ h. bytes_eq h.0 q) hs ≡ has (map (λ h. h.0) hs) q
 before_has [] q = refl
 before_has (h ∷ hs) q = ap (λ b. b || list_any (λ g. bytes_eq g.0 q) hs) (either_way h.0 q) ∙ ap (λ b. bytes_eq q h.0 || b) (before_has hs q)
-
-or_swap : (a b : Bool) → (a || b) ≡ (b || a)
-or_swap true true = refl
-or_swap true false = refl
-or_swap false true = refl
-or_swap false false = refl
 
 -- whether a header is dropped: its name is withheld, or came before
 pub dropped_by : (hs : List Header) (q : List ℕ) (kept before : Bool) → kept ≡ has withheld q → before ≡ list_any (λ h. bytes_eq h.0 q) hs → (kept || before) ≡ has (seen hs) q

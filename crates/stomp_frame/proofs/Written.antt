@@ -10,6 +10,7 @@ use Rattle.std.proofs.lemmas.Option.{same_Some}
 use Rattle.std.proofs.lemmas.List.{append-nil}
 use Rattle.std.proofs.lemmas.List.Concat.{flat_map-append}
 use Rattle.stomp_escape.specs.Escape.{letter_of, escaped}
+use Rattle.stomp_escape.proofs.Letters.{option_cases}
 use Rattle.stomp_escape.proofs.Laws.{Spells-escaped}
 use Rattle.stomp_frame.specs.declared.command.Command.{Command}
 use Rattle.stomp_frame.specs.declared.command.Command.TheVariants.{Send, Subscribe, Unsubscribe, Begin, Commit, Abort, Ack, Nack, Disconnect, Connect, Stomp, Connected, Message, Receipt, Error}
@@ -21,7 +22,7 @@ use Rattle.stomp_frame.specs.ContentLength.{length_of, content_length}
 use Rattle.stomp_frame.specs.Grammar.{IsLine, Encodes, IsHeader, AreHeaders, IsSpelling, BeginsWith}
 use Rattle.stomp_frame.specs.Writing.{written_text, header_line, header_lines, spelling_of, IsBare, SaysLength, HasItsLength, IsWritable, IsWithin}
 use Rattle.stomp_frame.proofs.Digits.{says}
-use Rattle.stomp_frame.proofs.Texts.{escaped_utf8, with_ascii, option_cases}
+use Rattle.stomp_frame.proofs.Texts.{escaped_utf8, with_ascii}
 
 abbrev Plain : ℕ → Type 0
 Plain b = (b ≢ 10) × (b ≢ 13) × (b ≢ 0)

@@ -23,7 +23,8 @@ use Rattle.mcast_txn.specs.Checks.{first_refusal}
 use Rattle.stomp_session.specs.Inner.Effects.{entries_without, with_send, effect, refusal_by}
 use Rattle.stomp_session.proofs.LeftOpen.{opened, opened-quiet, opened-open, opened-close, opened-send, list_any-push}
 
-abbrev opens_subscription : RawFrame → Bool
+-- the frame opens a subscription
+abbrev pub opens_subscription : RawFrame → Bool
 opens_subscription f = is_subscribe f.command
 
 abbrev opens_transaction : RawFrame → Bool
@@ -32,7 +33,8 @@ opens_transaction f = is_begin f.command
 abbrev sends_of : List (List ℕ) → RawFrame → List RawFrame → List SentMessage
 sends_of names f after = map (send_of names) (filter (is_send_in (transaction_of f)) after)
 
-subscriptions_left-opened : (names : List (List ℕ)) (frames : List RawFrame) → subscriptions_left names frames ≡ opened opens_subscription names_subscription id_of (λ f after. topic_of names f) frames
+-- the subscriptions that frames left open are those opened and not named since
+pub subscriptions_left-opened : (names : List (List ℕ)) (frames : List RawFrame) → subscriptions_left names frames ≡ opened opens_subscription names_subscription id_of (λ f after. topic_of names f) frames
 subscriptions_left-opened names [] = refl
 subscriptions_left-opened names (f ∷ after) =
     λ i. cond (is_subscribe f.command && not (list_any (names_subscription (id_of f)) after)) ((id_of f, topic_of names f) ∷ subscriptions_left-opened names after i) (subscriptions_left-opened names after i)
@@ -42,7 +44,8 @@ transactions_left-opened names [] = refl
 transactions_left-opened names (f ∷ after) =
     λ i. cond (is_begin f.command && not (list_any (names_transaction (transaction_of f)) after)) ((transaction_of f, sends_of names f after) ∷ transactions_left-opened names after i) (transactions_left-opened names after i)
 
-subscription_by_id : (x : List ℕ) (g : RawFrame) → is_subscribe g.command ≡ true → names_subscription x g ≡ bytes_eq (id_of g) x
+-- a SUBSCRIBE names the subscription of its id
+pub subscription_by_id : (x : List ℕ) (g : RawFrame) → is_subscribe g.command ≡ true → names_subscription x g ≡ bytes_eq (id_of g) x
 subscription_by_id x g opens = ap (λ b. (b || is_unsubscribe g.command) && bytes_eq (id_of g) x) opens
 
 transaction_by_id : (x : List ℕ) (g : RawFrame) → is_begin g.command ≡ true → names_transaction x g ≡ bytes_eq (transaction_of g) x

@@ -1,6 +1,6 @@
 -- Names that come later: a topic's number stays, and what is open after frames whose destinations are known.
 use Rattle.std.proofs.Common.{◌≡◌, ℕ, ◌+◌, ◌-◌, Bool, true, false, cond, not, ◌&&◌, ◌||◌, inl, inr, List, [], ◌∷◌, ◌++◌, length, take, map, filter, codes, refl, sym, ap, subst, ◌∙◌, arith, if◌then◌else◌}
-use Rattle.std.proofs.lemmas.Bool.{false≢true, or_parts}
+use Rattle.std.proofs.lemmas.Bool.{false≢true, or_parts, and_parts}
 use Rattle.std.proofs.lemmas.List.{append-nil, length-append}
 use Rattle.std.proofs.lemmas.List.Folds.{list_any-append}
 use Rattle.std.proofs.lemmas.List.Recursion.{is_position_or_len}
@@ -18,11 +18,12 @@ use Rattle.stomp_session.specs.Frames.{field, has_destination, with_destination,
 use Rattle.stomp_session.specs.Open.{state_of, IsKnownTo, LaterNamesStand, held_after, is_ended, phase_of, subscriptions_left, transactions_left}
 
 -- the number of the first of these names that passes; how many there are where none does
-abbrev first_index : (List ℕ → Bool) → List (List ℕ) → ℕ
+abbrev pub first_index : (List ℕ → Bool) → List (List ℕ) → ℕ
 first_index p [] = 0
 first_index p (x ∷ xs) = cond (p x) 0 (1 + first_index p xs)
 
-index_is_first : (name : List ℕ) (names : List (List ℕ)) → first_index (bytes_eq name) names ≡ index_of name names
+-- a name's number is that of the first that is it
+pub index_is_first : (name : List ℕ) (names : List (List ℕ)) → first_index (bytes_eq name) names ≡ index_of name names
 index_is_first name names = is_position_or_len (first_index (bytes_eq name)) (bytes_eq name) refl (λ x xs. refl) names
 
 first-later : (p : List ℕ → Bool) (names more : List (List ℕ)) → list_any p names ≡ true → first_index p (names ++ more) ≡ first_index p names
@@ -121,13 +122,10 @@ subscribe_has : (command : Command) → is_subscribe command ≡ true → has_de
 subscribe_has commands.Subscribe e = refl
 subscribe_has _ e = cc
 
-send_has : (command : Command) → is_send command ≡ true → has_destination command ≡ true
+-- a SEND has a destination
+pub send_has : (command : Command) → is_send command ≡ true → has_destination command ≡ true
 send_has commands.Send e = refl
 send_has _ e = cc
-
-and_first : (a b : Bool) → (a && b) ≡ true → a ≡ true
-and_first true b e = refl
-and_first false b e = absurd (false≢true e)
 
 pub subscriptions_left-same : (names others : List (List ℕ)) (frames : List RawFrame) → AreSame names others frames → subscriptions_left others frames ≡ subscriptions_left names frames
 subscriptions_left-same names others [] same = refl
@@ -138,7 +136,7 @@ subscriptions_left-same names others (f ∷ after) same = by (is_subscribe f.com
         ≡ cond b ((id_of f, topic_of names f) ∷ subscriptions_left names after) (subscriptions_left names after)
     by false e rest = rest
     by true e rest =
-        let topic : topic_of others f ≡ topic_of names f = same f (inl refl) (subscribe_has f.command (and_first _ _ e)) in
+        let topic : topic_of others f ≡ topic_of names f = same f (inl refl) (subscribe_has f.command (and_parts _ _ e).0) in
         λ i. (id_of f, topic i) ∷ rest i
 
 sends-same : (names others : List (List ℕ)) (x : List ℕ) (frames : List RawFrame) → AreSame names others frames
@@ -152,7 +150,7 @@ sends-same names others x (f ∷ frames) same = by (is_send_in x f) refl (sends-
         ≡ map (send_of names) (cond b (f ∷ filter (is_send_in x) frames) (filter (is_send_in x) frames))
     by false e rest = rest
     by true e rest =
-        let topic : topic_of others f ≡ topic_of names f = same f (inl refl) (send_has f.command (and_first _ _ e)) in
+        let topic : topic_of others f ≡ topic_of names f = same f (inl refl) (send_has f.command (and_parts _ _ e).0) in
         λ i. record { topic = topic i; headers = f.headers; body = f.body } ∷ rest i
 
 transactions_left-same : (names others : List (List ℕ)) (frames : List RawFrame) → AreSame names others frames → transactions_left others frames ≡ transactions_left names frames

@@ -1,5 +1,5 @@
 -- What frames of one kind open, by their ids, and what one more frame at the end changes.
-use Rattle.std.proofs.Common.{◌≡◌, ℕ, Bool, true, false, cond, not, ◌&&◌, ◌||◌, List, [], ◌∷◌, ◌++◌, refl, sym, ap, ◌∙◌, true≢false, if◌then◌else◌}
+use Rattle.std.proofs.Common.{◌≡◌, ℕ, Bool, true, false, cond, not, ◌&&◌, ◌||◌, List, [], ◌∷◌, ◌++◌, refl, sym, ap, ◌∙◌, if◌then◌else◌}
 use Rattle.std.proofs.lemmas.List.Folds.{list_any-append}
 use Rattle.std.specs.Cmp.Lexicographic.{nat_list_eq_equiv}
 use Rattle.std.specs.List.{list_any}
@@ -8,7 +8,7 @@ use Rattle.stomp_frame.specs.declared.raw_frame.RawFrame.{RawFrame}
 use Rattle.mcast_txn.specs.declared.draft.sent_message.SentMessage.{SentMessage}
 use Rattle.stomp_session.specs.Refusals.{is_open}
 use Rattle.stomp_session.specs.Inner.Effects.{entries_without, with_send}
-use Rattle.std.proofs.lemmas.Bool.{or_parts}
+use Rattle.std.proofs.lemmas.Bool.{or_parts, and_parts, not-true}
 
 or_none : (a : Bool) → (a || false) ≡ a
 or_none true = refl
@@ -26,15 +26,6 @@ and_not_or : (a b c : Bool) → (a && not (b || c)) ≡ ((a && not b) && not c)
 and_not_or true true c = refl
 and_not_or true false c = refl
 and_not_or false b c = refl
-
-and_first : (a b : Bool) → (a && b) ≡ true → a ≡ true
-and_first true b e = refl
-and_first false b e = absurd (true≢false (sym e))
-
-not_none : (a b : Bool) → (a && not b) ≡ true → b ≡ false
-not_none true true e = absurd (true≢false (sym e))
-not_none true false e = refl
-not_none false b e = absurd (true≢false (sym e))
 
 -- a frame passes after a push if one did before, or the new one does
 pub list_any-push : (p : RawFrame → Bool) (frames : List RawFrame) (f : RawFrame) → list_any p (frames ++ f ∷ []) ≡ (list_any p frames || p f)
@@ -75,7 +66,7 @@ module _ {X : Type 0} (opens : RawFrame → Bool) (names_it : List ℕ → RawFr
     where
       by : (b : Bool) → stays g after ≡ b → is_open x (opened after) ≡ false → is_open x (if b then (id g, value g after) ∷ opened after else opened after) ≡ false
       by true there rest =
-          let other : bytes_eq x (id g) ≡ false = nat_list_eq_equiv.symm x (id g) ∙ sym (by_id x g (and_first (opens g) (not (list_any (names_it (id g)) after)) there)) ∙ (or_parts (names_it x g) (list_any (names_it x) after) unnamed).0 in
+          let other : bytes_eq x (id g) ≡ false = nat_list_eq_equiv.symm x (id g) ∙ sym (by_id x g (and_parts (opens g) (not (list_any (names_it (id g)) after)) there).0) ∙ (or_parts (names_it x g) (list_any (names_it x) after) unnamed).0 in
           rw other rest
       by false there rest = rest
 
@@ -119,7 +110,7 @@ module _ {X : Type 0} (opens : RawFrame → Bool) (names_it : List ℕ → RawFr
             → opened (g ∷ after ++ f ∷ []) ≡ entries_without (id f) (if b then (id g, value g after) ∷ opened after else opened after)
         by true there true same_id rest =
             let gone : stays g (after ++ f ∷ []) ≡ false = stays-push g after f ∙ ap (λ b. stays g after && not b) (by_id (id g) ∙ same_id) ∙ and_none (stays g after) in
-            let unnamed : list_any (names_it (id g)) after ≡ false = not_none (opens g) (list_any (names_it (id g)) after) there in
+            let unnamed : list_any (names_it (id g)) after ≡ false = not-true _ (and_parts (opens g) (not (list_any (names_it (id g)) after)) there).1 in
             let shut_g : is_open (id g) (opened after) ≡ false = is_open-unnamed all_by_id (id g) after unnamed in
             let shut : is_open (id f) (opened after) ≡ false = ap (λ test. list_any test (opened after)) (λ i o. nat_list_eq_equiv.congr (id f) (id g) o.0 same_id i) ∙ shut_g in
             rw (gone, same_id) (rest ∙ entries_without-shut (id f) (opened after) shut)
@@ -144,7 +135,7 @@ module _ (opens : RawFrame → Bool) (names_it : List ℕ → RawFrame → Bool)
           → opened opens names_it id value (g ∷ after ++ f ∷ []) ≡ with_send x send (if b then (id g, value g after) ∷ opened opens names_it id value after else opened opens names_it id value after)
       by true there true same_id rest =
           let kept : stays opens names_it id value g (after ++ f ∷ []) ≡ true = stays-push opens names_it id value g after f ∙ ap (λ b. stays opens names_it id value g after && not b) (names_none (id g)) ∙ and_all (stays opens names_it id value g after) ∙ there in
-          let unnamed : list_any (names_it (id g)) after ≡ false = not_none (opens g) (list_any (names_it (id g)) after) there in
+          let unnamed : list_any (names_it (id g)) after ≡ false = not-true _ (and_parts (opens g) (not (list_any (names_it (id g)) after)) there).1 in
           let shut_g : is_open (id g) (opened opens names_it id value after) ≡ false = is_open-unnamed opens names_it id value all_by_id (id g) after unnamed in
           let shut : is_open x (opened opens names_it id value after) ≡ false = ap (λ test. list_any test (opened opens names_it id value after)) (λ i o. nat_list_eq_equiv.congr x (id g) o.0 same_id i) ∙ shut_g in
           let now : value g (after ++ f ∷ []) ≡ value g after ++ send ∷ [] = adds g after ∙ ap (λ t. if t then value g after ++ send ∷ [] else value g after) same_id in

@@ -9,7 +9,7 @@ use Rattle.mcast_txn.specs.Span.{Item, item_stamp}
 use Rattle.sub_queue.specs.declared.rule.Knowledge.{Knowledge}
 use Rattle.sub_queue.specs.Rule.{knowledge, pusher_knowledge, taker_knowledge, Agrees, IsInOrder, rest_of}
 use Rattle.sub_queue.specs.Ends.{End, QueueId, shown_of_source}
-use Rattle.sub_queue.specs.Shown.{Shown, IsAboveLast, after_push, has_room, next_index, room_after_take, untaken}
+use Rattle.sub_queue.specs.Shown.{Shown, IsAboveLast, after_push, has_room, next_index, gauge_after_take, untaken}
 use Rattle.sub_queue.specs.VecQueue.{VecQueue, after_take, shown_of}
 use Rattle.sub_queue.proofs.RisingItems.{rises_after_push}
 
@@ -25,7 +25,7 @@ two taken = record { accepted = item 1 ∷ item 2 ∷ []; capacity = 2; taken = 
 
 -- two items of an outlet of which nobody knows how many were taken
 abbrev two_unknown : Shown
-two_unknown = record { accepted = item 1 ∷ item 2 ∷ []; room = record { capacity = 2; taken = None } }
+two_unknown = record { accepted = item 1 ∷ item 2 ∷ []; gauge = record { capacity = 2; taken = None } }
 
 no_room_where_full : has_room (shown_of (two 0)) ≡ false
 no_room_where_full = refl
@@ -45,11 +45,11 @@ none_is_next_after_two = refl
 nothing_is_taken_twice : after_take (two 2) ≡ two 2
 nothing_is_taken_twice = refl
 
-room_with_one_more : room_after_take (shown_of (two 1)) ≡ record { capacity = 2; taken = Some 2 }
-room_with_one_more = refl
+gauge_with_one_more : gauge_after_take (shown_of (two 1)) ≡ record { capacity = 2; taken = Some 2 }
+gauge_with_one_more = refl
 
-room_of_all_taken : room_after_take (shown_of (two 2)) ≡ record { capacity = 2; taken = Some 2 }
-room_of_all_taken = refl
+gauge_of_all_taken : gauge_after_take (shown_of (two 2)) ≡ record { capacity = 2; taken = Some 2 }
+gauge_of_all_taken = refl
 
 one_is_untaken : untaken (shown_of (two 1)) ≡ 1
 one_is_untaken = refl

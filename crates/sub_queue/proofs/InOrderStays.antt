@@ -9,10 +9,11 @@ use Rattle.crossbeam_queue.specs.Fifo.{Pushes, Pops, Forks, Merges, Learns}
 use Rattle.crossbeam_queue.proofs.Lists.{at_set}
 use Rattle.mcast_txn.specs.Lists.{Rises}
 use Rattle.mcast_txn.specs.Span.{Item, item_stamp}
+use Rattle.mcast_txn.proofs.Sorting.{Rises-front}
 use Rattle.sub_queue.specs.declared.rule.Knowledge.{Knowledge}
 use Rattle.sub_queue.specs.Rule.{knowledge, pusher_knowledge, taker_knowledge, witness_knowledge, no_knowledge, knowing_taken, after_pushing, after_taking, Agrees, BeginsWithItems, IsInOrder, EndsUntaken, rest_of, IsFront}
 use Rattle.sub_queue.specs.Shown.{IsAboveLast}
-use Rattle.sub_queue.proofs.RisingItems.{rises_after_push, rises_front}
+use Rattle.sub_queue.proofs.RisingItems.{rises_after_push}
 
 -- what is true of the end that changed, and of each other as it was, is true of all
 all_after : (P : ℕ → Knowledge → Type 0) (ends : List Knowledge) (n : ℕ) (w : Knowledge) → P n w → ((m : ℕ) (u : Knowledge) → m ≢ n → get_elem? ends m ≡ some u → P m u) → (m : ℕ) (u : Knowledge) → get_elem? (set ends n w) m ≡ some u → P m u
@@ -176,7 +177,7 @@ pub take_gives : (n : ℕ) (v : Knowledge) → v.takes ≡ true → Pops IsInOrd
 take_gives n v takes item items ends h at =
     let more = h.taken ++ item ∷ [] in
     let order : h.pushed ≡ more ++ items = h.order ∙ sym (append_assoc h.taken (item ∷ []) items) in
-    let rises : Rises item_stamp more = rises_front more items (subst (Rises item_stamp) order h.rises) in (
+    let rises : Rises item_stamp more = Rises-front item_stamp more items (subst (Rises item_stamp) order h.rises) in (
       after_taking item v,
       rule_after_take n v takes item items ends h at,
       (refl, subst (λ xs. Rises item_stamp (xs ++ item ∷ [])) (sym ((h.agree n v at).takes takes).1) rises),
@@ -185,7 +186,7 @@ take_gives n v takes item items ends h at =
 -- where a take finds the queue empty, what was taken rises
 pub take_finds_empty : (n : ℕ) (v : Knowledge) → v.takes ≡ true → Learns IsInOrder n v (λ items. Rises item_stamp v.taken)
 take_finds_empty n v takes items ends h at =
-    subst (Rises item_stamp) (sym ((h.agree n v at).takes takes).1) (rises_front h.taken items (subst (Rises item_stamp) h.order h.rises))
+    subst (Rises item_stamp) (sym ((h.agree n v at).takes takes).1) (Rises-front item_stamp h.taken items (subst (Rises item_stamp) h.order h.rises))
 
 -- an end that pushes and one that takes are joined
 pub joins : (n : ℕ) (v : Knowledge) (other : ℕ) (u : Knowledge) → v.pushes ≡ true → u.takes ≡ true → Merges IsInOrder n v other u (knowledge true v.pushed true u.taken) no_knowledge

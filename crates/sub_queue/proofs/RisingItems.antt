@@ -6,7 +6,6 @@ use Rattle.mcast_txn.specs.declared.stamp.Stamp.{Stamp}
 use Rattle.mcast_txn.specs.Lists.{In, Rises}
 use Rattle.mcast_txn.specs.Span.{Item, item_stamp}
 use Rattle.mcast_txn.specs.Stamp.{stamp_lt}
-use Rattle.mcast_txn.proofs.Members.{In-append_left}
 use Rattle.mcast_txn.proofs.Orders.{lt_by_number, lt_trans}
 use Rattle.mcast_txn.proofs.Sorting.{Rises-push}
 use Rattle.sub_queue.specs.Shown.{IsAboveLast}
@@ -24,11 +23,6 @@ above_all (x ∷ y ∷ ys) stamp up last i (inr k) = above_all (y ∷ ys) stamp 
 -- an item above the last keeps the rise
 pub rises_after_push : (items : List Item) (item : Item) → Rises item_stamp items → IsAboveLast items item.stamp → Rises item_stamp (items ++ item ∷ [])
 rises_after_push items item up last = Rises-push item_stamp items item up (above_all items item.stamp up last)
-
--- a front of items that rise rises
-pub rises_front : (front rest : List Item) → Rises item_stamp (front ++ rest) → Rises item_stamp front
-rises_front [] rest up = tt
-rises_front (x ∷ xs) rest up = ((λ y k. up.0 y (In-append_left y xs rest k)), rises_front xs rest up.1)
 
 -- a queue with room keeps its capacity as it accepts an item above the last
 pub keeps_after_push : (items after : List Item) (item : Item) (capacity taken : ℕ) → after ≡ items ++ item ∷ [] → length items - taken < capacity → IsAboveLast items item.stamp → KeepsCapacity items capacity taken → KeepsCapacity after capacity taken

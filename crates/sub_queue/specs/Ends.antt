@@ -38,4 +38,4 @@ with_item item e = record e { items = e.items ++ item ∷ [] }
 -- what a source shows: the items that it pushed, and how many it was told to be taken
 abbrev pub shown_of_source : End → Shown
 shown_of_source e =
-    record { accepted = e.items; room = record { capacity = e.capacity; taken = Some e.told } }
+    record { accepted = e.items; gauge = record { capacity = e.capacity; taken = Some e.told } }

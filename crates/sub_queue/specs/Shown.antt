@@ -6,17 +6,17 @@ use Rattle.mcast_txn.specs.declared.stamp.Stamp.{Stamp}
 use Rattle.mcast_txn.specs.Stamp.{stamp_lt}
 use Rattle.mcast_txn.specs.Span.{Item}
 
--- How many items an outlet has room for.
+-- How full an outlet is.
 -- capacity: at most this many are untaken.
 -- taken: how many are known to be taken, where the outlet can know that.
-pub record Room : Type 0 where
+pub record Gauge : Type 0 where
   pub capacity : ℕ
   pub taken : Option ℕ
 
--- the items that an outlet accepted, in order, and its room
+-- the items that an outlet accepted, in order, and its gauge
 pub record Shown : Type 0 where
   pub accepted : List Item
-  pub room : Room
+  pub gauge : Gauge
 
 -- one more item at the end
 abbrev pub after_push : Item → Shown → Shown
@@ -33,25 +33,25 @@ known_taken (Some n) = n
 
 -- how many items aren't known to be taken: of 5 items of which 3 were taken, 2
 abbrev pub untaken : Shown → ℕ
-untaken s = length s.accepted - known_taken s.room.taken
+untaken s = length s.accepted - known_taken s.gauge.taken
 
 -- fewer items than the capacity are untaken
 abbrev pub has_room : Shown → Bool
-has_room s = nat_lt (untaken s) s.room.capacity
+has_room s = nat_lt (untaken s) s.gauge.capacity
 
 -- as many items as the capacity are untaken
 abbrev pub IsFull : Shown → Type 0
-IsFull s = s.room.capacity ≤ untaken s
+IsFull s = s.gauge.capacity ≤ untaken s
 
 -- the index of the next item to take, where one isn't known to be taken: of 5 items of which 3 were taken, 3
 abbrev pub next_index : Shown → Option ℕ
 next_index s =
-    if nat_lt (known_taken s.room.taken) (length s.accepted) then Some (known_taken s.room.taken) else None
+    if nat_lt (known_taken s.gauge.taken) (length s.accepted) then Some (known_taken s.gauge.taken) else None
 
--- the room after a take: one more item is taken, where one was left
-abbrev pub room_after_take : Shown → Room
-room_after_take s = record s.room {
+-- the gauge after a take: one more item is taken, where one was left
+abbrev pub gauge_after_take : Shown → Gauge
+gauge_after_take s = record s.gauge {
   taken = Some (
-      if nat_lt (known_taken s.room.taken) (length s.accepted) then known_taken s.room.taken + 1
-      else known_taken s.room.taken);
+      if nat_lt (known_taken s.gauge.taken) (length s.accepted) then known_taken s.gauge.taken + 1
+      else known_taken s.gauge.taken);
 }

@@ -26,7 +26,7 @@ pub record KeepsCapacity (accepted : List Item) (capacity taken : ℕ) : Type 0 
 
 -- what a queue shows
 abbrev pub shown_of : VecQueue → Shown
-shown_of q = record { accepted = q.accepted; room = record { capacity = q.capacity; taken = Some q.taken } }
+shown_of q = record { accepted = q.accepted; gauge = record { capacity = q.capacity; taken = Some q.taken } }
 
 -- one more item is taken, where one was untaken
 abbrev pub after_take : VecQueue → VecQueue

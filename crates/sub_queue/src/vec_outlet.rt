@@ -52,7 +52,7 @@ impl VecOutlet {
     /// An empty queue, with room for at most `capacity` untaken items. It takes no memory yet.
     pub fn new(alloc: Global, capacity: usize) -> VecOutlet
         ensures { shown_of result
-            ≡ record { accepted = []; room = record { capacity = capacity; taken = Some 0 } } }
+            ≡ record { accepted = []; gauge = record { capacity = capacity; taken = Some 0 } } }
     {
         VecOutlet {
             items: Vec::new(alloc),
@@ -121,5 +121,5 @@ impl Outlet for VecOutlet {
         Ok(())
     }
 
-    ghost refuses_full = { λ s no. ltb-false (untaken s) s.room.capacity (sym no) };
+    ghost refuses_full = { λ s no. ltb-false (untaken s) s.gauge.capacity (sym no) };
 }

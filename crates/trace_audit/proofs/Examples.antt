@@ -9,7 +9,7 @@ use Rattle.mcast_txn.specs.Stamp.{same_stamp, stamp_lt}
 use Rattle.std.specs.List.{list_any}
 use Rattle.trace_audit.specs.Explained.{IsExplainedBy, IsCompleteBy}
 use Rattle.trace_audit.specs.Faults.{audit_fault, is_whole}
-use Rattle.trace_audit.specs.Logs.{LogLine}
+use Rattle.trace_audit.specs.Logs.{TopicRow}
 use Rattle.trace_audit.specs.Inner.Sorting.{IsSortingOf}
 use Rattle.trace_audit.specs.Trace.{TraceData, no_trace_data, rows_of}
 use Rattle.trace_audit.specs.declared.fault.AuditFault.TheVariants as audit
@@ -33,21 +33,23 @@ both = topic 0 ∷ topic 1 ∷ []
 abbrev row : ℕ → ℕ → Stamp → List Topic → LogRow
 row sender seq s topics = record { id = id sender seq; topics = topics; stamp = s }
 
-abbrev line : ℕ → LogRow → LogLine
-line t r = record { topic = topic t; row = r }
+abbrev logged : ℕ → LogRow → TopicRow
+logged t r = record { topic = topic t; row = r }
 
-abbrev of_logs : List LogLine → TraceData
+abbrev of_logs : List TopicRow → TraceData
 of_logs logs = record { logs = logs; spans = []; queues = [] }
 
--- two transactions to two topics
-abbrev first : LogRow
+-- the first of two transactions to two topics
+abbrev pub first : LogRow
 first = row 1 1 (stamp 2 0) both
 
-abbrev second : LogRow
+-- and the second
+abbrev pub second : LogRow
 second = row 0 1 (stamp 2 1) both
 
-abbrev crossing : TraceData
-crossing = of_logs (line 0 first ∷ line 0 second ∷ line 1 first ∷ line 1 second ∷ [])
+-- the logs of both topics have both
+abbrev pub crossing : TraceData
+crossing = of_logs (logged 0 first ∷ logged 0 second ∷ logged 1 first ∷ logged 1 second ∷ [])
 
 -- ---- explained traces
 
@@ -79,7 +81,8 @@ from_logs q (inr (inr k)) = absurd k
 crossing_sorted : IsSortingOf (first ∷ second ∷ []) (rows_of crossing.logs)
 crossing_sorted = record { rises = (second_above, ((λ y i. absurd i), tt)); of_all = from_logs; stamped = has_stamp }
 
-crossing_is_explained : IsExplainedBy (first ∷ second ∷ []) crossing
+-- they are explained by the two rows
+pub crossing_is_explained : IsExplainedBy (first ∷ second ∷ []) crossing
 crossing_is_explained = explains crossing crossing.logs (first ∷ second ∷ []) refl refl refl crossing_sorted
 
 crossing_is_complete : IsCompleteBy (first ∷ second ∷ []) crossing
@@ -92,29 +95,29 @@ nothing_is_complete : IsCompleteBy [] no_trace_data
 nothing_is_complete = complete no_trace_data [] nothing_is_explained refl
 
 -- without the fourth row it is explained still, and not complete
-lacks_the_last : audit_fault (of_logs (line 0 first ∷ line 0 second ∷ line 1 first ∷ [])) ≡ None
+lacks_the_last : audit_fault (of_logs (logged 0 first ∷ logged 0 second ∷ logged 1 first ∷ [])) ≡ None
 lacks_the_last = refl
 
-lacks_the_last_row : is_whole (line 0 first ∷ line 0 second ∷ line 1 first ∷ []) ≡ false
+lacks_the_last_row : is_whole (logged 0 first ∷ logged 0 second ∷ logged 1 first ∷ []) ≡ false
 lacks_the_last_row = refl
 
 -- ---- one trace for each fault
 
-two_verdicts : audit_fault (of_logs (line 0 first ∷ line 0 second ∷ line 1 first ∷ line 1 (row 0 1 (stamp 1 1) both) ∷ []))
+two_verdicts : audit_fault (of_logs (logged 0 first ∷ logged 0 second ∷ logged 1 first ∷ logged 1 (row 0 1 (stamp 1 1) both) ∷ []))
     ≡ Some audit.TwoVerdicts
 two_verdicts = refl
 
-same_stamps : audit_fault (of_logs (line 0 first ∷ line 1 (row 2 1 (stamp 2 0) both) ∷ [])) ≡ Some audit.SameStamp
+same_stamps : audit_fault (of_logs (logged 0 first ∷ logged 1 (row 2 1 (stamp 2 0) both) ∷ [])) ≡ Some audit.SameStamp
 same_stamps = refl
 
-log_order : audit_fault (of_logs (line 0 second ∷ line 0 first ∷ [])) ≡ Some audit.LogOrder
+log_order : audit_fault (of_logs (logged 0 second ∷ logged 0 first ∷ [])) ≡ Some audit.LogOrder
 log_order = refl
 
-sender_order : audit_fault (of_logs (line 0 first ∷ line 0 (row 1 0 (stamp 3 0) both) ∷ [])) ≡ Some audit.SenderOrder
+sender_order : audit_fault (of_logs (logged 0 first ∷ logged 0 (row 1 0 (stamp 3 0) both) ∷ [])) ≡ Some audit.SenderOrder
 sender_order = refl
 
 -- without the third row
-hole : audit_fault (of_logs (line 0 first ∷ line 0 second ∷ line 1 second ∷ [])) ≡ Some (audit.Hole (topic 1))
+hole : audit_fault (of_logs (logged 0 first ∷ logged 0 second ∷ logged 1 second ∷ [])) ≡ Some (audit.Hole (topic 1))
 hole = refl
 
 -- ---- queues

@@ -1,7 +1,7 @@
 -- A trace against which nothing speaks is explained.
-use Rattle.std.proofs.Common.{◌≡◌, ◌≢◌, ℕ, ◌==◌, Bool, true, false, cond, not, ◌&&◌, ◌||◌, nat_lt, inl, inr, List, [], ◌∷◌, ◌++◌, map, Option, Some, None, refl, sym, ap, subst, ◌∙◌, eq-eqb}
-use Rattle.std.specs.List.{filter, flat_map, list_any, list_all}
-use Rattle.std.proofs.lemmas.Bool.{eqb-true, and_parts, true≢false, false≢true}
+use Rattle.std.proofs.Common.{◌≡◌, ◌≢◌, ℕ, ◌==◌, Bool, true, false, cond, not, ◌&&◌, nat_lt, inl, inr, List, [], ◌∷◌, map, Option, Some, None, refl, sym, ap, subst, ◌∙◌, eq-eqb}
+use Rattle.std.specs.List.{filter, list_any, list_all}
+use Rattle.std.proofs.lemmas.Bool.{eqb-true, and_parts, true≢false, false≢true, and_from, not_from_false, not-true, or_parts}
 use lib.Pointwise.{pointwise}
 use Rattle.mcast_txn.specs.declared.id.Topic.{Topic}
 use Rattle.mcast_txn.specs.declared.id.TxnId.{TxnId}
@@ -12,12 +12,12 @@ use Rattle.mcast_txn.specs.Lists.{In, Rises}
 use Rattle.mcast_txn.specs.Span.{LogRow, row_id, row_stamp, last_stamp, up_to}
 use Rattle.mcast_txn.specs.Stamp.{same_stamp, stamp_lt, zero_stamp}
 use Rattle.mcast_txn.specs.TopicSet.{names}
-use Rattle.mcast_txn.proofs.Members.{In-append_left, In-map, In-map_cases, In-filter, In-filter_cases, any_found, any_from, all_at}
-use Rattle.mcast_txn.proofs.Orders.{lt_irrefl, lt_asym, le_trans, same_topics, equal_stamps, id_equal}
+use Rattle.mcast_txn.proofs.Members.{In-flat_map, In-map, In-map_cases, In-filter, In-filter_cases, any_found, any_from, all_at}
+use Rattle.mcast_txn.proofs.Orders.{lt_irrefl, lt_asym, le_trans, same_topics, id_equal, same_stamp_is}
 use Rattle.mcast_txn.proofs.Sorting.{Rises-filter, same_rising}
 use Rattle.trace_audit.specs.Explained.{rows_at, IsExplainedBy}
 use Rattle.trace_audit.specs.Faults.{are_different, are_colliding, are_disordered, some_two, are_falling, is_out_of_order, log_has_row, log_has_row_from, is_hole, holes, same_mark, is_astray, astray_subs, lesser, least, audit_fault}
-use Rattle.trace_audit.specs.Logs.{LogLine}
+use Rattle.trace_audit.specs.Logs.{TopicRow}
 use Rattle.trace_audit.specs.Inner.Sorting.{IsSortingOf}
 use Rattle.trace_audit.specs.Trace.{TraceData, rows_of, log_of, queue_of, marks_in, fits}
 use Rattle.std.specs.Option.{option_map, option_or}
@@ -37,28 +37,6 @@ none_at p x xs h i = go (p x) refl
     go false e = e
     go true e = absurd (true≢false (sym (any_from p x xs i e) ∙ h))
 
--- where neither of two holds, each is false
-pub or_parts : (a b : Bool) → (a || b) ≡ false → (a ≡ false) × (b ≡ false)
-or_parts true b e = absurd (true≢false e)
-or_parts false b e = (refl, e)
-
--- what is true and what is true are true together
-pub and_true : (a b : Bool) → a ≡ true → b ≡ true → (a && b) ≡ true
-and_true a b e f = rw (e, f) refl
-
--- the negation of what is false is true
-pub not_true : (a : Bool) → a ≡ false → not a ≡ true
-not_true a e = rw e refl
-
--- what has a true negation is false
-pub not_false : (a : Bool) → not a ≡ true → a ≡ false
-not_false true e = absurd (false≢true e)
-not_false false e = refl
-
-not_shut : (a : Bool) → not a ≡ false → a ≡ true
-not_shut true e = refl
-not_shut false e = absurd (true≢false e)
-
 -- of s and not v: where s holds, v does
 pub open_test : (s v : Bool) → (s && not v) ≡ false → s ≡ true → v ≡ true
 open_test true true e k = refl
@@ -76,21 +54,15 @@ third true l q e k m = open_test l q e m
 third false l q e k m = absurd (false≢true k)
 
 -- no two rows are so
-pub none_two : (test : LogRow → LogRow → Bool) (logs : List LogLine) (a b : LogRow) → some_two test logs ≡ false → In a (rows_of logs) → In b (rows_of logs) → test a b ≡ false
+pub none_two : (test : LogRow → LogRow → Bool) (logs : List TopicRow) (a b : LogRow) → some_two test logs ≡ false → In a (rows_of logs) → In b (rows_of logs) → test a b ≡ false
 none_two test logs a b h i j =
-    let m = In-map_cases (λ (l : LogLine). l.row) a logs i in
-    let n = In-map_cases (λ (l : LogLine). l.row) b logs j in
-    let k = none_at (λ (y : LogLine). test m.from.row y.row) n.from logs
-    (none_at (λ (x : LogLine). list_any (λ (y : LogLine). test x.row y.row) logs) m.from logs h m.stands) n.stands in
+    let m = In-map_cases (λ (l : TopicRow). l.row) a logs i in
+    let n = In-map_cases (λ (l : TopicRow). l.row) b logs j in
+    let k = none_at (λ (y : TopicRow). test m.from.row y.row) n.from logs
+    (none_at (λ (x : TopicRow). list_any (λ (y : TopicRow). test x.row y.row) logs) m.from logs h m.stands) n.stands in
     subst (λ (z : LogRow). test z b ≡ false) m.is (subst (λ (z : LogRow). test m.from.row z ≡ false) n.is k)
 
 -- ---- what is equal
-
--- stamps that are the same are equal
-pub stamps_equal : (a b : Stamp) → same_stamp a b ≡ true → a ≡ b
-stamps_equal a b e =
-    let p = and_parts (a.n == b.n) (a.topic.0 == b.topic.0) e in
-    equal_stamps a b (eqb-true a.n b.n p.0) (eqb-true a.topic.0 b.topic.0 p.1)
 
 abbrev same_number : Topic → Topic → Bool
 same_number t u = t.0 == u.0
@@ -116,28 +88,28 @@ rows_equal a b e f g =
     ∙ (ap (λ (z : List Topic). log_row b.id z a.stamp) f ∙ ap (λ (z : Stamp). log_row b.id b.topics z) g)
 
 -- without two verdicts, a transaction has one row
-pub one_row : (logs : List LogLine) (a b : LogRow) → some_two are_different logs ≡ false → In a (rows_of logs) → In b (rows_of logs) → same_id a.id b.id ≡ true → a ≡ b
+pub one_row : (logs : List TopicRow) (a b : LogRow) → some_two are_different logs ≡ false → In a (rows_of logs) → In b (rows_of logs) → same_id a.id b.id ≡ true → a ≡ b
 one_row logs a b h i j e =
     let s = same_stamp a.stamp b.stamp in
     let t = pointwise same_number a.topics b.topics in
     let p = and_parts s t (open_test (same_id a.id b.id) (s && t) (none_two are_different logs a b h i j) e) in
-    rows_equal a b (id_equal a.id b.id e) (topics_equal a.topics b.topics p.1) (stamps_equal a.stamp b.stamp p.0)
+    rows_equal a b (id_equal a.id b.id e) (topics_equal a.topics b.topics p.1) (same_stamp_is a.stamp b.stamp p.0)
 
 -- and a stamp too, where no two transactions share one
-pub one_stamp : (logs : List LogLine) (a b : LogRow) → some_two are_different logs ≡ false → some_two are_colliding logs ≡ false → In a (rows_of logs) → In b (rows_of logs) → same_stamp a.stamp b.stamp ≡ true → a ≡ b
+pub one_stamp : (logs : List TopicRow) (a b : LogRow) → some_two are_different logs ≡ false → some_two are_colliding logs ≡ false → In a (rows_of logs) → In b (rows_of logs) → same_stamp a.stamp b.stamp ≡ true → a ≡ b
 one_stamp logs a b h k i j e =
     one_row logs a b h i j (shut_test (same_id a.id b.id) (same_stamp a.stamp b.stamp) (none_two are_colliding logs a b k i j) e)
 
 -- ---- the list
 
 -- where no two rows are different or colliding, each row of the logs is among the sorted ones
-pub all_in : (rows : List LogRow) (logs : List LogLine) → some_two are_different logs ≡ false → some_two are_colliding logs ≡ false → IsSortingOf rows (rows_of logs) → (q : LogRow) → In q (rows_of logs) → In q rows
+pub all_in : (rows : List LogRow) (logs : List TopicRow) → some_two are_different logs ≡ false → some_two are_colliding logs ≡ false → IsSortingOf rows (rows_of logs) → (q : LogRow) → In q (rows_of logs) → In q rows
 all_in rows logs h k sorting q i =
     let f = any_found (λ (own : LogRow). same_stamp own.stamp q.stamp) rows (sorting.stamped q i) in
     let e : f.it ≡ q = one_stamp logs f.it q h k (sorting.of_all f.it f.stands) i f.passes in
     subst (λ (z : LogRow). In z rows) e f.stands
 
-seqs : (rows : List LogRow) (logs : List LogLine) → some_two are_disordered logs ≡ false → ((q : LogRow) → In q rows → In q (rows_of logs)) → Rises row_stamp rows → SenderOrder row_id rows
+seqs : (rows : List LogRow) (logs : List TopicRow) → some_two are_disordered logs ≡ false → ((q : LogRow) → In q rows → In q (rows_of logs)) → Rises row_stamp rows → SenderOrder row_id rows
 seqs [] logs h from up = tt
 seqs (x ∷ xs) logs h from up = (
   (λ y k e.
@@ -149,51 +121,51 @@ seqs (x ∷ xs) logs h from up = (
 
 -- ---- logs
 
--- the line is of the log of t
-abbrev pub at_topic : Topic → LogLine → Bool
-at_topic t line = line.topic.0 == t.0
+-- the row is of the log of t
+abbrev pub at_topic : Topic → TopicRow → Bool
+at_topic t logged = logged.topic.0 == t.0
 
--- a member of a log is the row of a line of its topic
-pub record OfLine (t : Topic) (q : LogRow) (logs : List LogLine) : Type 0 where
-  pub line : LogLine
-  pub stands : In line logs
-  pub topic : line.topic.0 == t.0 ≡ true
-  pub is : line.row ≡ q
+-- a member of a log is a row of its topic
+pub record OfRow (t : Topic) (q : LogRow) (logs : List TopicRow) : Type 0 where
+  pub logged : TopicRow
+  pub stands : In logged logs
+  pub topic : logged.topic.0 == t.0 ≡ true
+  pub is : logged.row ≡ q
 
--- a row of a topic's log is that of a line of the topic
-pub log_member : (t : Topic) (q : LogRow) (logs : List LogLine) → In q (log_of t logs) → OfLine t q logs
+-- a row of a topic's log is a row of the topic
+pub log_member : (t : Topic) (q : LogRow) (logs : List TopicRow) → In q (log_of t logs) → OfRow t q logs
 log_member t q logs i =
-    let m = In-map_cases (λ (l : LogLine). l.row) q (filter (at_topic t) logs) i in
+    let m = In-map_cases (λ (l : TopicRow). l.row) q (filter (at_topic t) logs) i in
     let k = In-filter_cases (at_topic t) m.from logs m.stands in
-    record { line = m.from; stands = k.stands; topic = k.passes; is = m.is }
+    record { logged = m.from; stands = k.stands; topic = k.passes; is = m.is }
 
--- the row of a line of the topic is in the topic's log
-pub in_log : (t : Topic) (line : LogLine) (logs : List LogLine) → In line logs → line.topic.0 == t.0 ≡ true → In line.row (log_of t logs)
-in_log t line logs i e =
-    In-map (λ (l : LogLine). l.row) line (filter (at_topic t) logs) (In-filter (at_topic t) line logs i e)
+-- a row of the topic is in the topic's log
+pub in_log : (t : Topic) (logged : TopicRow) (logs : List TopicRow) → In logged logs → logged.topic.0 == t.0 ≡ true → In logged.row (log_of t logs)
+in_log t logged logs i e =
+    In-map (λ (l : TopicRow). l.row) logged (filter (at_topic t) logs) (In-filter (at_topic t) logged logs i e)
 
 -- a row of a topic's log is a row of the logs
-pub in_rows : (t : Topic) (q : LogRow) (logs : List LogLine) → In q (log_of t logs) → In q (rows_of logs)
+pub in_rows : (t : Topic) (q : LogRow) (logs : List TopicRow) → In q (log_of t logs) → In q (rows_of logs)
 in_rows t q logs i =
     let m = log_member t q logs i in
-    subst (λ (z : LogRow). In z (rows_of logs)) m.is (In-map (λ (l : LogLine). l.row) m.line logs m.stands)
+    subst (λ (z : LogRow). In z (rows_of logs)) m.is (In-map (λ (l : TopicRow). l.row) m.logged logs m.stands)
 
-rises_case : (t : Topic) (x : LogLine) (xs : List LogLine) (b : Bool) → (x.topic.0 == t.0) ≡ b → list_any (λ (y : LogLine). are_falling x y) xs ≡ false → Rises row_stamp (log_of t xs) → Rises row_stamp (map (λ (l : LogLine). l.row) (cond b (x ∷ filter (at_topic t) xs) (filter (at_topic t) xs)))
+rises_case : (t : Topic) (x : TopicRow) (xs : List TopicRow) (b : Bool) → (x.topic.0 == t.0) ≡ b → list_any (λ (y : TopicRow). are_falling x y) xs ≡ false → Rises row_stamp (log_of t xs) → Rises row_stamp (map (λ (l : TopicRow). l.row) (cond b (x ∷ filter (at_topic t) xs) (filter (at_topic t) xs)))
 rises_case t x xs false e h ih = ih
 rises_case t x xs true e h ih = (
   (λ y k.
       let m = log_member t y xs k in
-      let same : (x.topic.0 == m.line.topic.0) ≡ true = eq-eqb x.topic.0 m.line.topic.0 (eqb-true x.topic.0 t.0 e ∙ sym (eqb-true m.line.topic.0 t.0 m.topic)) in
+      let same : (x.topic.0 == m.logged.topic.0) ≡ true = eq-eqb x.topic.0 m.logged.topic.0 (eqb-true x.topic.0 t.0 e ∙ sym (eqb-true m.logged.topic.0 t.0 m.topic)) in
       subst (λ (z : LogRow). stamp_lt x.row.stamp z.stamp ≡ true) m.is
-      (open_test (x.topic.0 == m.line.topic.0) (stamp_lt x.row.stamp m.line.row.stamp) (none_at (λ (y : LogLine). are_falling x y) m.line xs h m.stands) same)),
+      (open_test (x.topic.0 == m.logged.topic.0) (stamp_lt x.row.stamp m.logged.row.stamp) (none_at (λ (y : TopicRow). are_falling x y) m.logged xs h m.stands) same)),
   ih,
 )
 
 -- where no log is out of order, a topic's log rises
-pub log_rises : (t : Topic) (logs : List LogLine) → is_out_of_order logs ≡ false → Rises row_stamp (log_of t logs)
+pub log_rises : (t : Topic) (logs : List TopicRow) → is_out_of_order logs ≡ false → Rises row_stamp (log_of t logs)
 log_rises t [] h = tt
 log_rises t (x ∷ xs) h =
-    let p = or_parts (list_any (λ (y : LogLine). are_falling x y) xs) (is_out_of_order xs) h in
+    let p = or_parts (list_any (λ (y : TopicRow). are_falling x y) xs) (is_out_of_order xs) h in
     rises_case t x xs (x.topic.0 == t.0) refl p.0 (log_rises t xs p.1)
 
 last_ge : (x : LogRow) (xs : List LogRow) → Rises row_stamp (x ∷ xs) → stamp_lt (last_stamp x.stamp xs) x.stamp ≡ false
@@ -223,14 +195,14 @@ last_of s [] ne = absurd (ne refl)
 last_of s (x ∷ xs) ne = last_in x xs
 
 -- a log that isn't empty reaches each stamp up to its last
-log_reaches : (t : Topic) (stamp : Stamp) (logs : List LogLine) → log_of t logs ≢ [] → stamp_lt (last_stamp zero_stamp (log_of t logs)) stamp ≡ false → log_has_row_from t stamp logs ≡ true
+log_reaches : (t : Topic) (stamp : Stamp) (logs : List TopicRow) → log_of t logs ≢ [] → stamp_lt (last_stamp zero_stamp (log_of t logs)) stamp ≡ false → log_has_row_from t stamp logs ≡ true
 log_reaches t stamp logs ne h =
     let l = last_of zero_stamp (log_of t logs) ne in
     let m = log_member t l.row logs l.stands in
-    let e : m.line.row.stamp ≡ last_stamp zero_stamp (log_of t logs) = ap (λ (z : LogRow). z.stamp) m.is ∙ l.is in
-    any_from (λ (line : LogLine). line.topic.0 == t.0 && not (stamp_lt line.row.stamp stamp)) m.line logs m.stands
-    (and_true (m.line.topic.0 == t.0) (not (stamp_lt m.line.row.stamp stamp)) m.topic
-    (not_true (stamp_lt m.line.row.stamp stamp) (subst (λ (z : Stamp). stamp_lt z stamp ≡ false) (sym e) h)))
+    let e : m.logged.row.stamp ≡ last_stamp zero_stamp (log_of t logs) = ap (λ (z : LogRow). z.stamp) m.is ∙ l.is in
+    any_from (λ (logged : TopicRow). logged.topic.0 == t.0 && not (stamp_lt logged.row.stamp stamp)) m.logged logs m.stands
+    (and_from (m.logged.topic.0 == t.0) (not (stamp_lt m.logged.row.stamp stamp)) m.topic
+    (not_from_false (stamp_lt m.logged.row.stamp stamp) (subst (λ (z : Stamp). stamp_lt z stamp ≡ false) (sym e) h)))
 
 -- ---- holes
 
@@ -247,28 +219,16 @@ least_none (x ∷ ns) e n i = go (least ns) e
     go None e = cc
     go (Some y) e = two (nat_lt y x) y e
 
--- a member of the second list is one of the two appended
-pub In-append_right : {X : Type 0} (x : X) (xs ys : List X) → In x ys → In x (xs ++ ys)
-In-append_right x [] ys h = h
-In-append_right x (y ∷ xs) ys h = inr (In-append_right x xs ys h)
-
--- what a function gives for a member is in the flat map
-pub In-flat_map : {X Y : Type 0} (f : X → List Y) (x : X) (y : Y) (xs : List X) → In x xs → In y (f x) → In y (flat_map f xs)
-In-flat_map f x y [] i j = absurd i
-In-flat_map f x y (z ∷ xs) (inl e) j =
-    In-append_left y (f z) (flat_map f xs) (subst (λ (q : _). In y (f q)) (sym e) j)
-In-flat_map f x y (z ∷ xs) (inr k) j = In-append_right y (f z) (flat_map f xs) (In-flat_map f x y xs k j)
-
--- where no log has a hole, a topic's log has none at the row of a line that names the topic
-pub no_hole : (logs : List LogLine) (line : LogLine) (t : Topic) → least (holes logs) ≡ None → In line logs → In t line.row.topics → is_hole logs line.row t ≡ false
-no_hole logs line t h i j = go (is_hole logs line.row t) refl
+-- where no log has a hole, a topic's log has none at a row that names the topic
+pub no_hole : (logs : List TopicRow) (logged : TopicRow) (t : Topic) → least (holes logs) ≡ None → In logged logs → In t logged.row.topics → is_hole logs logged.row t ≡ false
+no_hole logs logged t h i j = go (is_hole logs logged.row t) refl
   where
-    go : (b : Bool) → is_hole logs line.row t ≡ b → is_hole logs line.row t ≡ false
+    go : (b : Bool) → is_hole logs logged.row t ≡ b → is_hole logs logged.row t ≡ false
     go false e = e
     go true e = absurd (least_none (holes logs) h t.0
-        (In-flat_map (λ (l : LogLine). map (λ (u : Topic). u.0) (filter (λ (u : Topic). is_hole logs l.row u) l.row.topics)) line t.0 logs i
-        (In-map (λ (u : Topic). u.0) t (filter (λ (u : Topic). is_hole logs line.row u) line.row.topics)
-        (In-filter (λ (u : Topic). is_hole logs line.row u) t line.row.topics j e))))
+        (In-flat_map (λ (l : TopicRow). map (λ (u : Topic). u.0) (filter (λ (u : Topic). is_hole logs l.row u) l.row.topics)) logged t.0 logs i
+        (In-map (λ (u : Topic). u.0) t (filter (λ (u : Topic). is_hole logs logged.row u) logged.row.topics)
+        (In-filter (λ (u : Topic). is_hole logs logged.row u) t logged.row.topics j e))))
 
 -- a topic that is named is one of the topics
 pub named_in : (t : Topic) (topics : List Topic) → names t topics ≡ true → In t topics
@@ -277,26 +237,26 @@ named_in t topics h =
     subst (λ (z : Topic). In z topics) (same_topics f.it t (eqb-true f.it.0 t.0 f.passes)) f.stands
 
 -- without two verdicts, a log that has a row of the transaction has this row
-pub row_in_log : (t : Topic) (q : LogRow) (logs : List LogLine) → some_two are_different logs ≡ false → In q (rows_of logs) → log_has_row t q.id logs ≡ true → In q (log_of t logs)
+pub row_in_log : (t : Topic) (q : LogRow) (logs : List TopicRow) → some_two are_different logs ≡ false → In q (rows_of logs) → log_has_row t q.id logs ≡ true → In q (log_of t logs)
 row_in_log t q logs h i e =
-    let f = any_found (λ (line : LogLine). line.topic.0 == t.0 && same_id line.row.id q.id) logs e in
+    let f = any_found (λ (logged : TopicRow). logged.topic.0 == t.0 && same_id logged.row.id q.id) logs e in
     let p = and_parts (f.it.topic.0 == t.0) (same_id f.it.row.id q.id) f.passes in
-    let same : f.it.row ≡ q = one_row logs f.it.row q h (In-map (λ (l : LogLine). l.row) f.it logs f.stands) i p.1 in
+    let same : f.it.row ≡ q = one_row logs f.it.row q h (In-map (λ (l : TopicRow). l.row) f.it logs f.stands) i p.1 in
     subst (λ (z : LogRow). In z (log_of t logs)) same (in_log t f.it logs f.stands p.0)
 
-has_member : (t : Topic) (q : LogRow) (logs : List LogLine) → least (holes logs) ≡ None → log_of t logs ≢ [] → In q (rows_of logs) → names t q.topics ≡ true → stamp_lt (last_stamp zero_stamp (log_of t logs)) q.stamp ≡ false → log_has_row t q.id logs ≡ true
+has_member : (t : Topic) (q : LogRow) (logs : List TopicRow) → least (holes logs) ≡ None → log_of t logs ≢ [] → In q (rows_of logs) → names t q.topics ≡ true → stamp_lt (last_stamp zero_stamp (log_of t logs)) q.stamp ≡ false → log_has_row t q.id logs ≡ true
 has_member t q logs h ne i n below =
-    let m = In-map_cases (λ (l : LogLine). l.row) q logs i in
+    let m = In-map_cases (λ (l : TopicRow). l.row) q logs i in
     let shut : is_hole logs m.from.row t ≡ false = no_hole logs m.from t h m.stands
     (subst (λ (z : LogRow). In t z.topics) (sym m.is) (named_in t q.topics n)) in
     shut_test (log_has_row t q.id logs) (log_has_row_from t q.stamp logs)
     (subst (λ (z : LogRow). is_hole logs z t ≡ false) m.is shut) (log_reaches t q.stamp logs ne below)
 
 -- the row names t, and is at most the last stamp of t's log
-abbrev pub kept_at : Topic → List LogLine → LogRow → Bool
+abbrev pub kept_at : Topic → List TopicRow → LogRow → Bool
 kept_at t logs row = names t row.topics && up_to (Some (last_stamp zero_stamp (log_of t logs))) row.stamp
 
-log_is : (rows : List LogRow) (logs : List LogLine) (t : Topic) → list_all (λ (line : LogLine). fits line) logs ≡ true → some_two are_different logs ≡ false → some_two are_colliding logs ≡ false → is_out_of_order logs ≡ false → least (holes logs) ≡ None → IsSortingOf rows (rows_of logs) → log_of t logs ≢ [] → log_of t logs ≡ rows_at t (log_of t logs) rows
+log_is : (rows : List LogRow) (logs : List TopicRow) (t : Topic) → list_all (λ (logged : TopicRow). fits logged) logs ≡ true → some_two are_different logs ≡ false → some_two are_colliding logs ≡ false → is_out_of_order logs ≡ false → least (holes logs) ≡ None → IsSortingOf rows (rows_of logs) → log_of t logs ≢ [] → log_of t logs ≡ rows_at t (log_of t logs) rows
 log_is rows logs t fit h k order whole sorting ne =
     same_rising row_stamp (log_of t logs) (filter (kept_at t logs) rows) up (Rises-filter row_stamp (kept_at t logs) rows sorting.rises) to from
   where
@@ -306,14 +266,14 @@ log_is rows logs t fit h k order whole sorting ne =
     to : (q : LogRow) → In q (log_of t logs) → In q (filter (kept_at t logs) rows)
     to q i =
         let m = log_member t q logs i in
-        let f = and_parts _ (names m.line.topic m.line.row.topics) (all_at (λ (line : LogLine). fits line) m.line logs fit m.stands) in
-        let named : names t m.line.row.topics ≡ true =
-        subst (λ (z : Topic). names z m.line.row.topics ≡ true) (same_topics m.line.topic t (eqb-true m.line.topic.0 t.0 m.topic)) f.1 in
+        let f = and_parts _ (names m.logged.topic m.logged.row.topics) (all_at (λ (logged : TopicRow). fits logged) m.logged logs fit m.stands) in
+        let named : names t m.logged.row.topics ≡ true =
+        subst (λ (z : Topic). names z m.logged.row.topics ≡ true) (same_topics m.logged.topic t (eqb-true m.logged.topic.0 t.0 m.topic)) f.1 in
         let n : names t q.topics ≡ true = subst (λ (z : LogRow). names t z.topics ≡ true) m.is named in
         let below = last_above zero_stamp (log_of t logs) q up i in
         In-filter (kept_at t logs) q rows (all_in rows logs h k sorting q (in_rows t q logs i))
-        (and_true (names t q.topics) (up_to (Some (last_stamp zero_stamp (log_of t logs))) q.stamp) n
-        (not_true (stamp_lt (last_stamp zero_stamp (log_of t logs)) q.stamp) below))
+        (and_from (names t q.topics) (up_to (Some (last_stamp zero_stamp (log_of t logs))) q.stamp) n
+        (not_from_false (stamp_lt (last_stamp zero_stamp (log_of t logs)) q.stamp) below))
 
     from : (q : LogRow) → In q (filter (kept_at t logs) rows) → In q (log_of t logs)
     from q i =
@@ -321,7 +281,7 @@ log_is rows logs t fit h k order whole sorting ne =
         let p = and_parts (names t q.topics) (up_to (Some (last_stamp zero_stamp (log_of t logs))) q.stamp) m.passes in
         let j = sorting.of_all q m.stands in
         row_in_log t q logs h j
-        (has_member t q logs whole ne j p.0 (not_false (stamp_lt (last_stamp zero_stamp (log_of t logs)) q.stamp) p.1))
+        (has_member t q logs whole ne j p.0 (not-true (stamp_lt (last_stamp zero_stamp (log_of t logs)) q.stamp) p.1))
 
 -- ---- queues
 
@@ -336,18 +296,18 @@ marks_equal (x ∷ xs) [] e = absurd (false≢true e)
 marks_equal (x ∷ xs) (y ∷ ys) e =
     let p = and_parts (same_mark x y) (pointwise same_mark xs ys) e in
     let q = and_parts (same_id x.id y.id) (same_stamp x.stamp y.stamp) p.0 in
-    let f : x ≡ y = ap (λ (z : TxnId). mark_of z x.stamp) (id_equal x.id y.id q.0) ∙ ap (mark_of y.id) (stamps_equal x.stamp y.stamp q.1) in
+    let f : x ≡ y = ap (λ (z : TxnId). mark_of z x.stamp) (id_equal x.id y.id q.0) ∙ ap (mark_of y.id) (same_stamp_is x.stamp y.stamp q.1) in
     let g : xs ≡ ys = marks_equal xs ys p.1 in
     rw (f, g) refl
 
-queue_is : (lines : TraceData) (line : SpanRow) → least (astray_subs lines) ≡ None → In line lines.spans → queue_of line.sub lines.queues ≡ marks_in line lines.logs
-queue_is lines line h i = go (pointwise same_mark (queue_of line.sub lines.queues) (marks_in line lines.logs)) refl
+queue_is : (trace : TraceData) (span : SpanRow) → least (astray_subs trace) ≡ None → In span trace.spans → queue_of span.sub trace.queues ≡ marks_in span trace.logs
+queue_is trace span h i = go (pointwise same_mark (queue_of span.sub trace.queues) (marks_in span trace.logs)) refl
   where
-    go : (b : Bool) → pointwise same_mark (queue_of line.sub lines.queues) (marks_in line lines.logs) ≡ b → queue_of line.sub lines.queues ≡ marks_in line lines.logs
+    go : (b : Bool) → pointwise same_mark (queue_of span.sub trace.queues) (marks_in span trace.logs) ≡ b → queue_of span.sub trace.queues ≡ marks_in span trace.logs
     go true e = marks_equal _ _ e
-    go false e = absurd (least_none (astray_subs lines) h line.sub
-        (In-map (λ (l : SpanRow). l.sub) line (filter (λ (l : SpanRow). is_astray lines l) lines.spans)
-        (In-filter (λ (l : SpanRow). is_astray lines l) line lines.spans i (not_true _ e))))
+    go false e = absurd (least_none (astray_subs trace) h span.sub
+        (In-map (λ (l : SpanRow). l.sub) span (filter (λ (l : SpanRow). is_astray trace l) trace.spans)
+        (In-filter (λ (l : SpanRow). is_astray trace l) span trace.spans i (not_from_false _ e))))
 
 -- ---- nothing speaks against it
 
@@ -358,19 +318,19 @@ fault_by a b c d h q =
     (option_or (option_map (λ n. audit.Hole (record { 0 = n })) h) (option_map (λ n. audit.QueueRow n) q))
 
 -- no test of the trace holds
-pub record IsClean (lines : TraceData) : Type 0 where
-  pub verdicts : some_two are_different lines.logs ≡ false
-  pub stamps : some_two are_colliding lines.logs ≡ false
-  pub order : is_out_of_order lines.logs ≡ false
-  pub senders : some_two are_disordered lines.logs ≡ false
-  pub holes : least (holes lines.logs) ≡ None
-  pub queues : least (astray_subs lines) ≡ None
+pub record IsClean (trace : TraceData) : Type 0 where
+  pub verdicts : some_two are_different trace.logs ≡ false
+  pub stamps : some_two are_colliding trace.logs ≡ false
+  pub order : is_out_of_order trace.logs ≡ false
+  pub senders : some_two are_disordered trace.logs ≡ false
+  pub holes : least (holes trace.logs) ≡ None
+  pub queues : least (astray_subs trace) ≡ None
 
 -- where nothing speaks against a trace, no test of it holds
-pub clean : (lines : TraceData) → audit_fault lines ≡ None → IsClean lines
-clean lines e = go (some_two are_different lines.logs) (some_two are_colliding lines.logs) (is_out_of_order lines.logs) (some_two are_disordered lines.logs) (least (holes lines.logs)) (least (astray_subs lines)) refl refl refl refl refl refl e
+pub clean : (trace : TraceData) → audit_fault trace ≡ None → IsClean trace
+clean trace e = go (some_two are_different trace.logs) (some_two are_colliding trace.logs) (is_out_of_order trace.logs) (some_two are_disordered trace.logs) (least (holes trace.logs)) (least (astray_subs trace)) refl refl refl refl refl refl e
   where
-    go : (a b c d : Bool) (h q : Option ℕ) → some_two are_different lines.logs ≡ a → some_two are_colliding lines.logs ≡ b → is_out_of_order lines.logs ≡ c → some_two are_disordered lines.logs ≡ d → least (holes lines.logs) ≡ h → least (astray_subs lines) ≡ q → fault_by a b c d h q ≡ None → IsClean lines
+    go : (a b c d : Bool) (h q : Option ℕ) → some_two are_different trace.logs ≡ a → some_two are_colliding trace.logs ≡ b → is_out_of_order trace.logs ≡ c → some_two are_disordered trace.logs ≡ d → least (holes trace.logs) ≡ h → least (astray_subs trace) ≡ q → fault_by a b c d h q ≡ None → IsClean trace
     go true b c d h q e1 e2 e3 e4 e5 e6 e = absurd cc
     go false true c d h q e1 e2 e3 e4 e5 e6 e = absurd cc
     go false false true d h q e1 e2 e3 e4 e5 e6 e = absurd cc
@@ -381,12 +341,12 @@ clean lines e = go (some_two are_different lines.logs) (some_two are_colliding l
         record { verdicts = e1; stamps = e2; order = e3; senders = e4; holes = e5; queues = e6 }
 
 -- a trace against which nothing speaks is explained by its rows, sorted
-pub explained : (lines : TraceData) (rows : List LogRow) → list_all (λ (line : LogLine). fits line) lines.logs ≡ true → IsClean lines → IsSortingOf rows (rows_of lines.logs) → IsExplainedBy rows lines
-explained lines rows fit c sorting = record {
+pub explained : (trace : TraceData) (rows : List LogRow) → list_all (λ (logged : TopicRow). fits logged) trace.logs ≡ true → IsClean trace → IsSortingOf rows (rows_of trace.logs) → IsExplainedBy rows trace
+explained trace rows fit c sorting = record {
   rises = sorting.rises;
   of_logs = sorting.of_all;
-  all = all_in rows lines.logs c.verdicts c.stamps sorting;
-  senders = seqs rows lines.logs c.senders sorting.of_all sorting.rises;
-  logs = λ t ne. log_is rows lines.logs t fit c.verdicts c.stamps c.order c.holes sorting ne;
-  queues = λ line i. queue_is lines line c.queues i;
+  all = all_in rows trace.logs c.verdicts c.stamps sorting;
+  senders = seqs rows trace.logs c.senders sorting.of_all sorting.rises;
+  logs = λ t ne. log_is rows trace.logs t fit c.verdicts c.stamps c.order c.holes sorting ne;
+  queues = λ span i. queue_is trace span c.queues i;
 }

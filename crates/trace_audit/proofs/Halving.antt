@@ -3,9 +3,10 @@ use Rattle.std.proofs.Common.{◌≡◌, ◌≢◌, ℕ, zero, suc, ◌<◌, ◌
 use Rattle.std.specs.List.{list_any, find}
 use Rattle.std.specs.List.Sorted.{IsPartitionedBy, IsPartitionPoint}
 use Rattle.std.specs.Option.{option_map}
-use Rattle.std.proofs.lemmas.Bool.{eqb-true, and_parts, true≢false, false≢true}
+use Rattle.std.proofs.lemmas.Bool.{eqb-true, and_parts, true≢false, false≢true, and_from, not_from_false, not-true}
 use Rattle.std.proofs.lemmas.Bool.Decides.{nat_tests}
 use Rattle.std.proofs.lemmas.List.{get_or_default}
+use Rattle.std.proofs.lemmas.Option.{same_Some}
 use Rattle.mcast_txn.specs.declared.id.Topic.{Topic}
 use Rattle.mcast_txn.specs.declared.stamp.Stamp.{Stamp}
 use Rattle.mcast_txn.specs.Ids.{same_id}
@@ -13,14 +14,14 @@ use Rattle.mcast_txn.specs.Lists.{In}
 use Rattle.mcast_txn.specs.Span.{LogRow}
 use Rattle.mcast_txn.specs.Stamp.{same_stamp, stamp_lt}
 use Rattle.mcast_txn.proofs.Members.{In-map, In-get_or, any_found, any_from}
-use Rattle.mcast_txn.proofs.Orders.{lt_irrefl, lt_trans, id_itself}
+use Rattle.mcast_txn.proofs.Orders.{lt_irrefl, lt_trans, id_itself, same_stamp_itself}
 use Rattle.trace_audit.specs.Faults.{log_has_row, log_has_row_from, is_hole}
-use Rattle.trace_audit.specs.Logs.{LogLine}
+use Rattle.trace_audit.specs.Logs.{TopicRow}
 use Rattle.trace_audit.specs.Inner.Chained.{Chained, Above, IsIndex, comes_before, is_from}
 use Rattle.trace_audit.specs.Inner.Orders.{rows_of_refs}
 use Rattle.trace_audit.specs.Trace.{rows_of}
-use Rattle.trace_audit.proofs.Explaining.{none_at, and_true, not_true, not_false, one_row, one_stamp}
-use Rattle.trace_audit.proofs.Refuting.{refuted, stamp_itself}
+use Rattle.trace_audit.proofs.Explaining.{none_at, one_row, one_stamp}
+use Rattle.trace_audit.proofs.Refuting.{refuted}
 
 -- ---- chains by index
 
@@ -87,9 +88,6 @@ pub record FoundFirst {X : Type 0} (R : X → X → Type 0) (q : X → Bool) (xs
   pub passes : q y ≡ true
   pub first : (x : X) → In x xs → q x ≡ true → (y ≡ x) ⊎ R y x
 
-some_is : {X : Type 0} (x y : X) → Some x ≡ Some y → x ≡ y
-some_is x y e = cc
-
 -- what is found in a chained list passes, and is in the relation to all others that pass
 pub found_first : {X : Type 0} (R : X → X → Type 0) (q : X → Bool) (xs : List X) (y : X) → Chained R xs → find q xs ≡ Some y → FoundFirst R q xs y
 found_first R q [] y c e = absurd cc
@@ -97,14 +95,14 @@ found_first {X} R q (x ∷ xs) y c e = go (q x) refl e (λ f. found_first R q xs
   where
     go : (b : Bool) → q x ≡ b → cond b (Some x) (find q xs) ≡ Some y → (find q xs ≡ Some y → FoundFirst R q xs y) → FoundFirst R q (x ∷ xs) y
     go true f g ih = record {
-      stands = inl (some_is x y g);
-      passes = subst (λ z. q z ≡ true) (some_is x y g) f;
+      stands = inl (same_Some x y g);
+      passes = subst (λ z. q z ≡ true) (same_Some x y g) f;
       first = λ z i h. first z i;
     }
       where
         first : (z : X) → In z (x ∷ xs) → (y ≡ z) ⊎ R y z
-        first z (inl k) = inl (sym (some_is x y g) ∙ k)
-        first z (inr k) = inr (subst (λ w. R w z) (some_is x y g) (c.0 z k))
+        first z (inl k) = inl (sym (same_Some x y g) ∙ k)
+        first z (inr k) = inr (subst (λ w. R w z) (same_Some x y g) (c.0 z k))
     go false f g ih = record {
       stands = inr (ih g).stands;
       passes = (ih g).passes;
@@ -125,7 +123,7 @@ find_any {X} q (x ∷ xs) e = go (q x) e (λ f. find_any q xs f)
 
 -- ---- halving
 
-before_keeps : (t : Topic) (stamp : Stamp) (x y : LogLine) → Above x y → comes_before t stamp y ≡ true → comes_before t stamp x ≡ true
+before_keeps : (t : Topic) (stamp : Stamp) (x y : TopicRow) → Above x y → comes_before t stamp y ≡ true → comes_before t stamp x ≡ true
 before_keeps t stamp x y above e = go (x.topic.0 == y.topic.0) refl
   where
     other : (x.topic.0 == y.topic.0) ≡ false → comes_before t stamp x ≡ true
@@ -150,11 +148,11 @@ before_keeps t stamp x y above e = go (x.topic.0 == y.topic.0) refl
     go true f = same (eqb-true x.topic.0 y.topic.0 f)
     go false f = other f
 
--- an index is partitioned: the lines before a stamp of a topic, and then the others
-pub before_parted : (t : Topic) (stamp : Stamp) (rows : List (Bor LogLine)) → IsIndex rows → IsPartitionedBy (λ r. comes_before t stamp r.now) rows
+-- an index is partitioned: the rows before a stamp of a topic, and then the others
+pub before_parted : (t : Topic) (stamp : Stamp) (rows : List (Bor TopicRow)) → IsIndex rows → IsPartitionedBy (λ r. comes_before t stamp r.now) rows
 before_parted t stamp rows index = parted Above (comes_before t stamp) rows index.rises (before_keeps t stamp)
 
--- a line that comes before isn't one from there on
+-- a row that comes before isn't one from there on
 before_not_from : (a u : ℕ) (p : Bool) → (nat_lt a u || (a == u && p)) ≡ true → (a == u && not p) ≡ false
 before_not_from a u p e = grind (arith, nat_tests)
 
@@ -164,25 +162,25 @@ not_before_from a u p e f = grind (arith, nat_tests)
 beyond_not_from : (a b u : ℕ) (p q : Bool) → (nat_lt a u || (a == u && p)) ≡ false → a ≢ u → nat_lt b a ≡ false → (b == u && q) ≡ false
 beyond_not_from a b u p q e f g = grind (arith, nat_tests)
 
-abbrev PointOf : Topic → Stamp → List (Bor LogLine) → ℕ → Type 0
+abbrev PointOf : Topic → Stamp → List (Bor TopicRow) → ℕ → Type 0
 PointOf t stamp rows i =
     IsPartitionPoint (λ r. comes_before t stamp r.now ≡ true) (λ r. comes_before t stamp r.now ≡ false) rows i
 
-early : (t : Topic) (stamp : Stamp) (rows : List (Bor LogLine)) (i : ℕ) → PointOf t stamp rows i → (k : ℕ) (d : Bor LogLine) → k < i → is_from t stamp (get_or rows k d).now ≡ false
+early : (t : Topic) (stamp : Stamp) (rows : List (Bor TopicRow)) (i : ℕ) → PointOf t stamp rows i → (k : ℕ) (d : Bor TopicRow) → k < i → is_from t stamp (get_or rows k d).now ≡ false
 early t stamp rows i point k d l =
     before_not_from (get_or rows k d).now.topic.0 t.0 (stamp_lt (get_or rows k d).now.row.stamp stamp) (point.0 k d (omega arith) l)
 
--- where the line at the partition point is of the topic, its stamp is the log's first from the given one on
-pub found_here : (t : Topic) (stamp : Stamp) (rows : List (Bor LogLine)) (i : ℕ) (d : Bor LogLine) → PointOf t stamp rows i → i < length rows → (get_or rows i d).now.topic.0 ≡ t.0 → Some (get_or rows i d).now.row.stamp ≡ option_map (λ line. line.row.stamp) (find (λ line. is_from t stamp line) (rows_of_refs rows))
+-- where the row at the partition point is of the topic, its stamp is the log's first from the given one on
+pub found_here : (t : Topic) (stamp : Stamp) (rows : List (Bor TopicRow)) (i : ℕ) (d : Bor TopicRow) → PointOf t stamp rows i → i < length rows → (get_or rows i d).now.topic.0 ≡ t.0 → Some (get_or rows i d).now.row.stamp ≡ option_map (λ logged. logged.row.stamp) (find (λ logged. is_from t stamp logged) (rows_of_refs rows))
 found_here t stamp rows i d point l e =
-    ap (option_map (λ (line : LogLine). line.row.stamp))
+    ap (option_map (λ (logged : TopicRow). logged.row.stamp))
     (sym (find_at (is_from t stamp) rows i d l (early t stamp rows i point)
     (not_before_from (get_or rows i d).now.topic.0 t.0 (stamp_lt (get_or rows i d).now.row.stamp stamp) (point.1 i d (omega arith) l) e)))
 
--- where the line at the partition point is of another topic, the log has no stamp from the given one on
-pub found_beyond : (t : Topic) (stamp : Stamp) (rows : List (Bor LogLine)) (i : ℕ) (d : Bor LogLine) → IsIndex rows → PointOf t stamp rows i → i < length rows → (get_or rows i d).now.topic.0 ≢ t.0 → None ≡ option_map (λ line. line.row.stamp) (find (λ line. is_from t stamp line) (rows_of_refs rows))
+-- where the row at the partition point is of another topic, the log has no stamp from the given one on
+pub found_beyond : (t : Topic) (stamp : Stamp) (rows : List (Bor TopicRow)) (i : ℕ) (d : Bor TopicRow) → IsIndex rows → PointOf t stamp rows i → i < length rows → (get_or rows i d).now.topic.0 ≢ t.0 → None ≡ option_map (λ logged. logged.row.stamp) (find (λ logged. is_from t stamp logged) (rows_of_refs rows))
 found_beyond t stamp rows i d index point l e =
-    ap (option_map (λ (line : LogLine). line.row.stamp)) (sym (find_none (is_from t stamp) rows none))
+    ap (option_map (λ (logged : TopicRow). logged.row.stamp)) (sym (find_none (is_from t stamp) rows none))
   where
     later : (k : ℕ) → k < length rows → i < k → is_from t stamp (get_or rows k d).now ≡ false
     later k m n =
@@ -197,87 +195,87 @@ found_beyond t stamp rows i d index point l e =
     at_d k m (inr (inl n)) = subst (λ (j : ℕ). is_from t stamp (get_or rows j d).now ≡ false) (sym n) here
     at_d k m (inr (inr n)) = later k m n
 
-    none : (k : ℕ) (f : Bor LogLine) → k < length rows → is_from t stamp (get_or rows k f).now ≡ false
+    none : (k : ℕ) (f : Bor TopicRow) → k < length rows → is_from t stamp (get_or rows k f).now ≡ false
     none k f m =
-        subst (λ (r : Bor LogLine). is_from t stamp r.now ≡ false) (get_or_default rows k d f m) (at_d k m (three k i))
+        subst (λ (r : Bor TopicRow). is_from t stamp r.now ≡ false) (get_or_default rows k d f m) (at_d k m (three k i))
 
 -- where the partition point is the end, the log has no stamp from the given one on
-pub found_none : (t : Topic) (stamp : Stamp) (rows : List (Bor LogLine)) (i : ℕ) → PointOf t stamp rows i → i ≡ length rows → None ≡ option_map (λ line. line.row.stamp) (find (λ line. is_from t stamp line) (rows_of_refs rows))
+pub found_none : (t : Topic) (stamp : Stamp) (rows : List (Bor TopicRow)) (i : ℕ) → PointOf t stamp rows i → i ≡ length rows → None ≡ option_map (λ logged. logged.row.stamp) (find (λ logged. is_from t stamp logged) (rows_of_refs rows))
 found_none t stamp rows i point e =
-    ap (option_map (λ (line : LogLine). line.row.stamp)) (sym (find_none (is_from t stamp) rows (λ k d l. early t stamp rows i point k d (subst (λ n. k < n) (sym e) l))))
+    ap (option_map (λ (logged : TopicRow). logged.row.stamp)) (sym (find_none (is_from t stamp) rows (λ k d l. early t stamp rows i point k d (subst (λ n. k < n) (sym e) l))))
 
 -- ---- rows of logs
 
 -- what the first stamp says of a row
-abbrev says : Option LogLine → LogRow → Bool
+abbrev says : Option TopicRow → LogRow → Bool
 says None q = false
-says (Some line) q = same_stamp line.row.stamp q.stamp
+says (Some logged) q = same_stamp logged.row.stamp q.stamp
 
-at_row : (t : Topic) (q : LogRow) (line : LogLine) → (line.topic.0 == t.0) ≡ true → line.row ≡ q → is_from t q.stamp line ≡ true
-at_row t q line e f =
-    and_true (line.topic.0 == t.0) (not (stamp_lt line.row.stamp q.stamp)) e
-    (not_true (stamp_lt line.row.stamp q.stamp) (subst (λ (z : LogRow). stamp_lt line.row.stamp z.stamp ≡ false) f (lt_irrefl line.row.stamp)))
+at_row : (t : Topic) (q : LogRow) (logged : TopicRow) → (logged.topic.0 == t.0) ≡ true → logged.row ≡ q → is_from t q.stamp logged ≡ true
+at_row t q logged e f =
+    and_from (logged.topic.0 == t.0) (not (stamp_lt logged.row.stamp q.stamp)) e
+    (not_from_false (stamp_lt logged.row.stamp q.stamp) (subst (λ (z : LogRow). stamp_lt logged.row.stamp z.stamp ≡ false) f (lt_irrefl logged.row.stamp)))
 
-record HasRow (t : Topic) (q : LogRow) (lines : List LogLine) : Type 0 where
-  line : LogLine
-  stands : In line lines
-  topic : (line.topic.0 == t.0) ≡ true
-  is : line.row ≡ q
+record HasRow (t : Topic) (q : LogRow) (logs : List TopicRow) : Type 0 where
+  logged : TopicRow
+  stands : In logged logs
+  topic : (logged.topic.0 == t.0) ≡ true
+  is : logged.row ≡ q
 
-has_line : (t : Topic) (q : LogRow) (rows : List (Bor LogLine)) → IsIndex rows → In q (rows_of (rows_of_refs rows)) → log_has_row t q.id (rows_of_refs rows) ≡ true → HasRow t q (rows_of_refs rows)
-has_line t q rows index i e =
-    let f = any_found (λ (line : LogLine). line.topic.0 == t.0 && same_id line.row.id q.id) (rows_of_refs rows) e in
+has_logged : (t : Topic) (q : LogRow) (rows : List (Bor TopicRow)) → IsIndex rows → In q (rows_of (rows_of_refs rows)) → log_has_row t q.id (rows_of_refs rows) ≡ true → HasRow t q (rows_of_refs rows)
+has_logged t q rows index i e =
+    let f = any_found (λ (logged : TopicRow). logged.topic.0 == t.0 && same_id logged.row.id q.id) (rows_of_refs rows) e in
     let p = and_parts (f.it.topic.0 == t.0) (same_id f.it.row.id q.id) f.passes in
     record {
-      line = f.it;
+      logged = f.it;
       stands = f.stands;
       topic = p.0;
-      is = one_row (rows_of_refs rows) f.it.row q index.one_verdict (In-map (λ (l : LogLine). l.row) f.it (rows_of_refs rows) f.stands) i p.1;
+      is = one_row (rows_of_refs rows) f.it.row q index.one_verdict (In-map (λ (l : TopicRow). l.row) f.it (rows_of_refs rows) f.stands) i p.1;
     }
 
 -- the log has the row exactly where the first stamp from its own on is its own
-pub has_row_is : (t : Topic) (q : LogRow) (rows : List (Bor LogLine)) → IsIndex rows → In q (rows_of (rows_of_refs rows)) → log_has_row t q.id (rows_of_refs rows) ≡ says (find (λ line. is_from t q.stamp line) (rows_of_refs rows)) q
-has_row_is t q rows index i = go (find (λ line. is_from t q.stamp line) (rows_of_refs rows)) refl
+pub has_row_is : (t : Topic) (q : LogRow) (rows : List (Bor TopicRow)) → IsIndex rows → In q (rows_of (rows_of_refs rows)) → log_has_row t q.id (rows_of_refs rows) ≡ says (find (λ logged. is_from t q.stamp logged) (rows_of_refs rows)) q
+has_row_is t q rows index i = go (find (λ logged. is_from t q.stamp logged) (rows_of_refs rows)) refl
   where
-    missing : find (λ line. is_from t q.stamp line) (rows_of_refs rows) ≡ None → log_has_row t q.id (rows_of_refs rows) ≡ true → Prim.⊥
+    missing : find (λ logged. is_from t q.stamp logged) (rows_of_refs rows) ≡ None → log_has_row t q.id (rows_of_refs rows) ≡ true → Prim.⊥
     missing e h =
-        let m = has_line t q rows index i h in
-        true≢false (sym (at_row t q m.line m.topic m.is) ∙ none_at (λ line. is_from t q.stamp line) m.line (rows_of_refs rows) (find_any (λ line. is_from t q.stamp line) (rows_of_refs rows) e) m.stands)
+        let m = has_logged t q rows index i h in
+        true≢false (sym (at_row t q m.logged m.topic m.is) ∙ none_at (λ logged. is_from t q.stamp logged) m.logged (rows_of_refs rows) (find_any (λ logged. is_from t q.stamp logged) (rows_of_refs rows) e) m.stands)
 
-    other : (y : LogLine) → find (λ line. is_from t q.stamp line) (rows_of_refs rows) ≡ Some y → same_stamp y.row.stamp q.stamp ≡ false → log_has_row t q.id (rows_of_refs rows) ≡ true → Prim.⊥
-    other y e s h = which (f.first m.line m.stands (at_row t q m.line m.topic m.is))
+    other : (y : TopicRow) → find (λ logged. is_from t q.stamp logged) (rows_of_refs rows) ≡ Some y → same_stamp y.row.stamp q.stamp ≡ false → log_has_row t q.id (rows_of_refs rows) ≡ true → Prim.⊥
+    other y e s h = which (f.first m.logged m.stands (at_row t q m.logged m.topic m.is))
       where
-        f : FoundFirst Above (λ line. is_from t q.stamp line) (rows_of_refs rows) y
-        f = found_first Above (λ line. is_from t q.stamp line) (rows_of_refs rows) y index.rises e
+        f : FoundFirst Above (λ logged. is_from t q.stamp logged) (rows_of_refs rows) y
+        f = found_first Above (λ logged. is_from t q.stamp logged) (rows_of_refs rows) y index.rises e
 
         m : HasRow t q (rows_of_refs rows)
-        m = has_line t q rows index i h
+        m = has_logged t q rows index i h
 
         p : ((y.topic.0 == t.0) ≡ true) × (not (stamp_lt y.row.stamp q.stamp) ≡ true)
         p = and_parts (y.topic.0 == t.0) (not (stamp_lt y.row.stamp q.stamp)) f.passes
 
-        topics : y.topic.0 ≡ m.line.topic.0
-        topics = eqb-true y.topic.0 t.0 p.0 ∙ sym (eqb-true m.line.topic.0 t.0 m.topic)
+        topics : y.topic.0 ≡ m.logged.topic.0
+        topics = eqb-true y.topic.0 t.0 p.0 ∙ sym (eqb-true m.logged.topic.0 t.0 m.topic)
 
-        which : (y ≡ m.line) ⊎ Above y m.line → Prim.⊥
+        which : (y ≡ m.logged) ⊎ Above y m.logged → Prim.⊥
         which (inl k) =
-            true≢false (sym (subst (λ (z : LogRow). same_stamp z.stamp q.stamp ≡ true) (sym (ap (λ (l : LogLine). l.row) k ∙ m.is)) (stamp_itself q.stamp)) ∙ s)
+            true≢false (sym (subst (λ (z : LogRow). same_stamp z.stamp q.stamp ≡ true) (sym (ap (λ (l : TopicRow). l.row) k ∙ m.is)) (same_stamp_itself q.stamp)) ∙ s)
         which (inr k) =
-            true≢false (sym (subst (λ (z : LogRow). stamp_lt y.row.stamp z.stamp ≡ true) m.is (k.1 topics)) ∙ not_false _ p.1)
+            true≢false (sym (subst (λ (z : LogRow). stamp_lt y.row.stamp z.stamp ≡ true) m.is (k.1 topics)) ∙ not-true _ p.1)
 
-    same : (y : LogLine) → find (λ line. is_from t q.stamp line) (rows_of_refs rows) ≡ Some y → same_stamp y.row.stamp q.stamp ≡ true → log_has_row t q.id (rows_of_refs rows) ≡ true
+    same : (y : TopicRow) → find (λ logged. is_from t q.stamp logged) (rows_of_refs rows) ≡ Some y → same_stamp y.row.stamp q.stamp ≡ true → log_has_row t q.id (rows_of_refs rows) ≡ true
     same y e s =
-        let f = found_first Above (λ line. is_from t q.stamp line) (rows_of_refs rows) y index.rises e in
+        let f = found_first Above (λ logged. is_from t q.stamp logged) (rows_of_refs rows) y index.rises e in
         let p = and_parts (y.topic.0 == t.0) (not (stamp_lt y.row.stamp q.stamp)) f.passes in
-        let k : y.row ≡ q = one_stamp (rows_of_refs rows) y.row q index.one_verdict index.one_stamp (In-map (λ (l : LogLine). l.row) y (rows_of_refs rows) f.stands) i s in
-        any_from (λ (line : LogLine). line.topic.0 == t.0 && same_id line.row.id q.id) y (rows_of_refs rows) f.stands
-        (and_true (y.topic.0 == t.0) (same_id y.row.id q.id) p.0 (subst (λ (z : LogRow). same_id z.id q.id ≡ true) (sym k) (id_itself q.id)))
+        let k : y.row ≡ q = one_stamp (rows_of_refs rows) y.row q index.one_verdict index.one_stamp (In-map (λ (l : TopicRow). l.row) y (rows_of_refs rows) f.stands) i s in
+        any_from (λ (logged : TopicRow). logged.topic.0 == t.0 && same_id logged.row.id q.id) y (rows_of_refs rows) f.stands
+        (and_from (y.topic.0 == t.0) (same_id y.row.id q.id) p.0 (subst (λ (z : LogRow). same_id z.id q.id ≡ true) (sym k) (id_itself q.id)))
 
-    tell : (y : LogLine) → find (λ line. is_from t q.stamp line) (rows_of_refs rows) ≡ Some y → (b : Bool) → same_stamp y.row.stamp q.stamp ≡ b → log_has_row t q.id (rows_of_refs rows) ≡ b
+    tell : (y : TopicRow) → find (λ logged. is_from t q.stamp logged) (rows_of_refs rows) ≡ Some y → (b : Bool) → same_stamp y.row.stamp q.stamp ≡ b → log_has_row t q.id (rows_of_refs rows) ≡ b
     tell y e true s = same y e s
     tell y e false s = refuted _ (other y e s)
 
-    go : (o : Option LogLine) → find (λ line. is_from t q.stamp line) (rows_of_refs rows) ≡ o → log_has_row t q.id (rows_of_refs rows) ≡ says o q
+    go : (o : Option TopicRow) → find (λ logged. is_from t q.stamp logged) (rows_of_refs rows) ≡ o → log_has_row t q.id (rows_of_refs rows) ≡ says o q
     go None e = refuted _ (missing e)
     go (Some y) e = tell y e (same_stamp y.row.stamp q.stamp) refl
 
@@ -291,22 +289,22 @@ abbrev pub tells_other : Option Stamp → Stamp → Bool
 tells_other None s = false
 tells_other (Some found) s = not (same_stamp found s)
 
-has_row_told_own : (t : Topic) (q : LogRow) (rows : List (Bor LogLine)) (o : Option Stamp) → IsIndex rows → In q (rows_of (rows_of_refs rows)) → o ≡ option_map (λ line. line.row.stamp) (find (λ line. is_from t q.stamp line) (rows_of_refs rows)) → tells o q.stamp ≡ log_has_row t q.id (rows_of_refs rows)
+has_row_told_own : (t : Topic) (q : LogRow) (rows : List (Bor TopicRow)) (o : Option Stamp) → IsIndex rows → In q (rows_of (rows_of_refs rows)) → o ≡ option_map (λ logged. logged.row.stamp) (find (λ logged. is_from t q.stamp logged) (rows_of_refs rows)) → tells o q.stamp ≡ log_has_row t q.id (rows_of_refs rows)
 has_row_told_own t q rows o index i e =
-    ap (λ z. tells z q.stamp) e ∙ (back (find (λ line. is_from t q.stamp line) (rows_of_refs rows)) ∙ sym (has_row_is t q rows index i))
+    ap (λ z. tells z q.stamp) e ∙ (back (find (λ logged. is_from t q.stamp logged) (rows_of_refs rows)) ∙ sym (has_row_is t q rows index i))
   where
-    back : (f : Option LogLine) → tells (option_map (λ (line : LogLine). line.row.stamp) f) q.stamp ≡ says f q
+    back : (f : Option TopicRow) → tells (option_map (λ (logged : TopicRow). logged.row.stamp) f) q.stamp ≡ says f q
     back None = refl
     back (Some y) = refl
 
-hole_told_own : (t : Topic) (q : LogRow) (rows : List (Bor LogLine)) (o : Option Stamp) → IsIndex rows → In q (rows_of (rows_of_refs rows)) → o ≡ option_map (λ line. line.row.stamp) (find (λ line. is_from t q.stamp line) (rows_of_refs rows)) → tells_other o q.stamp ≡ is_hole (rows_of_refs rows) q t
+hole_told_own : (t : Topic) (q : LogRow) (rows : List (Bor TopicRow)) (o : Option Stamp) → IsIndex rows → In q (rows_of (rows_of_refs rows)) → o ≡ option_map (λ logged. logged.row.stamp) (find (λ logged. is_from t q.stamp logged) (rows_of_refs rows)) → tells_other o q.stamp ≡ is_hole (rows_of_refs rows) q t
 hole_told_own t q rows o index i e =
-    ap (λ z. tells_other z q.stamp) e ∙ go (find (λ line. is_from t q.stamp line) (rows_of_refs rows)) refl
+    ap (λ z. tells_other z q.stamp) e ∙ go (find (λ logged. is_from t q.stamp logged) (rows_of_refs rows)) refl
   where
-    reached : (y : LogLine) → find (λ line. is_from t q.stamp line) (rows_of_refs rows) ≡ Some y → log_has_row_from t q.stamp (rows_of_refs rows) ≡ true
+    reached : (y : TopicRow) → find (λ logged. is_from t q.stamp logged) (rows_of_refs rows) ≡ Some y → log_has_row_from t q.stamp (rows_of_refs rows) ≡ true
     reached y f =
-        let p = found_first Above (λ line. is_from t q.stamp line) (rows_of_refs rows) y index.rises f in
-        any_from (λ (line : LogLine). line.topic.0 == t.0 && not (stamp_lt line.row.stamp q.stamp)) y (rows_of_refs rows) p.stands p.passes
+        let p = found_first Above (λ logged. is_from t q.stamp logged) (rows_of_refs rows) y index.rises f in
+        any_from (λ (logged : TopicRow). logged.topic.0 == t.0 && not (stamp_lt logged.row.stamp q.stamp)) y (rows_of_refs rows) p.stands p.passes
 
     short : (a b : Bool) → b ≡ false → false ≡ (not a && b)
     short true b f = refl
@@ -316,17 +314,17 @@ hole_told_own t q rows o index i e =
     full true b f = refl
     full false b f = sym f
 
-    go : (f : Option LogLine) → find (λ line. is_from t q.stamp line) (rows_of_refs rows) ≡ f → tells_other (option_map (λ (line : LogLine). line.row.stamp) f) q.stamp ≡ is_hole (rows_of_refs rows) q t
-    go None f = short _ _ (find_any (λ line. is_from t q.stamp line) (rows_of_refs rows) f)
+    go : (f : Option TopicRow) → find (λ logged. is_from t q.stamp logged) (rows_of_refs rows) ≡ f → tells_other (option_map (λ (logged : TopicRow). logged.row.stamp) f) q.stamp ≡ is_hole (rows_of_refs rows) q t
+    go None f = short _ _ (find_any (λ logged. is_from t q.stamp logged) (rows_of_refs rows) f)
     go (Some y) f =
         ap not (sym (has_row_is t q rows index i ∙ ap (λ z. says z q) f)) ∙ full _ _ (reached y f)
 
 -- the same at a stamp that is the row's
-pub has_row_told : (t : Topic) (q : LogRow) (s : Stamp) (rows : List (Bor LogLine)) (o : Option Stamp) → s ≡ q.stamp → IsIndex rows → In q (rows_of (rows_of_refs rows)) → o ≡ option_map (λ line. line.row.stamp) (find (λ line. is_from t s line) (rows_of_refs rows)) → tells o s ≡ log_has_row t q.id (rows_of_refs rows)
+pub has_row_told : (t : Topic) (q : LogRow) (s : Stamp) (rows : List (Bor TopicRow)) (o : Option Stamp) → s ≡ q.stamp → IsIndex rows → In q (rows_of (rows_of_refs rows)) → o ≡ option_map (λ logged. logged.row.stamp) (find (λ logged. is_from t s logged) (rows_of_refs rows)) → tells o s ≡ log_has_row t q.id (rows_of_refs rows)
 has_row_told t q s rows o same index i e =
-    ap (tells o) same ∙ has_row_told_own t q rows o index i (e ∙ ap (λ (z : Stamp). option_map (λ (line : LogLine). line.row.stamp) (find (λ line. is_from t z line) (rows_of_refs rows))) same)
+    ap (tells o) same ∙ has_row_told_own t q rows o index i (e ∙ ap (λ (z : Stamp). option_map (λ (logged : TopicRow). logged.row.stamp) (find (λ logged. is_from t z logged) (rows_of_refs rows))) same)
 
 -- a log has a hole at a row exactly where its first stamp from the row's on is another than the row's
-pub hole_told : (t : Topic) (q : LogRow) (s : Stamp) (rows : List (Bor LogLine)) (o : Option Stamp) → s ≡ q.stamp → IsIndex rows → In q (rows_of (rows_of_refs rows)) → o ≡ option_map (λ line. line.row.stamp) (find (λ line. is_from t s line) (rows_of_refs rows)) → tells_other o s ≡ is_hole (rows_of_refs rows) q t
+pub hole_told : (t : Topic) (q : LogRow) (s : Stamp) (rows : List (Bor TopicRow)) (o : Option Stamp) → s ≡ q.stamp → IsIndex rows → In q (rows_of (rows_of_refs rows)) → o ≡ option_map (λ logged. logged.row.stamp) (find (λ logged. is_from t s logged) (rows_of_refs rows)) → tells_other o s ≡ is_hole (rows_of_refs rows) q t
 hole_told t q s rows o same index i e =
-    ap (tells_other o) same ∙ hole_told_own t q rows o index i (e ∙ ap (λ (z : Stamp). option_map (λ (line : LogLine). line.row.stamp) (find (λ line. is_from t z line) (rows_of_refs rows))) same)
+    ap (tells_other o) same ∙ hole_told_own t q rows o index i (e ∙ ap (λ (z : Stamp). option_map (λ (logged : TopicRow). logged.row.stamp) (find (λ logged. is_from t z logged) (rows_of_refs rows))) same)

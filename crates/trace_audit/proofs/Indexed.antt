@@ -1,4 +1,4 @@
--- Logs and their index: the same lines by topic and stamp.
+-- Logs and their index: the same rows by topic and stamp.
 use Rattle.std.proofs.Common.{◌≡◌, ℕ, ◌+◌, ◌<◌, ◌==◌, Bool, true, false, not, ◌&&◌, List, [], ◌∷◌, map, length, get_or, drop, Bor, refl, sym, ap, subst, ◌∙◌}
 use Rattle.std.specs.List.{filter, list_all}
 use Rattle.std.specs.List.Sorted.{IsPermutation}
@@ -13,7 +13,7 @@ use Rattle.mcast_txn.proofs.Members.{In-get_or, In-map}
 use Rattle.trace_audit.specs.Faults.{some_two, are_different, are_colliding, is_out_of_order, log_has_row, log_has_row_from, is_hole}
 use Rattle.trace_audit.specs.Inner.Chained.{IsIndex}
 use Rattle.trace_audit.specs.Inner.Orders.{rows_of_refs, IsOrdersOf}
-use Rattle.trace_audit.specs.Logs.{LogLine}
+use Rattle.trace_audit.specs.Logs.{TopicRow}
 use Rattle.trace_audit.specs.Trace.{rows_of}
 use Rattle.trace_audit.proofs.Least.{rest_is}
 use Rattle.trace_audit.proofs.LogFaults.{moved_two}
@@ -21,41 +21,41 @@ use Rattle.trace_audit.proofs.Neighbours.{chained_from_order, same_order}
 use Rattle.trace_audit.proofs.Putting.{row_moved}
 
 -- logs against which neither verdicts, stamps nor order speak have an index
-pub indexed : (logs : List LogLine) (by_id by_stamp by_topic : List (Bor LogLine)) → IsOrdersOf by_id by_stamp by_topic logs → some_two are_different logs ≡ false → some_two are_colliding logs ≡ false → is_out_of_order logs ≡ false → IsIndex by_topic
+pub indexed : (logs : List TopicRow) (by_id by_stamp by_topic : List (Bor TopicRow)) → IsOrdersOf by_id by_stamp by_topic logs → some_two are_different logs ≡ false → some_two are_colliding logs ≡ false → is_out_of_order logs ≡ false → IsIndex by_topic
 indexed logs by_id by_stamp by_topic o verdicts stamps order = record {
   rises = chained_from_order by_topic o.topics_rise (same_order logs (rows_of_refs by_topic) o.grouping.kept ∙ order);
   one_verdict = moved_two are_different logs (rows_of_refs by_topic) o.grouping.moved ∙ verdicts;
   one_stamp = moved_two are_colliding logs (rows_of_refs by_topic) o.grouping.moved ∙ stamps;
 }
 
--- whether a log has a row of the transaction is the same of the lines in another order
-pub has_moved : (t : Topic) (q : LogRow) (logs lines : List LogLine) → IsPermutation logs lines → log_has_row t q.id lines ≡ log_has_row t q.id logs
-has_moved t q logs lines p = sym (list_any-IsPermutation (λ (line : LogLine). line.topic.0 == t.0 && same_id line.row.id q.id) logs lines p)
+-- whether a log has a row of the transaction is the same of the rows in another order
+pub has_moved : (t : Topic) (q : LogRow) (logs others : List TopicRow) → IsPermutation logs others → log_has_row t q.id others ≡ log_has_row t q.id logs
+has_moved t q logs others p = sym (list_any-IsPermutation (λ (logged : TopicRow). logged.topic.0 == t.0 && same_id logged.row.id q.id) logs others p)
 
--- whether a log has a hole at a row is the same of the lines in another order
-pub hole_moved : (t : Topic) (q : LogRow) (logs lines : List LogLine) → IsPermutation logs lines → is_hole lines q t ≡ is_hole logs q t
-hole_moved t q logs lines p =
-    ap (λ z. not z && log_has_row_from t q.stamp lines) (has_moved t q logs lines p)
-    ∙ ap (λ z. not (log_has_row t q.id logs) && z) (sym (list_any-IsPermutation (λ (line : LogLine). line.topic.0 == t.0 && not (stamp_lt line.row.stamp q.stamp)) logs lines p))
+-- whether a log has a hole at a row is the same of the rows in another order
+pub hole_moved : (t : Topic) (q : LogRow) (logs others : List TopicRow) → IsPermutation logs others → is_hole others q t ≡ is_hole logs q t
+hole_moved t q logs others p =
+    ap (λ z. not z && log_has_row_from t q.stamp others) (has_moved t q logs others p)
+    ∙ ap (λ z. not (log_has_row t q.id logs) && z) (sym (list_any-IsPermutation (λ (logged : TopicRow). logged.topic.0 == t.0 && not (stamp_lt logged.row.stamp q.stamp)) logs others p))
 
--- the topics that have a hole at a row are the same of the lines in another order
-pub holes_moved : (q : LogRow) (logs lines : List LogLine) → IsPermutation logs lines → map (λ (t : Topic). t.0) (filter (λ t. is_hole lines q t) q.topics) ≡ map (λ (t : Topic). t.0) (filter (λ t. is_hole logs q t) q.topics)
-holes_moved q logs lines p =
-    ap (map (λ (t : Topic). t.0)) (filter_agree (λ t. is_hole lines q t) (λ t. is_hole logs q t) (λ t. hole_moved t q logs lines p) q.topics)
+-- the topics that have a hole at a row are the same of the rows in another order
+pub holes_moved : (q : LogRow) (logs others : List TopicRow) → IsPermutation logs others → map (λ (t : Topic). t.0) (filter (λ t. is_hole others q t) q.topics) ≡ map (λ (t : Topic). t.0) (filter (λ t. is_hole logs q t) q.topics)
+holes_moved q logs others p =
+    ap (map (λ (t : Topic). t.0)) (filter_agree (λ t. is_hole others q t) (λ t. is_hole logs q t) (λ t. hole_moved t q logs others p) q.topics)
 
 all_agree : {X : Type 0} (p q : X → Bool) → ((x : X) → p x ≡ q x) → (xs : List X) → list_all p xs ≡ list_all q xs
 all_agree p q h [] = refl
 all_agree p q h (x ∷ xs) = rw (h x, all_agree p q h xs) refl
 
--- whether the log of each topic of a row has it is the same of the lines in another order
-pub everywhere_moved : (q : LogRow) (logs lines : List LogLine) → IsPermutation logs lines → list_all (λ t. log_has_row t q.id lines) q.topics ≡ list_all (λ t. log_has_row t q.id logs) q.topics
-everywhere_moved q logs lines p =
-    all_agree (λ t. log_has_row t q.id lines) (λ t. log_has_row t q.id logs) (λ t. has_moved t q logs lines p) q.topics
+-- whether the log of each topic of a row has it is the same of the rows in another order
+pub everywhere_moved : (q : LogRow) (logs others : List TopicRow) → IsPermutation logs others → list_all (λ t. log_has_row t q.id others) q.topics ≡ list_all (λ t. log_has_row t q.id logs) q.topics
+everywhere_moved q logs others p =
+    all_agree (λ t. log_has_row t q.id others) (λ t. log_has_row t q.id logs) (λ t. has_moved t q logs others p) q.topics
 
 -- a row of the logs is one of the index
-pub row_within : (logs lines : List LogLine) (i : ℕ) (d : LogLine) → IsPermutation logs lines → i < length logs → d ≡ get_or logs i d → In d.row (rows_of lines)
-row_within logs lines i d p l e =
-    row_moved logs lines d.row p (In-map (λ (z : LogLine). z.row) d logs (subst (λ (z : LogLine). In z logs) (sym e) (In-get_or logs i d l)))
+pub row_within : (logs others : List TopicRow) (i : ℕ) (d : TopicRow) → IsPermutation logs others → i < length logs → d ≡ get_or logs i d → In d.row (rows_of others)
+row_within logs others i d p l e =
+    row_moved logs others d.row p (In-map (λ (z : TopicRow). z.row) d logs (subst (λ (z : TopicRow). In z logs) (sym e) (In-get_or logs i d l)))
 
 -- one item more of a test of all
 pub one_passes : {X : Type 0} (test : X → Bool) (xs : List X) (i : ℕ) (x : X) (b : Bool) → i < length xs → x ≡ get_or xs i x → list_all test (drop i xs) ≡ b → test x ≡ true → list_all test (drop (i + 1) xs) ≡ b

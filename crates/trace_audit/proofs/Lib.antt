@@ -1,10 +1,10 @@
 pub mod Cuts
 pub mod Fields
-mod Examples
+pub mod Examples
 mod TextExamples
 pub mod Explaining
 pub mod Halving
-pub mod InTurn
+pub mod InOrder
 pub mod Indexed
 pub mod Least
 pub mod LogFaults

@@ -1,4 +1,4 @@
--- What sorts give: lines behind references, in another order.
+-- What sorts give: rows behind references, in another order.
 use Rattle.std.proofs.Common.{◌≡◌, ℕ, suc, ◌+◌, ◌<◌, ◌==◌, Bool, true, false, cond, not, ◌&&◌, ◌||◌, nat_lt, inl, inr, List, [], ◌∷◌, length, get_or, Bor, refl, sym, ap, subst, ◌∙◌, ◌⊎◌, arith}
 use Rattle.std.specs.declared.cmp.Ordering.TheVariants.{Less, Equal, Greater}
 use Rattle.std.specs.Ordering.{nat_cmp, ordering_then, is_lt}
@@ -13,7 +13,7 @@ use Rattle.mcast_txn.specs.declared.stamp.Stamp.{Stamp}
 use Rattle.mcast_txn.specs.Ids.{id_lt}
 use Rattle.mcast_txn.specs.Lists.{In}
 use Rattle.mcast_txn.specs.Stamp.{stamp_lt, zero_stamp}
-use Rattle.trace_audit.specs.Logs.{LogLine}
+use Rattle.trace_audit.specs.Logs.{TopicRow}
 use Rattle.trace_audit.specs.Inner.Chained.{Chained}
 use Rattle.trace_audit.specs.Inner.Orders.{rows_of_refs}
 
@@ -53,7 +53,7 @@ stamp_rises a b = pair_lt a.n b.n a.topic.0 b.topic.0
 
 -- ---- what a sort moves
 
--- lines behind references that a sort moved
+-- rows behind references that a sort moved
 pub moved_shown : {X : Type 0} (logs : List X) (rows rows' : List (Bor X)) → rows_of_refs rows ≡ logs → IsPermutation rows rows' → IsPermutation logs (rows_of_refs rows')
 moved_shown logs rows rows' e p = subst (λ z. IsPermutation z (rows_of_refs rows')) e (IsPermutation-map (λ r. r.now) rows rows' p)
 
@@ -70,14 +70,14 @@ tied : (t u : ℕ) → (not (nat_lt t u) && not (nat_lt u t)) ≡ (u == t)
 tied t u = grind (arith, nat_tests)
 
 -- what has a key is kept in its order by a stable sort by that key
-pub kept_shown : {X : Type 0} (key : X → ℕ) (x : X) (logs : List X) (rows rows' : List (Bor X)) → rows_of_refs rows ≡ logs → IsStableBy (λ a b. is_lt (nat_cmp (key a.now) (key b.now))) rows rows' → filter (λ line. key line == key x) (rows_of_refs rows') ≡ filter (λ line. key line == key x) logs
+pub kept_shown : {X : Type 0} (key : X → ℕ) (x : X) (logs : List X) (rows rows' : List (Bor X)) → rows_of_refs rows ≡ logs → IsStableBy (λ a b. is_lt (nat_cmp (key a.now) (key b.now))) rows rows' → filter (λ item. key item == key x) (rows_of_refs rows') ≡ filter (λ item. key item == key x) logs
 kept_shown {X} key x logs rows rows' e stable =
     shown_filter at rows'
     ∙ (ap rows_of_refs (filter_agree (λ r. at r.now) (ties less here) same rows' ∙ (stable here ∙ sym (filter_agree (λ r. at r.now) (ties less here) same rows)))
     ∙ (sym (shown_filter at rows) ∙ ap (filter at) e))
   where
     at : X → Bool
-    at line = key line == key x
+    at item = key item == key x
 
     less : Bor X → Bor X → Bool
     less a b = is_lt (nat_cmp (key a.now) (key b.now))
@@ -88,9 +88,9 @@ kept_shown {X} key x logs rows rows' e stable =
     same : (r : Bor X) → at r.now ≡ ties less here r
     same r = sym (tied (key x) (key r.now)) ∙ sym (ap (λ z. not z && not (less r here)) (one_lt (key x) (key r.now)) ∙ ap (λ z. not (nat_lt (key x) (key r.now)) && not z) (one_lt (key r.now) (key x)))
 
--- a line of a topic's log
-abbrev pub line_at : Topic → LogLine
-line_at t = record { topic = t; row = record { id = record { sender = record { 0 = 0 }; seq = 0 }; topics = []; stamp = zero_stamp } }
+-- a row of a topic's log
+abbrev pub logged_at : Topic → TopicRow
+logged_at t = record { topic = t; row = record { id = record { sender = record { 0 = 0 }; seq = 0 }; topics = []; stamp = zero_stamp } }
 
 -- ---- chains
 

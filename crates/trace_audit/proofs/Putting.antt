@@ -4,32 +4,29 @@ use Rattle.std.specs.List.{list_any, slice_get}
 use Rattle.std.specs.Option.{option_map}
 use Rattle.std.specs.List.Sorted.{IsPermutation}
 use Rattle.std.proofs.lemmas.Bool.{true≢false}
-use Rattle.std.proofs.lemmas.Bool.Decides.{nat_tests}
 use Rattle.std.proofs.lemmas.List.{take_more, map-append, length-map}
-use Rattle.std.proofs.lemmas.Option.{slice_get_within, slice_get-get_or, slice_get-map}
+use Rattle.std.proofs.lemmas.Option.{slice_get_within, slice_get-get_or, slice_get-map, same_Some}
 use Rattle.std.proofs.lemmas.List.Sorted.{IsPermutation-sym, All-permutation}
 use Rattle.mcast_txn.specs.declared.stamp.Stamp.{Stamp}
 use Rattle.mcast_txn.specs.Lists.{In, Rises, insert_by}
 use Rattle.mcast_txn.specs.Span.{LogRow, row_stamp}
 use Rattle.mcast_txn.specs.Stamp.{same_stamp, stamp_lt}
+use Rattle.mcast_txn.proofs.Inserting.{In-insert, In-insert_cases}
 use Rattle.mcast_txn.proofs.Members.{In-append_left, In-push, In-push_cases, In-map, In-map_cases, In-get_or, any_found, any_from}
-use Rattle.mcast_txn.proofs.Orders.{lt_irrefl, lt_asym, le_trans, same_stamps}
-use Rattle.mcast_txn.proofs.Sorting.{In-insert, In-insert_cases, Rises-insert}
-use Rattle.trace_audit.specs.Logs.{LogLine}
+use Rattle.mcast_txn.proofs.Orders.{lt_irrefl, lt_asym, le_trans, same_stamps, same_stamp_is, same_stamp_itself}
+use Rattle.mcast_txn.proofs.Sorting.{Rises-insert}
+use Rattle.trace_audit.specs.Logs.{TopicRow}
 use Rattle.trace_audit.specs.Inner.Chained.{Chained}
 use Rattle.trace_audit.specs.Inner.Orders.{rows_of_refs, log_rows_of_refs, RisesByStamp}
 use Rattle.trace_audit.specs.Inner.Sorting.{IsSortingOf, IsAtLeast, put_row}
 use Rattle.trace_audit.specs.Trace.{rows_of}
 use Rattle.trace_audit.proofs.OrderLemmas.{chain_shown}
-use Rattle.trace_audit.proofs.Explaining.{none_at, stamps_equal}
+use Rattle.trace_audit.proofs.Explaining.{none_at}
 
 -- ---- the end
 
 abbrev is_at : Stamp → LogRow → Bool
 is_at s own = same_stamp own.stamp s
-
-at_itself : (s : Stamp) → same_stamp s s ≡ true
-at_itself s = grind (arith, nat_tests)
 
 -- a row goes at the end of others of which none is above it
 pub insert_last : (r : LogRow) (xs : List LogRow) → IsAtLeast r.stamp xs → insert_by row_stamp r xs ≡ xs ++ r ∷ []
@@ -45,9 +42,9 @@ last_case s xs last up least i top false e = go (list_any (λ own. same_stamp ow
     go false f = refl
     go true f =
         let m = any_found (λ own. same_stamp own.stamp s) xs f in
-        let same : m.it.stamp ≡ s = stamps_equal m.it.stamp s m.passes in
+        let same : m.it.stamp ≡ s = same_stamp_is m.it.stamp s m.passes in
         let equal : last.stamp ≡ s = same_stamps last.stamp s (subst (λ (z : Stamp). stamp_lt last.stamp z ≡ false) same (top m.it m.stands)) (least last i) in
-        absurd (true≢false (sym (subst (λ (z : Stamp). same_stamp z s ≡ true) (sym equal) (at_itself s)) ∙ e))
+        absurd (true≢false (sym (subst (λ (z : Stamp). same_stamp z s ≡ true) (sym equal) (same_stamp_itself s)) ∙ e))
 
 -- none of rows that rise is above the last
 pub top_at : (xs : List LogRow) (k : ℕ) (d : LogRow) → Rises row_stamp xs → k + 1 ≡ length xs → (q : LogRow) → In q xs → stamp_lt (get_or xs k d).stamp q.stamp ≡ false
@@ -64,23 +61,20 @@ pub last_is : (s : Stamp) (xs : List LogRow) (k : ℕ) (d : LogRow) → Rises ro
 last_is s xs k d up least e =
     last_case s xs (get_or xs k d) up least (In-get_or xs k d (omega arith)) (top_at xs k d up e) (same_stamp (get_or xs k d).stamp s) refl
 
-some_is : {X : Type 0} (x y : X) → Some x ≡ Some y → x ≡ y
-some_is x y e = cc
-
 -- the same of the item that `last` gives
 pub last_told : (s : Stamp) (xs : List LogRow) (y : LogRow) → Rises row_stamp xs → IsAtLeast s xs → Some y ≡ slice_get xs (length xs - 1) → same_stamp y.stamp s ≡ list_any (λ own. same_stamp own.stamp s) xs
 last_told s xs y up least e =
     let l = slice_get_within xs (length xs - 1) y (sym e) in
-    let same : y ≡ get_or xs (length xs - 1) y = some_is _ _ (e ∙ slice_get-get_or xs (length xs - 1) y l) in
+    let same : y ≡ get_or xs (length xs - 1) y = same_Some _ _ (e ∙ slice_get-get_or xs (length xs - 1) y l) in
     ap (λ (z : LogRow). same_stamp z.stamp s) same ∙ last_is s xs (length xs - 1) y up least (omega arith)
 
 -- the same of the reference that `last` gives
-pub last_shown : (s : Stamp) (rows : List (Bor LogLine)) (y : Bor LogLine) → Rises row_stamp (log_rows_of_refs rows) → IsAtLeast s (log_rows_of_refs rows) → Some y ≡ slice_get rows (length rows - 1) → same_stamp y.now.row.stamp s ≡ list_any (λ own. same_stamp own.stamp s) (log_rows_of_refs rows)
+pub last_shown : (s : Stamp) (rows : List (Bor TopicRow)) (y : Bor TopicRow) → Rises row_stamp (log_rows_of_refs rows) → IsAtLeast s (log_rows_of_refs rows) → Some y ≡ slice_get rows (length rows - 1) → same_stamp y.now.row.stamp s ≡ list_any (λ own. same_stamp own.stamp s) (log_rows_of_refs rows)
 last_shown s rows y up least e =
     last_told s (log_rows_of_refs rows) y.now.row up least
-    (ap (λ (o : Option (Bor LogLine)). option_map (λ (r : Bor LogLine). r.now.row) o) e
-    ∙ (sym (slice_get-map (λ (r : Bor LogLine). r.now.row) rows (length rows - 1))
-    ∙ ap (λ (n : ℕ). slice_get (log_rows_of_refs rows) (n - 1)) (sym (length-map rows (λ (r : Bor LogLine). r.now.row)))))
+    (ap (λ (o : Option (Bor TopicRow)). option_map (λ (r : Bor TopicRow). r.now.row) o) e
+    ∙ (sym (slice_get-map (λ (r : Bor TopicRow). r.now.row) rows (length rows - 1))
+    ∙ ap (λ (n : ℕ). slice_get (log_rows_of_refs rows) (n - 1)) (sym (length-map rows (λ (r : Bor TopicRow). r.now.row)))))
 
 -- a row above all others, of a stamp that none has
 pub put_last : (r : LogRow) (xs : List LogRow) → IsAtLeast r.stamp xs → list_any (λ own. same_stamp own.stamp r.stamp) xs ≡ false → put_row r xs ≡ xs ++ r ∷ []
@@ -114,16 +108,16 @@ sorted_case rows all r true e s = record {
 }
 sorted_case rows all r false e s = record {
   rises = Rises-insert row_stamp r rows
-      (λ q i k. absurd (true≢false (sym (subst (λ (z : Stamp). same_stamp z r.stamp ≡ true) k (at_itself r.stamp)) ∙ none_at (is_at r.stamp) q rows e i))) s.rises;
-  of_all = λ q i. elim (In-insert_cases row_stamp q r rows i) [
+      (λ q i k. absurd (true≢false (sym (subst (λ (z : Stamp). same_stamp z r.stamp ≡ true) k (same_stamp_itself r.stamp)) ∙ none_at (is_at r.stamp) q rows e i))) s.rises;
+  of_all = λ q i. elim (In-insert_cases _ q r rows i) [
     | inl same ↦ subst (λ (z : LogRow). In z (all ++ r ∷ [])) same (In-push r all)
     | inr k ↦ In-append_left q all (r ∷ []) (s.of_all q k)
   ];
   stamped = λ q i. elim (In-push_cases q r all i) [
     | inl k ↦ (let f = any_found (is_at q.stamp) rows (s.stamped q k) in
-        any_from (is_at q.stamp) f.it (insert_by row_stamp r rows) (In-insert row_stamp f.it r rows (inr f.stands)) f.passes)
-    | inr same ↦ any_from (is_at q.stamp) r (insert_by row_stamp r rows) (In-insert row_stamp r r rows (inl refl))
-        (subst (λ (z : LogRow). same_stamp r.stamp z.stamp ≡ true) same (at_itself r.stamp))
+        any_from (is_at q.stamp) f.it (insert_by row_stamp r rows) (In-insert _ f.it r rows (inr f.stands)) f.passes)
+    | inr same ↦ any_from (is_at q.stamp) r (insert_by row_stamp r rows) (In-insert _ r r rows (inl refl))
+        (subst (λ (z : LogRow). same_stamp r.stamp z.stamp ≡ true) same (same_stamp_itself r.stamp))
   ];
 }
 
@@ -137,42 +131,42 @@ In_moved {X} xs ys x p i =
     let at = In-index xs x i in
     subst (λ z. In z ys) at.is (All-permutation (λ z. In z ys) ys xs (IsPermutation-sym xs ys p) (λ k d l. In-get_or ys k d l) at.index x at.within)
 
--- a row of lines is a row of the same lines in another order
-pub row_moved : (logs lines : List LogLine) (q : LogRow) → IsPermutation logs lines → In q (rows_of logs) → In q (rows_of lines)
-row_moved logs lines q p i =
-    let m = In-map_cases (λ (l : LogLine). l.row) q logs i in
-    subst (λ (z : LogRow). In z (rows_of lines)) m.is (In-map (λ (l : LogLine). l.row) m.from lines (In_moved logs lines m.from p m.stands))
+-- a row of logs is a row of the same logs in another order
+pub row_moved : (logs others : List TopicRow) (q : LogRow) → IsPermutation logs others → In q (rows_of logs) → In q (rows_of others)
+row_moved logs others q p i =
+    let m = In-map_cases (λ (l : TopicRow). l.row) q logs i in
+    subst (λ (z : LogRow). In z (rows_of others)) m.is (In-map (λ (l : TopicRow). l.row) m.from others (In_moved logs others m.from p m.stands))
 
 -- one row more
-pub one_shown : (rows : List (Bor LogLine)) (i : ℕ) (d : Bor LogLine) → i < length rows → d ≡ get_or rows i d → rows_of (rows_of_refs (take (i + 1) rows)) ≡ rows_of (rows_of_refs (take i rows)) ++ d.now.row ∷ []
+pub one_shown : (rows : List (Bor TopicRow)) (i : ℕ) (d : Bor TopicRow) → i < length rows → d ≡ get_or rows i d → rows_of (rows_of_refs (take (i + 1) rows)) ≡ rows_of (rows_of_refs (take i rows)) ++ d.now.row ∷ []
 one_shown rows i d l e =
     ap (λ z. rows_of (rows_of_refs z)) (take_more rows i d l)
-    ∙ (ap rows_of (map-append (λ (z : Bor LogLine). z.now) (take i rows) (get_or rows i d ∷ []))
-    ∙ (map-append (λ (z : LogLine). z.row) (rows_of_refs (take i rows)) ((get_or rows i d).now ∷ [])
-    ∙ ap (λ (z : Bor LogLine). rows_of (rows_of_refs (take i rows)) ++ z.now.row ∷ []) (sym e)))
+    ∙ (ap rows_of (map-append (λ (z : Bor TopicRow). z.now) (take i rows) (get_or rows i d ∷ []))
+    ∙ (map-append (λ (z : TopicRow). z.row) (rows_of_refs (take i rows)) ((get_or rows i d).now ∷ [])
+    ∙ ap (λ (z : Bor TopicRow). rows_of (rows_of_refs (take i rows)) ++ z.now.row ∷ []) (sym e)))
 
-abbrev NotAbove : LogLine → LogLine → Type 0
+abbrev NotAbove : TopicRow → TopicRow → Type 0
 NotAbove x y = stamp_lt y.row.stamp x.row.stamp ≡ false
 
-below_chain : (rows : List (Bor LogLine)) (i : ℕ) (d : Bor LogLine) → Chained NotAbove (rows_of_refs rows) → i < length rows → (q : LogRow) → In q (rows_of (rows_of_refs (take i rows))) → stamp_lt (get_or rows i d).now.row.stamp q.stamp ≡ false
+below_chain : (rows : List (Bor TopicRow)) (i : ℕ) (d : Bor TopicRow) → Chained NotAbove (rows_of_refs rows) → i < length rows → (q : LogRow) → In q (rows_of (rows_of_refs (take i rows))) → stamp_lt (get_or rows i d).now.row.stamp q.stamp ≡ false
 below_chain [] i d c l q k = absurd (omega arith)
 below_chain (x ∷ xs) zero d c l q k = absurd k
 below_chain (x ∷ xs) (suc i) d c l q (inl e) =
-    subst (λ (z : LogRow). stamp_lt (get_or xs i d).now.row.stamp z.stamp ≡ false) e (c.0 (get_or xs i d).now (In-map (λ (r : Bor LogLine). r.now) (get_or xs i d) xs (In-get_or xs i d (omega arith))))
+    subst (λ (z : LogRow). stamp_lt (get_or xs i d).now.row.stamp z.stamp ≡ false) e (c.0 (get_or xs i d).now (In-map (λ (r : Bor TopicRow). r.now) (get_or xs i d) xs (In-get_or xs i d (omega arith))))
 below_chain (x ∷ xs) (suc i) d c l q (inr k) = below_chain xs i d c.1 (omega arith) q k
 
 -- rows before one in the order by stamp aren't above it
-pub taken_below : (rows : List (Bor LogLine)) (i : ℕ) (d : Bor LogLine) → RisesByStamp rows → i < length rows → d ≡ get_or rows i d → (q : LogRow) → In q (rows_of (rows_of_refs (take i rows))) → stamp_lt d.now.row.stamp q.stamp ≡ false
+pub taken_below : (rows : List (Bor TopicRow)) (i : ℕ) (d : Bor TopicRow) → RisesByStamp rows → i < length rows → d ≡ get_or rows i d → (q : LogRow) → In q (rows_of (rows_of_refs (take i rows))) → stamp_lt d.now.row.stamp q.stamp ≡ false
 taken_below rows i d up l e q k =
-    subst (λ (z : Bor LogLine). stamp_lt z.now.row.stamp q.stamp ≡ false) (sym e)
+    subst (λ (z : Bor TopicRow). stamp_lt z.now.row.stamp q.stamp ≡ false) (sym e)
     (below_chain rows i d (chain_shown NotAbove (λ x y z p r. le_trans x.row.stamp y.row.stamp z.row.stamp p r) rows (λ j f m. up j f (omega arith) m)) l q k)
 
--- what sorts lines sorts them in another order too
-pub sorting_moved : (rows : List LogRow) (logs lines : List LogLine) → IsPermutation logs lines → IsSortingOf rows (rows_of lines) → IsSortingOf rows (rows_of logs)
-sorting_moved rows logs lines p s = record {
+-- what sorts rows sorts them in another order, too
+pub sorting_moved : (rows : List LogRow) (logs others : List TopicRow) → IsPermutation logs others → IsSortingOf rows (rows_of others) → IsSortingOf rows (rows_of logs)
+sorting_moved rows logs others p s = record {
   rises = s.rises;
-  of_all = λ q i. row_moved lines logs q (IsPermutation-sym logs lines p) (s.of_all q i);
-  stamped = λ q i. s.stamped q (row_moved logs lines q p i);
+  of_all = λ q i. row_moved others logs q (IsPermutation-sym logs others p) (s.of_all q i);
+  stamped = λ q i. s.stamped q (row_moved logs others q p i);
 }
 
 -- IsSortingOf holds of no rows

@@ -7,7 +7,7 @@ use Rattle.mcast_txn.specs.declared.id.Topic.{Topic}
 use Rattle.mcast_txn.specs.declared.id.TxnId.{TxnId}
 use Rattle.mcast_txn.specs.declared.stamp.Stamp.{Stamp}
 use Rattle.mcast_txn.specs.Lists.{In}
-use Rattle.trace_audit.specs.Logs.{LogLine}
+use Rattle.trace_audit.specs.Logs.{TopicRow}
 use Rattle.trace_audit.specs.Parsing.{lines_of, AddsLines}
 use Rattle.trace_audit.specs.PrintedRows.{rows_in, print_key, has_key, text_of, IsReport}
 use Rattle.trace_audit.specs.Rereading.{AddsRows, AreAlike, PrintedIsRead, SortedIsReadAsItself}
@@ -126,7 +126,7 @@ whole_fits (r ∷ rows) old h =
 
 -- ---- the lists of a trace
 
-abbrev logs_of : List TraceRow → List LogLine
+abbrev logs_of : List TraceRow → List TopicRow
 logs_of [] = []
 logs_of (row.Log l ∷ rows) = l ∷ logs_of rows
 logs_of (row.Span s ∷ rows) = logs_of rows
@@ -166,7 +166,7 @@ queues_after (row.Log l ∷ rows) old = queues_after rows (with_row (row.Log l) 
 queues_after (row.Span s ∷ rows) old = queues_after rows (with_row (row.Span s) old)
 queues_after (row.Queue q ∷ rows) old = queues_after rows (with_row (row.Queue q) old) ∙ append_assoc old.queues (q ∷ []) (queues_of rows)
 
-abbrev at_topic : ℕ → LogLine → Bool
+abbrev at_topic : ℕ → TopicRow → Bool
 at_topic t l = l.topic.0 == t
 
 logs_at : (t : ℕ) (rows : List TraceRow) → filter (at_topic t) (logs_of rows) ≡ logs_of (filter (has_key (0, t)) rows)
@@ -206,13 +206,13 @@ queues_at k (row.Queue q ∷ rows) = elim (cases_Bool (q.sub == k)) [
 
 logs_append : (xs ys : List TraceRow) → logs_of (xs ++ ys) ≡ logs_of xs ++ logs_of ys
 logs_append [] ys = refl
-logs_append (row.Log l ∷ xs) ys = ap (λ (z : List LogLine). l ∷ z) (logs_append xs ys)
+logs_append (row.Log l ∷ xs) ys = ap (λ (z : List TopicRow). l ∷ z) (logs_append xs ys)
 logs_append (row.Span s ∷ xs) ys = logs_append xs ys
 logs_append (row.Queue q ∷ xs) ys = logs_append xs ys
 
-logs_there : (xs : List LogLine) → logs_of (map (λ (l : LogLine). row.Log l) xs) ≡ xs
+logs_there : (xs : List TopicRow) → logs_of (map (λ (l : TopicRow). row.Log l) xs) ≡ xs
 logs_there [] = refl
-logs_there (l ∷ xs) = ap (λ (z : List LogLine). l ∷ z) (logs_there xs)
+logs_there (l ∷ xs) = ap (λ (z : List TopicRow). l ∷ z) (logs_there xs)
 
 logs_not_spans : (xs : List SpanRow) → logs_of (map (λ (s : SpanRow). row.Span s) xs) ≡ []
 logs_not_spans [] = refl
@@ -228,7 +228,7 @@ spans_append (row.Log l ∷ xs) ys = spans_append xs ys
 spans_append (row.Span s ∷ xs) ys = ap (λ (z : List SpanRow). s ∷ z) (spans_append xs ys)
 spans_append (row.Queue q ∷ xs) ys = spans_append xs ys
 
-spans_not_logs : (xs : List LogLine) → spans_of (map (λ (l : LogLine). row.Log l) xs) ≡ []
+spans_not_logs : (xs : List TopicRow) → spans_of (map (λ (l : TopicRow). row.Log l) xs) ≡ []
 spans_not_logs [] = refl
 spans_not_logs (l ∷ xs) = spans_not_logs xs
 
@@ -246,7 +246,7 @@ queues_append (row.Log l ∷ xs) ys = queues_append xs ys
 queues_append (row.Span s ∷ xs) ys = queues_append xs ys
 queues_append (row.Queue q ∷ xs) ys = ap (λ (z : List QueueRow). q ∷ z) (queues_append xs ys)
 
-queues_not_logs : (xs : List LogLine) → queues_of (map (λ (l : LogLine). row.Log l) xs) ≡ []
+queues_not_logs : (xs : List TopicRow) → queues_of (map (λ (l : TopicRow). row.Log l) xs) ≡ []
 queues_not_logs [] = refl
 queues_not_logs (l ∷ xs) = queues_not_logs xs
 
@@ -259,7 +259,7 @@ queues_there [] = refl
 queues_there (q ∷ xs) = ap (λ (z : List QueueRow). q ∷ z) (queues_there xs)
 
 abbrev log_rows : TraceData → List TraceRow
-log_rows trace = map (λ (l : LogLine). row.Log l) trace.logs
+log_rows trace = map (λ (l : TopicRow). row.Log l) trace.logs
 
 abbrev span_rows : TraceData → List TraceRow
 span_rows trace = map (λ (s : SpanRow). row.Span s) trace.spans
@@ -270,7 +270,7 @@ queue_rows trace = map (λ (q : QueueRow). row.Queue q) trace.queues
 logs_in : (trace : TraceData) → logs_of (rows_in trace) ≡ trace.logs
 logs_in trace =
     logs_append (log_rows trace ++ span_rows trace) (queue_rows trace)
-    ∙ ap (λ (z : List LogLine). z ++ logs_of (queue_rows trace)) (logs_append (log_rows trace) (span_rows trace))
+    ∙ ap (λ (z : List TopicRow). z ++ logs_of (queue_rows trace)) (logs_append (log_rows trace) (span_rows trace))
     ∙ rw (logs_there trace.logs, logs_not_spans trace.spans, logs_not_queues trace.queues) (sym (nothing_more (trace.logs ++ [])) ∙ sym (nothing_more trace.logs))
 
 spans_in : (trace : TraceData) → spans_of (rows_in trace) ≡ trace.spans
@@ -399,7 +399,7 @@ all_at key (r ∷ rows) = elim (cases_Bool (has_key key r)) [
 ]
 
 only_logs : (key : ℕ × ℕ) (g : List TraceRow) → AllAt key g → key.0 ≡ 0
-    → (map (λ (l : LogLine). row.Log l) (logs_of g) ≡ g) × (spans_of g ≡ []) × (queues_of g ≡ [])
+    → (map (λ (l : TopicRow). row.Log l) (logs_of g) ≡ g) × (spans_of g ≡ []) × (queues_of g ≡ [])
 only_logs key [] a e = (refl, refl, refl)
 only_logs key (row.Log l ∷ g) a e = let h = only_logs key g a.1 e in (ap (λ (z : List TraceRow). row.Log l ∷ z) h.0, h.1, h.2)
 only_logs key (row.Span s ∷ g) a e = absurd (let p = eqb-true 1 key.0 (and_parts (1 == key.0) (s.sub == key.1) a.0).0 in omega arith)
@@ -416,24 +416,24 @@ only_queues key (row.Queue q ∷ g) old a e h f =
     let r = only_queues key g (with_row (row.Queue q) old) a.1 e h f.1 in
     (r.0, r.1, ap (λ (z : List TraceRow). row.Queue q ∷ z) r.2)
 
-abbrev in_turn : List TraceRow → List TraceRow
-in_turn g =
-    map (λ (l : LogLine). row.Log l) (logs_of g) ++ map (λ (s : SpanRow). row.Span s) (spans_of g)
+abbrev by_kind : List TraceRow → List TraceRow
+by_kind g =
+    map (λ (l : TopicRow). row.Log l) (logs_of g) ++ map (λ (s : SpanRow). row.Span s) (spans_of g)
     ++ map (λ (q : QueueRow). row.Queue q) (queues_of g)
 
 -- rows of one key that fit are logs alone, or a span and then its queue
-group_in_turn : (key : ℕ × ℕ) (g : List TraceRow) → AllAt key g → Fit g no_trace_data → in_turn g ≡ g
-group_in_turn key [] a f = refl
-group_in_turn key (row.Log l ∷ g) a f =
+group_by_kind : (key : ℕ × ℕ) (g : List TraceRow) → AllAt key g → Fit g no_trace_data → by_kind g ≡ g
+group_by_kind key [] a f = refl
+group_by_kind key (row.Log l ∷ g) a f =
     let e = eqb-true 0 key.0 (and_parts (0 == key.0) (l.topic.0 == key.1) a.0).0 in
     let h = only_logs key g a.1 (sym e) in
-    rw (h.1, h.2) (sym (nothing_more (row.Log l ∷ map (λ (l : LogLine). row.Log l) (logs_of g) ++ [])) ∙ sym (nothing_more (row.Log l ∷ map (λ (l : LogLine). row.Log l) (logs_of g))) ∙ ap (λ (z : List TraceRow). row.Log l ∷ z) h.0)
-group_in_turn key (row.Span s ∷ g) a f =
+    rw (h.1, h.2) (sym (nothing_more (row.Log l ∷ map (λ (l : TopicRow). row.Log l) (logs_of g) ++ [])) ∙ sym (nothing_more (row.Log l ∷ map (λ (l : TopicRow). row.Log l) (logs_of g))) ∙ ap (λ (z : List TraceRow). row.Log l ∷ z) h.0)
+group_by_kind key (row.Span s ∷ g) a f =
     let p = and_parts (1 == key.0) (s.sub == key.1) a.0 in
     let there : has_span key.1 (s ∷ []) ≡ true = rw p.1 refl in
     let h = only_queues key g (with_row (row.Span s) no_trace_data) a.1 (sym (eqb-true 1 key.0 p.0)) there f.1 in
     rw (h.0, h.1) (ap (λ (z : List TraceRow). row.Span s ∷ z) h.2)
-group_in_turn key (row.Queue q ∷ g) a f = absurd (true≢false f.0)
+group_by_kind key (row.Queue q ∷ g) a f = absurd (true≢false f.0)
 
 filter_append : (p : TraceRow → Bool) (xs ys : List TraceRow) → filter p (xs ++ ys) ≡ filter p xs ++ filter p ys
 filter_append p [] ys = refl
@@ -442,7 +442,7 @@ filter_append p (x ∷ xs) ys = elim (cases_Bool (p x)) [
   | inr other ↦ rw other (filter_append p xs ys)
 ]
 
-group_logs : (p : TraceRow → Bool) (rows : List TraceRow) → filter p (map (λ (l : LogLine). row.Log l) (logs_of rows)) ≡ map (λ (l : LogLine). row.Log l) (logs_of (filter p rows))
+group_logs : (p : TraceRow → Bool) (rows : List TraceRow) → filter p (map (λ (l : TopicRow). row.Log l) (logs_of rows)) ≡ map (λ (l : TopicRow). row.Log l) (logs_of (filter p rows))
 group_logs p [] = refl
 group_logs p (row.Log l ∷ rows) = elim (cases_Bool (p (row.Log l))) [
   | inl at ↦ rw at (ap (λ (z : List TraceRow). row.Log l ∷ z) (group_logs p rows))
@@ -487,25 +487,25 @@ group_queues p (row.Queue q ∷ rows) = elim (cases_Bool (p (row.Queue q))) [
   | inr other ↦ rw other (group_queues p rows)
 ]
 
-group_is : (key : ℕ × ℕ) (rows : List TraceRow) → Fit rows no_trace_data → filter (has_key key) (in_turn rows) ≡ filter (has_key key) rows
+group_is : (key : ℕ × ℕ) (rows : List TraceRow) → Fit rows no_trace_data → filter (has_key key) (by_kind rows) ≡ filter (has_key key) rows
 group_is key rows f =
     let p = has_key key in
-    let ls = map (λ (l : LogLine). row.Log l) (logs_of rows) in
+    let ls = map (λ (l : TopicRow). row.Log l) (logs_of rows) in
     let ss = map (λ (s : SpanRow). row.Span s) (spans_of rows) in
     let qs = map (λ (q : QueueRow). row.Queue q) (queues_of rows) in
     let parts : filter p (ls ++ ss ++ qs) ≡ filter p ls ++ filter p ss ++ filter p qs =
     filter_append p (ls ++ ss) qs ∙ ap (λ (z : List TraceRow). z ++ filter p qs) (filter_append p ls ss) in
     parts
     ∙ ap (λ (z : List TraceRow). z ++ filter p ss ++ filter p qs) (group_logs p rows)
-    ∙ ap (λ (z : List TraceRow). map (λ (l : LogLine). row.Log l) (logs_of (filter p rows)) ++ z ++ filter p qs) (group_spans p rows)
-    ∙ ap (λ (z : List TraceRow). map (λ (l : LogLine). row.Log l) (logs_of (filter p rows)) ++ map (λ (s : SpanRow). row.Span s) (spans_of (filter p rows)) ++ z) (group_queues p rows)
-    ∙ group_in_turn key (filter p rows) (all_at key rows) (part_fits key rows no_trace_data no_trace_data (λ _. refl) f)
+    ∙ ap (λ (z : List TraceRow). map (λ (l : TopicRow). row.Log l) (logs_of (filter p rows)) ++ z ++ filter p qs) (group_spans p rows)
+    ∙ ap (λ (z : List TraceRow). map (λ (l : TopicRow). row.Log l) (logs_of (filter p rows)) ++ map (λ (s : SpanRow). row.Span s) (spans_of (filter p rows)) ++ z) (group_queues p rows)
+    ∙ group_by_kind key (filter p rows) (all_at key rows) (part_fits key rows no_trace_data no_trace_data (λ _. refl) f)
 
 -- rows that were added, kind by kind, are the rows of the trace that they made
-turn_is : (rows : List TraceRow) (trace : TraceData) → AddsRows rows no_trace_data trace → in_turn rows ≡ rows_in trace
+turn_is : (rows : List TraceRow) (trace : TraceData) → AddsRows rows no_trace_data trace → by_kind rows ≡ rows_in trace
 turn_is rows trace a =
     let f = fit_from rows no_trace_data trace a in
-    ap (λ (z : List LogLine). map (λ (l : LogLine). row.Log l) z ++ map (λ (s : SpanRow). row.Span s) (spans_of rows) ++ map (λ (q : QueueRow). row.Queue q) (queues_of rows)) (sym (ap (λ (z : TraceData). z.logs) f.1 ∙ logs_after rows no_trace_data))
+    ap (λ (z : List TopicRow). map (λ (l : TopicRow). row.Log l) z ++ map (λ (s : SpanRow). row.Span s) (spans_of rows) ++ map (λ (q : QueueRow). row.Queue q) (queues_of rows)) (sym (ap (λ (z : TraceData). z.logs) f.1 ∙ logs_after rows no_trace_data))
     ∙ ap (λ (z : List SpanRow). log_rows trace ++ map (λ (s : SpanRow). row.Span s) z ++ map (λ (q : QueueRow). row.Queue q) (queues_of rows)) (sym (ap (λ (z : TraceData). z.spans) f.1 ∙ spans_after rows no_trace_data))
     ∙ ap (λ (z : List QueueRow). log_rows trace ++ span_rows trace ++ map (λ (q : QueueRow). row.Queue q) z) (sym (ap (λ (z : TraceData). z.queues) f.1 ∙ queues_after rows no_trace_data))
 
@@ -514,7 +514,7 @@ fits_in_turn : (rows : List TraceRow) (trace : TraceData) → AddsRows rows no_t
 fits_in_turn rows trace a =
     let f = fit_from rows no_trace_data trace a in
     subst (λ (z : List TraceRow). Fit z no_trace_data) (turn_is rows trace a)
-    (whole_fits (in_turn rows) no_trace_data (λ key. subst (λ (z : List TraceRow). Fit z no_trace_data) (sym (group_is key rows f.0)) (part_fits key rows no_trace_data no_trace_data (λ _. refl) f.0)))
+    (whole_fits (by_kind rows) no_trace_data (λ key. subst (λ (z : List TraceRow). Fit z no_trace_data) (sym (group_is key rows f.0)) (part_fits key rows no_trace_data no_trace_data (λ _. refl) f.0)))
 
 -- a report of a trace, when read, gives a trace that is alike
 pub printed_is_read : PrintedIsRead

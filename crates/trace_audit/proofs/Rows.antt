@@ -6,13 +6,13 @@ use Rattle.std.proofs.lemmas.Bool.{cases_Bool}
 use Rattle.std.proofs.lemmas.Fmt.{decimal_nonempty}
 use Rattle.std.proofs.lemmas.Slice.Eq.{bytes_eq-Decides}
 use Rattle.mcast_txn.specs.declared.stamp.Stamp.{Stamp}
-use Rattle.trace_audit.specs.Logs.{LogLine}
+use Rattle.trace_audit.specs.Logs.{TopicRow}
 use Rattle.trace_audit.specs.Parsing.{cut, lines_of, AddsLines, IsBadLine, IsFirstBad, IsParseFault, GivesTrace}
 use Rattle.trace_audit.specs.Rows.{is_misfit, with_row}
 use Rattle.trace_audit.specs.Text.{id_text, stamp_text, end_text, topics_text, row_text, IsStampInRange, IsRowInRange, SpellsRow}
 use Rattle.trace_audit.specs.Trace.{TraceData, no_trace_data}
 use Rattle.trace_audit.specs.Inner.Reading.{◌>>=◌, number_before, topic_before, id_before, spelled_stamp, stamp_before, spelled_end, spelled_topics, log_of_text, span_of_text, queue_of_text, row_named, spelled_row, line_added, read_from, ReadsAs}
-use Rattle.trace_audit.specs.Inner.InTurn.{AddsInTurn}
+use Rattle.trace_audit.specs.Inner.InOrder.{AddsInOrder}
 use Rattle.trace_audit.specs.declared.row.SpanRow.{SpanRow}
 use Rattle.trace_audit.specs.declared.row.QueueRow.{QueueRow}
 use Rattle.trace_audit.specs.declared.row.TraceRow.{TraceRow}
@@ -20,7 +20,7 @@ use Rattle.trace_audit.specs.declared.row.TraceRow.TheVariants as row
 use Rattle.trace_audit.specs.declared.text.parse_fault.ParseFault.{ParseFault}
 use Rattle.trace_audit.specs.declared.text.parse_fault.ParseFault.TheVariants as parse
 use Rattle.trace_audit.proofs.Cuts.{cut_splits, some_is}
-use Rattle.trace_audit.proofs.InTurn.{in_turn, in_turn_again, first_refused, first_refused_again}
+use Rattle.trace_audit.proofs.InOrder.{adds_in_order, adds_in_order_again, first_refused, first_refused_again}
 use Rattle.trace_audit.proofs.Spelling.{bound, passed, unstopped, number_field, number_field_again, topic_field, topic_field_again, id_field, id_field_again, stamp_spelled, stamp_again, stamp_field, stamp_field_again, topics_spelled, topics_again}
 
 -- ---- the end of a span
@@ -60,7 +60,7 @@ end_again (Some s) i = rw (other_text (stamp_text s) (codes "-") (not_open s i),
 
 -- ---- rows
 
-abbrev log_fields : LogLine → List ℕ
+abbrev log_fields : TopicRow → List ℕ
 log_fields l = decimal l.topic.0 ++ 32 ∷ (id_text l.row.id ++ 32 ∷ (stamp_text l.row.stamp ++ 32 ∷ topics_text l.row.topics))
 
 abbrev span_fields : SpanRow → List ℕ
@@ -88,7 +88,7 @@ log_spelled text r e =
     a.0 ∙ ap (λ (z : List ℕ). decimal t.0.0.0 ++ 32 ∷ z) (b.0 ∙ ap (λ (z : List ℕ). id_text i.0.0 ++ 32 ∷ z) (c.0 ∙ ap (λ (z : List ℕ). stamp_text s.0.0 ++ 32 ∷ z) d.0)) in
     subst (Fields (codes "log") text) (some_is _ r ts.2) (ap (λ (z : List ℕ). codes "log" ++ 32 ∷ z) whole, (a.1, (b.1, c.1, d.1, d.2)))
 
-log_again : (l : LogLine) → IsRowInRange (row.Log l) → log_of_text (log_fields l) ≡ Some (row.Log l)
+log_again : (l : TopicRow) → IsRowInRange (row.Log l) → log_of_text (log_fields l) ≡ Some (row.Log l)
 unfolding log_of_text
 log_again l i =
     let n = i.1 in
@@ -211,24 +211,24 @@ bad_again line old bad = go (line_added line old) refl
 -- ---- whole texts
 
 -- lines that are added in turn spell rows that fit, and the rows lead to the same trace
-lines_add : (lines : List (List ℕ)) (old new : TraceData) → AddsInTurn line_added lines old new → AddsLines lines old new
+lines_add : (lines : List (List ℕ)) (old new : TraceData) → AddsInOrder line_added lines old new → AddsLines lines old new
 lines_add [] old new e = e
 lines_add (line ∷ lines) old new a =
     let r = line_adds line old a.0 a.1 in
     (r.0, r.1, r.2, subst (λ (z : TraceData). AddsLines lines z new) (sym r.3) (lines_add lines a.0 new a.2))
 
 -- lines that spell rows that fit are added in turn
-lines_again : (lines : List (List ℕ)) (old new : TraceData) → AddsLines lines old new → AddsInTurn line_added lines old new
+lines_again : (lines : List (List ℕ)) (old new : TraceData) → AddsLines lines old new → AddsInOrder line_added lines old new
 lines_again [] old new e = e
 lines_again (line ∷ lines) old new a = (with_row a.0 old, line_again line a.0 old a.1 a.2, lines_again lines (with_row a.0 old) new a.3)
 
 -- where reading gives a trace, each line adds its row, and the rows lead to this trace
 pub reads_adds : (n : ℕ) (lines : List (List ℕ)) (old new : TraceData) → read_from n lines old ≡ Ok new → AddsLines lines old new
-reads_adds n lines old new e = lines_add lines old new (in_turn line_added n lines old new e)
+reads_adds n lines old new e = lines_add lines old new (adds_in_order line_added n lines old new e)
 
 -- where each line adds its row, reading gives the trace that the rows lead to
 pub adds_reads : (n : ℕ) (lines : List (List ℕ)) (old new : TraceData) → AddsLines lines old new → read_from n lines old ≡ Ok new
-adds_reads n lines old new a = in_turn_again line_added n lines old new (lines_again lines old new a)
+adds_reads n lines old new a = adds_in_order_again line_added n lines old new (lines_again lines old new a)
 
 -- where reading fails with a number, it is that of the first line that can't be added
 pub first_bad : (lines : List (List ℕ)) (m : ℕ) → read_from 1 lines no_trace_data ≡ Err m → IsFirstBad lines m

@@ -8,7 +8,7 @@ use Rattle.mcast_txn.specs.declared.stamp.Stamp.{Stamp}
 use Rattle.mcast_txn.specs.Span.{LogRow, in_span, up_to, row_mark}
 use Rattle.mcast_txn.specs.Stamp.{stamp_lt, zero_stamp}
 use Rattle.mcast_txn.proofs.Orders.{lt_trans}
-use Rattle.trace_audit.specs.Logs.{LogLine}
+use Rattle.trace_audit.specs.Logs.{TopicRow}
 use Rattle.trace_audit.specs.declared.row.QueueRow.{QueueRow}
 use Rattle.trace_audit.specs.declared.row.SpanRow.{SpanRow}
 use Rattle.trace_audit.specs.Inner.Chained.{Chained, Above, IsIndex, is_up_to_from, is_up_to_end}
@@ -106,7 +106,7 @@ sub_is a sub = grind (arith, nat_tests)
 -- ---- logs
 
 -- a test of a topic's stamps that earlier stamps pass too
-span_keeps : (t : ℕ) (p : Stamp → Bool) → ((a b : Stamp) → stamp_lt a b ≡ true → p b ≡ true → p a ≡ true) → (x y : LogLine) → Above x y → (nat_lt y.topic.0 t || (y.topic.0 == t && p y.row.stamp)) ≡ true → (nat_lt x.topic.0 t || (x.topic.0 == t && p x.row.stamp)) ≡ true
+span_keeps : (t : ℕ) (p : Stamp → Bool) → ((a b : Stamp) → stamp_lt a b ≡ true → p b ≡ true → p a ≡ true) → (x y : TopicRow) → Above x y → (nat_lt y.topic.0 t || (y.topic.0 == t && p y.row.stamp)) ≡ true → (nat_lt x.topic.0 t || (x.topic.0 == t && p x.row.stamp)) ≡ true
 span_keeps t p down x y above e = go (x.topic.0 == y.topic.0) refl
   where
     lower : (a b u : ℕ) (p q : Bool) → nat_lt b a ≡ false → (a == b) ≡ false → (nat_lt b u || (b == u && q)) ≡ true → (nat_lt a u || (a == u && p)) ≡ true
@@ -137,19 +137,19 @@ to_down : (to : Option Stamp) (a b : Stamp) → stamp_lt a b ≡ true → up_to 
 to_down None a b e f = refl
 to_down (Some end) a b e f = from_down end a b e f
 
--- an index is partitioned: the lines up to a span's beginning, and then the others
-pub span_begins : (span : SpanRow) (rows : List (Bor LogLine)) → IsIndex rows → IsPartitionedBy (λ r. is_up_to_from span r.now) rows
+-- an index is partitioned: the rows up to a span's beginning, and then the others
+pub span_begins : (span : SpanRow) (rows : List (Bor TopicRow)) → IsIndex rows → IsPartitionedBy (λ r. is_up_to_from span r.now) rows
 span_begins span rows index =
     parted Above (is_up_to_from span) rows index.rises (span_keeps span.topic.0 (λ s. not (stamp_lt span.from s)) (from_down span.from))
 
--- an index after its first m lines is partitioned: the lines up to a span's end, and then the others
-pub span_ends : (span : SpanRow) (m : ℕ) (rows : List (Bor LogLine)) → IsIndex rows → IsPartitionedBy (λ r. is_up_to_end span r.now) (drop m rows)
+-- an index after its first m rows is partitioned: the rows up to a span's end, and then the others
+pub span_ends : (span : SpanRow) (m : ℕ) (rows : List (Bor TopicRow)) → IsIndex rows → IsPartitionedBy (λ r. is_up_to_end span r.now) (drop m rows)
 span_ends span m rows index =
     parted Above (is_up_to_end span) (drop m rows) (chained_drop Above rows m index.rises) (span_keeps span.topic.0 (λ s. up_to span.to s) (to_down span.to))
 
--- a line is of a span's topic and in the span where it is past the beginning, and not past the end
-pub span_is : (span : SpanRow) (line : LogLine) → (line.topic.0 == span.topic.0 && in_span span.from span.to line.row.stamp) ≡ (not (is_up_to_from span line) && is_up_to_end span line)
-span_is span line = cases line.topic.0 span.topic.0 (stamp_lt span.from line.row.stamp) (up_to span.to line.row.stamp)
+-- a row is of a span's topic and in the span where it is past the beginning, and not past the end
+pub span_is : (span : SpanRow) (logged : TopicRow) → (logged.topic.0 == span.topic.0 && in_span span.from span.to logged.row.stamp) ≡ (not (is_up_to_from span logged) && is_up_to_end span logged)
+span_is span logged = cases logged.topic.0 span.topic.0 (stamp_lt span.from logged.row.stamp) (up_to span.to logged.row.stamp)
   where
     cases : (a t : ℕ) (f u : Bool) → (a == t && (f && u)) ≡ (not (nat_lt a t || (a == t && not f)) && (nat_lt a t || (a == t && u)))
     cases a t true true = grind (arith, nat_tests)
@@ -157,17 +157,17 @@ span_is span line = cases line.topic.0 span.topic.0 (stamp_lt span.from line.row
     cases a t false true = grind (arith, nat_tests)
     cases a t false false = grind (arith, nat_tests)
 
--- the marks of a span, from the lines of its topic in it
-pub marks_are : (span : SpanRow) (lines : List LogLine) → marks_in span lines ≡ map (λ line. row_mark line.row) (filter (λ line. line.topic.0 == span.topic.0 && in_span span.from span.to line.row.stamp) lines)
+-- the marks of a span, from the rows of its topic in it
+pub marks_are : (span : SpanRow) (others : List TopicRow) → marks_in span others ≡ map (λ logged. row_mark logged.row) (filter (λ logged. logged.topic.0 == span.topic.0 && in_span span.from span.to logged.row.stamp) others)
 marks_are span [] = refl
 marks_are span (x ∷ xs) = step (x.topic.0 == span.topic.0) (in_span span.from span.to x.row.stamp) refl (marks_are span xs)
   where
     inner : LogRow → Bool
     inner row = in_span span.from span.to row.stamp
 
-    step : (a b : Bool) → in_span span.from span.to x.row.stamp ≡ b → marks_in span xs ≡ map (λ line. row_mark line.row) (filter (λ line. line.topic.0 == span.topic.0 && in_span span.from span.to line.row.stamp) xs)
-        → map row_mark (filter (λ row. in_span span.from span.to row.stamp) (rows_of (cond a (x ∷ filter (λ line. line.topic.0 == span.topic.0) xs) (filter (λ line. line.topic.0 == span.topic.0) xs))))
-        ≡ map (λ line. row_mark line.row) (cond (a && b) (x ∷ filter (λ line. line.topic.0 == span.topic.0 && in_span span.from span.to line.row.stamp) xs) (filter (λ line. line.topic.0 == span.topic.0 && in_span span.from span.to line.row.stamp) xs))
+    step : (a b : Bool) → in_span span.from span.to x.row.stamp ≡ b → marks_in span xs ≡ map (λ logged. row_mark logged.row) (filter (λ logged. logged.topic.0 == span.topic.0 && in_span span.from span.to logged.row.stamp) xs)
+        → map row_mark (filter (λ row. in_span span.from span.to row.stamp) (rows_of (cond a (x ∷ filter (λ logged. logged.topic.0 == span.topic.0) xs) (filter (λ logged. logged.topic.0 == span.topic.0) xs))))
+        ≡ map (λ logged. row_mark logged.row) (cond (a && b) (x ∷ filter (λ logged. logged.topic.0 == span.topic.0 && in_span span.from span.to logged.row.stamp) xs) (filter (λ logged. logged.topic.0 == span.topic.0 && in_span span.from span.to logged.row.stamp) xs))
     step false b e ih = ih
     step true true e ih = rw e (ap (λ z. row_mark x.row ∷ z) ih)
     step true false e ih = rw e ih

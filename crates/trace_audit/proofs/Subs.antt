@@ -26,4 +26,4 @@ with_key row spans old now updates known sub =
     ∙ (ap (λ z. cond z true (contains nat_cmp old sub)) (at_equal row.sub sub)
     ∙ (either_way (row.sub == sub) (contains nat_cmp old sub)
     ∙ (ap (λ z. z || (row.sub == sub || false)) (known sub)
-    ∙ sym (list_any-append (λ (line : SpanRow). line.sub == sub) spans (row ∷ [])))))
+    ∙ sym (list_any-append (λ (span : SpanRow). span.sub == sub) spans (row ∷ [])))))

@@ -62,10 +62,10 @@ spelled = (refl, (omega arith, omega arith, (omega arith, omega arith), tt))
 one_is_added : AddsLines (lines_of (codes "span 3 1 0.0 -\n")) no_trace_data (record { logs = []; spans = record { sub = 3; topic = topic 1; from = stamp 0 0; to = None } ∷ []; queues = [] })
 one_is_added = (opened, spelled, refl, refl)
 
-no_row_is_empty : (lines : TraceData) → IsBadLine [] lines
-no_row_is_empty lines (row.Log l) s = absurd (let e = s.0 in cc)
-no_row_is_empty lines (row.Span l) s = absurd (let e = s.0 in cc)
-no_row_is_empty lines (row.Queue l) s = absurd (let e = s.0 in cc)
+no_row_is_empty : (trace : TraceData) → IsBadLine [] trace
+no_row_is_empty trace (row.Log l) s = absurd (let e = s.0 in cc)
+no_row_is_empty trace (row.Span l) s = absurd (let e = s.0 in cc)
+no_row_is_empty trace (row.Queue l) s = absurd (let e = s.0 in cc)
 
 second_is_bad : IsFirstBad (lines_of (codes "span 3 1 0.0 -\n\n")) 2
 second_is_bad = record {

@@ -31,8 +31,8 @@ pub record IsExplainedBy (rows : List LogRow) (trace : TraceData) : Type 0 where
   pub logs : (t : Topic) → log_of t trace.logs ≢ [] →
       log_of t trace.logs ≡ rows_at t (log_of t trace.logs) rows
   -- each queue is its topic's log restricted to its span
-  pub queues : (line : SpanRow) → In line trace.spans →
-      queue_of line.sub trace.queues ≡ marks_in line trace.logs
+  pub queues : (span : SpanRow) → In span trace.spans →
+      queue_of span.sub trace.queues ≡ marks_in span trace.logs
 
 -- each row of the list is in the log of each of its topics
 abbrev pub IsCompleteBy : List LogRow → TraceData → Type 0

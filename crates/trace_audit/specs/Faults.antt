@@ -11,7 +11,7 @@ use Rattle.mcast_txn.specs.Checks.{first_refusal}
 use Rattle.mcast_txn.specs.Ids.{same_id}
 use Rattle.mcast_txn.specs.Span.{LogRow}
 use Rattle.mcast_txn.specs.Stamp.{same_stamp, stamp_lt}
-use Rattle.trace_audit.specs.Logs.{LogLine}
+use Rattle.trace_audit.specs.Logs.{TopicRow}
 use Rattle.mcast_txn.specs.declared.mark.Mark.{Mark}
 use Rattle.trace_audit.specs.declared.row.SpanRow.{SpanRow}
 use Rattle.trace_audit.specs.Trace.{TraceData, queue_of, marks_in}
@@ -36,34 +36,35 @@ are_disordered a b =
     a.id.sender.0 == b.id.sender.0 && (stamp_lt a.stamp b.stamp && not (nat_lt a.id.seq b.id.seq))
 
 -- the test holds of some two of the logs' rows
-abbrev pub some_two : (LogRow → LogRow → Bool) → List LogLine → Bool
+abbrev pub some_two : (LogRow → LogRow → Bool) → List TopicRow → Bool
 some_two test logs = list_any (λ a. list_any (λ b. test a.row b.row) logs) logs
 
--- the second line, which comes later, is of the first one's log, and isn't above it
-abbrev pub are_falling : LogLine → LogLine → Bool
+-- the second row, which comes later, is of the first one's log, and isn't above it
+abbrev pub are_falling : TopicRow → TopicRow → Bool
 are_falling a b = a.topic.0 == b.topic.0 && not (stamp_lt a.row.stamp b.row.stamp)
 
 -- some log doesn't rise strictly in stamp
-abbrev pub is_out_of_order : List LogLine → Bool
+abbrev pub is_out_of_order : List TopicRow → Bool
 is_out_of_order [] = false
 is_out_of_order (x ∷ xs) = list_any (λ y. are_falling x y) xs || is_out_of_order xs
 
 -- the log of t has a row of the transaction
-abbrev pub log_has_row : Topic → TxnId → List LogLine → Bool
-log_has_row t id logs = list_any (λ line. line.topic.0 == t.0 && same_id line.row.id id) logs
+abbrev pub log_has_row : Topic → TxnId → List TopicRow → Bool
+log_has_row t id logs = list_any (λ logged. logged.topic.0 == t.0 && same_id logged.row.id id) logs
 
 -- the log of t has a row of this stamp or a later one
-abbrev pub log_has_row_from : Topic → Stamp → List LogLine → Bool
+abbrev pub log_has_row_from : Topic → Stamp → List TopicRow → Bool
 log_has_row_from t stamp logs =
-    list_any (λ line. line.topic.0 == t.0 && not (stamp_lt line.row.stamp stamp)) logs
+    list_any (λ logged. logged.topic.0 == t.0 && not (stamp_lt logged.row.stamp stamp)) logs
 
 -- the log of t goes on to the row's stamp or beyond, and lacks the row
-abbrev pub is_hole : List LogLine → LogRow → Topic → Bool
+abbrev pub is_hole : List TopicRow → LogRow → Topic → Bool
 is_hole logs row t = not (log_has_row t row.id logs) && log_has_row_from t row.stamp logs
 
 -- the topics, by their numbers, whose logs lack a row that names them and that they go beyond
-abbrev pub holes : List LogLine → List ℕ
-holes logs = flat_map (λ line. map (λ t. t.0) (filter (λ t. is_hole logs line.row t) line.row.topics)) logs
+abbrev pub holes : List TopicRow → List ℕ
+holes logs =
+    flat_map (λ logged. map (λ t. t.0) (filter (λ t. is_hole logs logged.row t) logged.row.topics)) logs
 
 -- the marks are the same
 abbrev pub same_mark : Mark → Mark → Bool
@@ -71,11 +72,11 @@ same_mark a b = same_id a.id b.id && same_stamp a.stamp b.stamp
 
 -- the subscription's queue isn't its topic's log restricted to its span
 abbrev pub is_astray : TraceData → SpanRow → Bool
-is_astray trace line = not (pointwise same_mark (queue_of line.sub trace.queues) (marks_in line trace.logs))
+is_astray trace span = not (pointwise same_mark (queue_of span.sub trace.queues) (marks_in span trace.logs))
 
 -- the subscriptions whose queues are astray
 abbrev pub astray_subs : TraceData → List ℕ
-astray_subs trace = map (λ line. line.sub) (filter (λ line. is_astray trace line) trace.spans)
+astray_subs trace = map (λ span. span.sub) (filter (λ span. is_astray trace span) trace.spans)
 
 -- the smaller of two, where there are two
 abbrev pub lesser : Option ℕ → Option ℕ → Option ℕ
@@ -89,7 +90,7 @@ least [] = None
 least (n ∷ ns) = lesser (Some n) (least ns)
 
 -- 95, of the least topic that has a hole
-abbrev pub hole_fault : List LogLine → Option AuditFault
+abbrev pub hole_fault : List TopicRow → Option AuditFault
 hole_fault logs = option_map (λ n. audit.Hole (record { 0 = n })) (least (holes logs))
 
 -- 96, of the least subscription whose queue is astray
@@ -108,8 +109,8 @@ audit_fault trace =
     (option_or (hole_fault trace.logs) (queue_fault trace))
 
 -- each row of a log is in the log of each of its topics
-abbrev pub is_whole : List LogLine → Bool
-is_whole logs = list_all (λ line. list_all (λ t. log_has_row t line.row.id logs) line.row.topics) logs
+abbrev pub is_whole : List TopicRow → Bool
+is_whole logs = list_all (λ logged. list_all (λ t. log_has_row t logged.row.id logs) logged.row.topics) logs
 
 -- ---- numbers (own)
 

@@ -1,6 +1,6 @@
 -- These modules only serve proofs: no public contract cites them, and nobody need believe them.
 pub mod Chained
-pub mod InTurn
+pub mod InOrder
 pub mod LogFault
 pub mod Orders
 pub mod Printing

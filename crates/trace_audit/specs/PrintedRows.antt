@@ -9,14 +9,14 @@ use Rattle.trace_audit.specs.declared.row.TraceRow.TheVariants as row
 -- the rows of a trace: those of its logs, its spans, and those of its queues
 abbrev pub rows_in : TraceData → List TraceRow
 rows_in trace =
-    map (λ line. row.Log line) trace.logs ++ map (λ span. row.Span span) trace.spans
-    ++ map (λ line. row.Queue line) trace.queues
+    map (λ logged. row.Log logged) trace.logs ++ map (λ span. row.Span span) trace.spans
+    ++ map (λ queued. row.Queue queued) trace.queues
 
 -- where a row is printed: logs come first, by topic, and then subscriptions, by number
 abbrev pub print_key : TraceRow → ℕ × ℕ
-print_key (row.Log line) = (0, line.topic.0)
+print_key (row.Log logged) = (0, logged.topic.0)
 print_key (row.Span span) = (1, span.sub)
-print_key (row.Queue line) = (1, line.sub)
+print_key (row.Queue queued) = (1, queued.sub)
 
 -- the key is smaller: by the first number, and then by the second
 abbrev pub key_lt : ℕ × ℕ → ℕ × ℕ → Bool

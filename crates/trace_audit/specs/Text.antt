@@ -41,14 +41,14 @@ topics_text topics = joined_text 44 (map (λ t. decimal t.0) topics)
 -- the open span of subscription 3 at topic 1 is `span 3 1 0.0 -`, and that transaction in its queue
 -- `queue 3 0 1 2.1`.
 abbrev pub row_text : TraceRow → List ℕ
-row_text (row.Log line) =
-    spaced_text (codes "log" ∷ decimal line.topic.0
-    ∷ id_text line.row.id ∷ stamp_text line.row.stamp ∷ topics_text line.row.topics ∷ [])
+row_text (row.Log logged) =
+    spaced_text (codes "log" ∷ decimal logged.topic.0
+    ∷ id_text logged.row.id ∷ stamp_text logged.row.stamp ∷ topics_text logged.row.topics ∷ [])
 row_text (row.Span span) =
     spaced_text (codes "span" ∷ decimal span.sub ∷ decimal span.topic.0
     ∷ stamp_text span.from ∷ end_text span.to ∷ [])
-row_text (row.Queue line) =
-    spaced_text (codes "queue" ∷ decimal line.sub ∷ id_text line.id ∷ stamp_text line.stamp ∷ [])
+row_text (row.Queue queued) =
+    spaced_text (codes "queue" ∷ decimal queued.sub ∷ id_text queued.id ∷ stamp_text queued.stamp ∷ [])
 
 -- ---- the numbers that fit their types
 
@@ -72,11 +72,11 @@ IsTxnInRange row =
 
 -- each number of a row is in range, and a log's row names a topic
 abbrev pub IsRowInRange : TraceRow → Type 0
-IsRowInRange (row.Log line) = IsTopicInRange line.topic × IsTxnInRange line.row
+IsRowInRange (row.Log logged) = IsTopicInRange logged.topic × IsTxnInRange logged.row
 IsRowInRange (row.Span span) =
     (span.sub < 2 ^ 64) × IsTopicInRange span.topic
     × IsStampInRange span.from × IfSome span.to IsStampInRange
-IsRowInRange (row.Queue line) = (line.sub < 2 ^ 64) × IsIdInRange line.id × IsStampInRange line.stamp
+IsRowInRange (row.Queue queued) = (queued.sub < 2 ^ 64) × IsIdInRange queued.id × IsStampInRange queued.stamp
 
 -- The line is the text of this row. A number has one spelling: `log 0 0 01 2.1 0` spells no row.
 abbrev pub SpellsRow : List ℕ → TraceRow → Type 0

@@ -4,14 +4,14 @@ use Rattle.std.specs.List.{filter, list_any}
 use Rattle.mcast_txn.specs.declared.id.Topic.{Topic}
 use Rattle.mcast_txn.specs.Span.{LogRow, in_span, row_mark}
 use Rattle.mcast_txn.specs.TopicSet.{names}
-use Rattle.trace_audit.specs.Logs.{LogLine}
+use Rattle.trace_audit.specs.Logs.{TopicRow}
 use Rattle.mcast_txn.specs.declared.mark.Mark.{Mark}
 use Rattle.trace_audit.specs.declared.row.SpanRow.{SpanRow}
 use Rattle.trace_audit.specs.declared.row.QueueRow.{QueueRow}
 
 -- what a trace has
 pub record TraceData : Type 0 where
-  pub logs : List LogLine
+  pub logs : List TopicRow
   pub spans : List SpanRow
   pub queues : List QueueRow
 
@@ -20,23 +20,23 @@ abbrev pub no_trace_data : TraceData
 no_trace_data = record { logs = []; spans = []; queues = [] }
 
 -- the rows of all logs
-abbrev pub rows_of : List LogLine → List LogRow
-rows_of logs = map (λ line. line.row) logs
+abbrev pub rows_of : List TopicRow → List LogRow
+rows_of logs = map (λ logged. logged.row) logs
 
 -- a topic's log
-abbrev pub log_of : Topic → List LogLine → List LogRow
-log_of t logs = rows_of (filter (λ line. line.topic.0 == t.0) logs)
+abbrev pub log_of : Topic → List TopicRow → List LogRow
+log_of t logs = rows_of (filter (λ logged. logged.topic.0 == t.0) logs)
 
 -- a queue row's mark
 abbrev pub queue_mark : QueueRow → Mark
-queue_mark line = record { id = line.id; stamp = line.stamp }
+queue_mark queued = record { id = queued.id; stamp = queued.stamp }
 
 -- a subscription's queue
 abbrev pub queue_of : ℕ → List QueueRow → List Mark
-queue_of sub queues = map queue_mark (filter (λ line. line.sub == sub) queues)
+queue_of sub queues = map queue_mark (filter (λ queued. queued.sub == sub) queues)
 
 -- what of its topic's log lies in a span
-abbrev pub marks_in : SpanRow → List LogLine → List Mark
+abbrev pub marks_in : SpanRow → List TopicRow → List Mark
 marks_in span logs =
     map row_mark (filter (λ row. in_span span.from span.to row.stamp) (log_of span.topic logs))
 
@@ -47,9 +47,9 @@ rise_after None (t ∷ topics) = rise_after (Some t) topics
 rise_after (Some u) (t ∷ topics) = nat_lt u.0 t.0 && rise_after (Some t) topics
 
 -- its topics rise, and the log's own is one of them
-abbrev pub fits : LogLine → Bool
-fits line = rise_after None line.row.topics && names line.topic line.row.topics
+abbrev pub fits : TopicRow → Bool
+fits logged = rise_after None logged.row.topics && names logged.topic logged.row.topics
 
 -- there is a span of this subscription
 abbrev pub has_span : ℕ → List SpanRow → Bool
-has_span sub spans = list_any (λ line. line.sub == sub) spans
+has_span sub spans = list_any (λ span. span.sub == sub) spans

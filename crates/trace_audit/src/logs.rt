@@ -40,8 +40,8 @@ pub(crate) fn has_row(by_topic: &[&LogRow], row: &LogRow, topic: Topic) -> bool
 /// The first stamp of a topic's log that isn't before this one.
 fn stamp_at(by_topic: &[&LogRow], topic: Topic, stamp: Stamp) -> Option<Stamp>
     requires { IsIndex by_topic.now }
-    ensures { result ≡ option_map (λ line. line.row.stamp)
-        (find (λ line. is_from topic stamp line) (rows_of_refs by_topic.now)) }
+    ensures { result ≡ option_map (λ logged. logged.row.stamp)
+        (find (λ logged. is_from topic stamp logged) (rows_of_refs by_topic.now)) }
 {
     let index = index_of(by_topic, topic, stamp);
     if index == by_topic.len() {

@@ -50,7 +50,7 @@ fn is_astray(span: &SpanRow, by_sub: &[&QueueRow], by_topic: &[&LogRow]) -> bool
 /// A subscription's queue.
 fn queue_in<'a, 'b>(by_sub: &'a [&'b QueueRow], sub: u64) -> &'a [&'b QueueRow]
     requires { RisesBySub by_sub.now }
-    ensures { rows_of_refs result.now ≡ filter (λ line. line.sub == sub) (rows_of_refs by_sub.now) }
+    ensures { rows_of_refs result.now ≡ filter (λ queued. queued.sub == sub) (rows_of_refs by_sub.now) }
 {
     let start = by_sub.partition_point(|row| row.sub < sub);
     let rest = &by_sub[start..];
@@ -62,7 +62,7 @@ fn queue_in<'a, 'b>(by_sub: &'a [&'b QueueRow], sub: u64) -> &'a [&'b QueueRow]
 fn log_in<'a, 'b>(by_topic: &'a [&'b LogRow], span: &SpanRow) -> &'a [&'b LogRow]
     requires { IsIndex by_topic.now }
     ensures { rows_of_refs result.now ≡ filter
-        (λ line. line.topic.0 == span.now.topic.0 && in_span span.now.from span.now.to line.row.stamp)
+        (λ logged. logged.topic.0 == span.now.topic.0 && in_span span.now.from span.now.to logged.row.stamp)
         (rows_of_refs by_topic.now) }
 {
     let start = by_topic.partition_point(|row| is_up_to_from(row, span));
@@ -98,7 +98,7 @@ fn is_up_to(to: Option<Stamp>, stamp: Stamp) -> bool
 /// Whether a queue has just a log's transactions and stamps.
 fn are_marks(queue: &[&QueueRow], log: &[&LogRow]) -> bool
     ensures { result ≡ pointwise same_mark
-        (map queue_mark (rows_of_refs queue.now)) (map (λ line. row_mark line.row) (rows_of_refs log.now)) }
+        (map queue_mark (rows_of_refs queue.now)) (map (λ logged. row_mark logged.row) (rows_of_refs log.now)) }
 {
     if queue.len() != log.len() {
         return false;
@@ -129,8 +129,8 @@ fn is_mark(queued: &QueueRow, row: &LogRow) -> bool
 fn queues_by_sub(alloc: Global, queues: &[QueueRow]) -> Result<Vec<&QueueRow>, NoMemory>
     ensures rises { IfOk result (λ rows. RisesBySub rows.items) }
     ensures kept { IfOk result
-        (λ rows. (sub : ℕ) → filter (λ line. line.sub == sub) (rows_of_refs rows.items)
-        ≡ filter (λ line. line.sub == sub) queues.now) }
+        (λ rows. (sub : ℕ) → filter (λ queued. queued.sub == sub) (rows_of_refs rows.items)
+        ≡ filter (λ queued. queued.sub == sub) queues.now) }
 {
     let mut rows = references(alloc, queues)?;
     rows.sort_by_key(|row| row.sub)?;

@@ -25,8 +25,8 @@ impl Trace {
 
 /// Those of rows of logs do.
 fn logs_fit(logs: &[LogRow])
-    requires { list_all (λ line. fits line) logs.now ≡ true }
-    ensures { AllByRecursion IsRowInRange (map (λ line. row_kind.Log line) logs.now) }
+    requires { list_all (λ logged. fits logged) logs.now ≡ true }
+    ensures { AllByRecursion IsRowInRange (map (λ logged. row_kind.Log logged) logs.now) }
 {
     for row in logs {
         log_fits(row);
@@ -44,7 +44,7 @@ fn spans_fit(spans: &[SpanRow])
 
 /// Those of rows of queues do.
 fn queues_fit(queues: &[QueueRow])
-    ensures { AllByRecursion IsRowInRange (map (λ line. row_kind.Queue line) queues.now) }
+    ensures { AllByRecursion IsRowInRange (map (λ queued. row_kind.Queue queued) queues.now) }
 {
     for row in queues {
         queue_fits(*row);

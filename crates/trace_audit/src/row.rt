@@ -13,9 +13,9 @@ pub struct LogRow {
 }
 
 impl Model for LogRow {
-    ghost use Rattle.trace_audit.specs.Logs.{LogLine};
+    ghost use Rattle.trace_audit.specs.Logs.{TopicRow};
 
-    ghost Value = { LogLine };
+    ghost Value = { TopicRow };
 
     ghost view = { λ r. record {
       topic = r.topic;

@@ -35,7 +35,7 @@ impl Model for Trace {
 
     ghost view = { λ t. record { logs = t.logs.items; spans = t.spans.items; queues = t.queues.items } };
 
-    ghost invariant = { λ t. (list_all (λ line. fits line) t.logs.items ≡ true)
+    ghost invariant = { λ t. (list_all (λ logged. fits logged) t.logs.items ≡ true)
         × ((sub : ℕ) → contains nat_cmp t.subs sub ≡ has_span sub t.spans.items) };
 }
 

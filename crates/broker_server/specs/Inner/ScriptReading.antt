@@ -4,7 +4,7 @@ use Rattle.std.specs.Option.{option_map, option_map_or}
 use Rattle.std.specs.Str.{bytes_eq}
 use Rattle.mcast_txn.specs.declared.id.Topic.{Topic}
 use Rattle.mcast_txn.specs.declared.id.TxnId.{TxnId}
-use Rattle.trace_audit.specs.Inner.InTurn.{added_from}
+use Rattle.trace_audit.specs.Inner.InOrder.{added_from}
 use Rattle.trace_audit.specs.Inner.Reading.{◌>>=◌, spelled_number}
 use Rattle.trace_audit.specs.Parsing.{cut}
 use Rattle.delivery.specs.declared.event.Event.{Event}

@@ -7,7 +7,7 @@ use crate::conversation::conversation_fault::ConversationFault;
 pub(crate) enum Taking {
     /// Nothing is left of them.
     Emptied,
-    /// Too many octets wait, or it is another queue's turn.
+    /// Too many octets wait, or another queue is taken.
     Stopped,
     /// The connection is to end by this fault.
     Failed(ConversationFault),

@@ -1,10 +1,12 @@
 //! The thread that accepts connections.
 
+ghost use Rattle.std.specs.Prelude.{◌≡◌};
+
 use crate::serving::connection::attend;
 use crate::serving::desks::Desks;
 use crate::serving::door::Door;
 use crate::serving::hub::{Hub, MAX_CONNECTIONS};
-use crate::serving::line::Line;
+use crate::serving::outfit::Outfit;
 use crate::serving::peer::Peer;
 use crate::serving::seldom::Seldom;
 use crate::serving::socket::Socket;
@@ -33,7 +35,9 @@ pub(crate) struct Counter {
 
 impl Counter {
     /// Nothing came.
-    pub(crate) fn new() -> Counter {
+    pub(crate) fn new() -> Counter
+        ensures { (result.came ≡ 0) × (result.refused.count ≡ 0) × (result.wanting.count ≡ 0) }
+    {
         Counter {
             came: 0,
             refused: Seldom::new(),
@@ -97,8 +101,8 @@ where
         addr: _,
     } = peer;
     let mut socket = Socket::new(stream);
-    let line = match Line::new(rt, alloc, peer, &mut socket) {
-        Ok(line) => line,
+    let outfit = match Outfit::new(rt, alloc, peer, &mut socket) {
+        Ok(outfit) => outfit,
         Err(error) => {
             if error.kind() == ErrorKind::OutOfMemory {
                 socket.say_no_memory();
@@ -108,13 +112,13 @@ where
             return;
         }
     };
-    if hub.enter(rt, number, &line.bell).is_err() {
+    if hub.enter(rt, number, &outfit.bell).is_err() {
         socket.say_no_memory();
         warn!(rt; target: "serve", "{peer} is closed: no memory for its bell");
         desks.free_number(rt, desk);
         return;
     }
-    let run = move || attend(rt, alloc, hub, desks, line, socket);
+    let run = move || attend(rt, alloc, hub, desks, outfit, socket);
     if scope.spawn(run).is_err() {
         warn!(rt; target: "serve", "{peer} is closed: no memory for its thread");
         hub.leave(rt, number);

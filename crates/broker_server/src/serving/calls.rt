@@ -1,6 +1,6 @@
 //! What one connection asks of the broker.
 
-ghost use Rattle.std.specs.Prelude.{◌≡◌, ◌<◌, ◌⊎◌, ◌-◌};
+ghost use Rattle.std.specs.Prelude.{◌≡◌, ◌<◌, ◌⊎◌, ◌-◌, ◌==◌, ◌&&◌};
 ghost use Rattle.broker_server.specs.UnturnedTopics.{none_unturned};
 
 use crate::conversation::{BrokerCalls, ConversationFault};
@@ -65,7 +65,13 @@ impl<'a, R: Wait + Log + Clock, W: Side, T: Side> Calls<'a, R, W, T> {
         peer: Peer,
         bell: Arc<Bell>,
         worker: Worker<W>,
-    ) -> Calls<'a, R, W, T> {
+    ) -> Calls<'a, R, W, T>
+        ensures worker { result.worker ≡ worker }
+        ensures unturned { result.unturned ≡ none_unturned }
+        ensures commits { result.commits ≡ 0 }
+        ensures subs { (result.subs ≡ 0) × (result.begun ≡ 0) }
+        ensures on_way { (result.on_way.before ≡ 0) × (result.on_way.since ≡ 0) }
+    {
         Calls {
             rt,
             alloc,
@@ -196,7 +202,10 @@ impl<'a, R: Wait + Log + Clock, W: Side, T: Side> Calls<'a, R, W, T> {
     }
 
     /// Whether it has no subscription, and something that it sent may not have come: it may never take.
-    pub(crate) fn only_sends(&self) -> bool {
+    pub(crate) fn only_sends(&self) -> bool
+        ensures { result ≡
+            (self.now.subs == 0 && 1 - self.now.on_way.before - self.now.on_way.since == 0) }
+    {
         self.subs == 0 && self.on_way.room(1) == 0
     }
 
@@ -223,7 +232,12 @@ impl<'a, R: Wait + Log + Clock, W: Side, T: Side> Calls<'a, R, W, T> {
     }
 
     /// Where the older half has come, the newer half is the older one from now on.
-    pub(crate) fn settle(&mut self) {
+    pub(crate) fn settle(&mut self)
+        ensures { ((self.new.on_way.before ≡ self.old.on_way.before)
+            × (self.new.on_way.since ≡ self.old.on_way.since) × (self.new.commits ≡ self.old.commits))
+            ⊎ ((self.new.on_way.before ≡ self.old.on_way.since) × (self.new.on_way.since ≡ 0)
+            × (self.new.commits ≡ 0)) }
+    {
         if self.on_way.has_come(self.rt, self.hub) {
             self.age();
         }
@@ -236,7 +250,11 @@ impl<'a, R: Wait + Log + Clock, W: Side, T: Side> Calls<'a, R, W, T> {
     }
 
     /// What was sent before the newer half isn't waited for any more, and this is from now on.
-    pub(crate) fn age(&mut self) {
+    pub(crate) fn age(&mut self)
+        ensures before { self.new.on_way.before ≡ self.old.on_way.since }
+        ensures since { self.new.on_way.since ≡ 0 }
+        ensures turned { (self.new.unturned ≡ none_unturned) × (self.new.commits ≡ 0) }
+    {
         self.turn_topics();
         self.on_way.age();
     }
@@ -369,7 +387,7 @@ impl<'a, R: Wait + Log + Clock, W: Side, T: Side> BrokerCalls for Calls<'a, R, W
 
     fn commit(&mut self, flying: Flying) -> Result<Gate, (Gate, CommitFault)> {
         let topics = flying.topics().len();
-        self.on_way.begin(flying.topics().as_slice());
+        self.on_way.add(flying.topics().as_slice());
         let done = self
             .hub
             .running
@@ -377,7 +395,7 @@ impl<'a, R: Wait + Log + Clock, W: Side, T: Side> BrokerCalls for Calls<'a, R, W
             .commit(self.rt, &mut self.worker, flying, &mut self.unturned);
         match done {
             Ok((gate, stamp)) => {
-                self.on_way.commit(topics, stamp);
+                self.on_way.note_stamp(topics, stamp);
                 self.count_commit();
                 Ok(gate)
             }

@@ -7,8 +7,8 @@ use crate::serving::calls::Calls;
 use crate::serving::desk::Desk;
 use crate::serving::desks::Desks;
 use crate::serving::hub::Hub;
-use crate::serving::line::Line;
 use crate::serving::on_way::MAX_RESTS;
+use crate::serving::outfit::Outfit;
 use crate::serving::seat::Seat;
 use crate::serving::socket::{Came, Socket};
 use crate::serving::why_left::{LastWords, WhyLeft};
@@ -111,7 +111,7 @@ struct Connection<'a, 'b, R: Wait + Log + Clock, W: Side, T: Side> {
     rt: &'a R,
     hub: &'a Hub<R, W, T>,
     desks: &'b Desks<'a, R, W, T>,
-    line: Line,
+    outfit: Outfit,
     /// How many octets it heard since its reads last left it topics to turn.
     heard: usize,
     /// The seats of those who sleep, for whom it stands in.
@@ -122,7 +122,7 @@ impl<'a, 'b, R: Wait + Log + Clock, W: Side, T: Side> Connection<'a, 'b, R, W, T
     /// One round: takes what is there for it, writes, reads, and does what that asks for. It looks whether the server
     /// ends once it has heard, as for all that its bell tells of.
     fn round(&mut self, desk: &mut Desk<'a, R, W, T>) -> Round {
-        let told = self.line.bell.hears();
+        let told = self.outfit.bell.hears();
         if self.hub.is_closing() {
             return Round::Ended(WhyLeft::Closing);
         }
@@ -149,7 +149,7 @@ impl<'a, 'b, R: Wait + Log + Clock, W: Side, T: Side> Connection<'a, 'b, R, W, T
     fn hear(&mut self, desk: &mut Desk<'a, R, W, T>) -> Round {
         let mut round = Round::Idle;
         for _ in 0..MAX_READS {
-            match desk.read(self.line.room.as_mut_slice()) {
+            match desk.read(self.outfit.room.as_mut_slice()) {
                 Came::Octets(n) => {
                     self.heard = self.heard.saturating_add(n);
                     self.hear_read(desk, n);
@@ -163,7 +163,7 @@ impl<'a, 'b, R: Wait + Log + Clock, W: Side, T: Side> Connection<'a, 'b, R, W, T
                     return Round::Leaving;
                 }
             }
-            if self.line.bell.is_told() {
+            if self.outfit.bell.is_told() {
                 break;
             }
         }
@@ -199,7 +199,7 @@ impl<'a, 'b, R: Wait + Log + Clock, W: Side, T: Side> Connection<'a, 'b, R, W, T
         for _ in 0..n {
             let most = self.most_at_once(desk, at, n);
             let end = n.min(at.saturating_add(most));
-            if let Some(piece) = self.line.room.as_slice().get(at..end) {
+            if let Some(piece) = self.outfit.room.as_slice().get(at..end) {
                 desk.talk.hear(&mut desk.calls, piece);
             }
             at = end;
@@ -220,7 +220,7 @@ impl<'a, 'b, R: Wait + Log + Clock, W: Side, T: Side> Connection<'a, 'b, R, W, T
             let most = self.make_room(desk).saturating_mul(LEAST_SEND);
             return usize::try_from(most).unwrap_or(n);
         }
-        match self.line.room.as_slice().get(at..n) {
+        match self.outfit.room.as_slice().get(at..n) {
             Some(rest) => end_of_frames(rest, desk.calls.quarter()),
             None => n,
         }
@@ -237,7 +237,7 @@ impl<'a, 'b, R: Wait + Log + Clock, W: Side, T: Side> Connection<'a, 'b, R, W, T
             desk.calls.settle();
             desk.take_between();
             let room = desk.calls.room();
-            let may_take = !self.line.bell.is_stuck() || room >= capacity;
+            let may_take = !self.outfit.bell.is_stuck() || room >= capacity;
             if room >= least && may_take {
                 return room.min((capacity / 2).max(1));
             }
@@ -257,7 +257,12 @@ impl<'a, 'b, R: Wait + Log + Clock, W: Side, T: Side> Connection<'a, 'b, R, W, T
 
     /// Waits for the socket or the bell, so long at most. Refused where the poll failed, which ends the server.
     fn wait(&mut self, time: Option<Duration>) -> Result<(), WhyLeft> {
-        if self.line.poll.poll(&mut self.line.events, time).is_err() {
+        if self
+            .outfit
+            .poll
+            .poll(&mut self.outfit.events, time)
+            .is_err()
+        {
             self.hub.fail(self.rt);
             return Err(WhyLeft::PollFailed);
         }
@@ -267,7 +272,7 @@ impl<'a, 'b, R: Wait + Log + Clock, W: Side, T: Side> Connection<'a, 'b, R, W, T
     /// Looks what the poll tells, without a wait.
     fn look(&mut self, desk: &mut Desk<'a, R, W, T>) -> Result<(), WhyLeft> {
         self.wait(Some(Duration::from_millis(0)))?;
-        desk.socket.note(&self.line.events);
+        desk.socket.note(&self.outfit.events);
         Ok(())
     }
 
@@ -291,14 +296,14 @@ impl<'a, 'b, R: Wait + Log + Clock, W: Side, T: Side> Connection<'a, 'b, R, W, T
     /// something.
     fn work(&mut self) -> Result<Option<Sleep>, WhyLeft> {
         let rt = self.rt;
-        let Some(guarded) = self.desks.get(self.line.peer.desk) else {
+        let Some(guarded) = self.desks.get(self.outfit.peer.desk) else {
             return Ok(None);
         };
         let mut guard = guarded.lock(rt);
         let Some(desk) = &mut *guard else {
             return Ok(None);
         };
-        desk.socket.note_waited(&self.line.events);
+        desk.socket.note_waited(&self.outfit.events);
         let mut rounds = 0u32;
         for _ in rt.forever() {
             match self.round(desk) {
@@ -313,7 +318,7 @@ impl<'a, 'b, R: Wait + Log + Clock, W: Side, T: Side> Connection<'a, 'b, R, W, T
                 Round::Ended(left) => return Err(left),
                 Round::Idle => {
                     rounds = 0;
-                    if self.line.bell.sleeps() {
+                    if self.outfit.bell.sleeps() {
                         return self.sleep_of(desk);
                     }
                 }
@@ -337,7 +342,7 @@ impl<'a, 'b, R: Wait + Log + Clock, W: Side, T: Side> Connection<'a, 'b, R, W, T
     /// Writes what waits for a connection that leaves, until all is out, a write failed, or 100 polls brought nothing
     /// out.
     fn tell_last(&mut self, desk: &mut Desk<'a, R, W, T>) -> LastWords {
-        if desk.socket.register_writes(&self.line.poll).is_err() {
+        if desk.socket.register_writes(&self.outfit.poll).is_err() {
             return LastWords::WriteFailed;
         }
         let rt = self.rt;
@@ -361,7 +366,7 @@ impl<'a, 'b, R: Wait + Log + Clock, W: Side, T: Side> Connection<'a, 'b, R, W, T
             if self.hub.is_closing() || self.wait(poll_time()).is_err() {
                 return LastWords::Closing;
             }
-            desk.socket.note_waited(&self.line.events);
+            desk.socket.note_waited(&self.outfit.events);
             polls = polls.saturating_add(1);
         }
         unreachable!()
@@ -372,13 +377,13 @@ impl<'a, 'b, R: Wait + Log + Clock, W: Side, T: Side> Connection<'a, 'b, R, W, T
     /// what it was told.
     fn hear_out(&mut self, desk: &mut Desk<'a, R, W, T>) {
         desk.socket.shut();
-        if desk.socket.register_reads(&self.line.poll).is_err() {
+        if desk.socket.register_reads(&self.outfit.poll).is_err() {
             return;
         }
         let began = Instant::now(self.rt).ok();
         let mut polls = 0u32;
         for _ in 0..LAST_READS {
-            match desk.socket.read(self.line.room.as_mut_slice()) {
+            match desk.socket.read(self.outfit.room.as_mut_slice()) {
                 Came::End => return,
                 Came::Octets(_) | Came::Again => {}
                 Came::Nothing => {
@@ -389,8 +394,8 @@ impl<'a, 'b, R: Wait + Log + Clock, W: Side, T: Side> Connection<'a, 'b, R, W, T
                     {
                         return;
                     }
-                    desk.socket.note(&self.line.events);
-                    if self.line.events.is_empty() {
+                    desk.socket.note(&self.outfit.events);
+                    if self.outfit.events.is_empty() {
                         polls = polls.saturating_add(1);
                     }
                 }
@@ -402,7 +407,7 @@ impl<'a, 'b, R: Wait + Log + Clock, W: Side, T: Side> Connection<'a, 'b, R, W, T
     fn tell_lag(&self, desk: &Desk<'a, R, W, T>) {
         if let Some(Exit::Error(ConversationFault::Lagged { topic, items })) = desk.talk.exit() {
             let name = desk.talk.name(topic).unwrap_or(&[]);
-            let peer = self.line.peer;
+            let peer = self.outfit.peer;
             warn!(self.rt; target: "serve",
                 "{peer} lagged at the topic {}: {items} items behind", Spelled(name));
         }
@@ -410,7 +415,7 @@ impl<'a, 'b, R: Wait + Log + Clock, W: Side, T: Side> Connection<'a, 'b, R, W, T
 
     /// From its first octet to its last; why it left. Its desk is there for others while it talks.
     fn run(&mut self, desk: Box<Desk<'a, R, W, T>>) -> WhyLeft {
-        let Some(guarded) = self.desks.get(self.line.peer.desk) else {
+        let Some(guarded) = self.desks.get(self.outfit.peer.desk) else {
             return WhyLeft::NoMemory;
         };
         *guarded.lock(self.rt) = Some(desk);
@@ -451,33 +456,33 @@ pub(crate) fn attend<'a, 'b, R: Wait + Log + Clock, W: Side, T: Side>(
     alloc: Global,
     hub: &'a Hub<R, W, T>,
     desks: &'b Desks<'a, R, W, T>,
-    line: Line,
+    outfit: Outfit,
     socket: Socket,
 ) {
-    let peer = line.peer;
+    let peer = outfit.peer;
     info!(rt; target: "serve", "{peer} came");
-    let left = talk_over(rt, alloc, hub, desks, line, socket);
+    let left = talk_over(rt, alloc, hub, desks, outfit, socket);
     info!(rt; target: "serve", "{peer} left: {left}");
     desks.free_number(rt, peer.desk);
 }
 
-/// Talks over this line and this socket; why the connection left.
+/// Talks with this outfit over this socket; why the connection left.
 fn talk_over<'a, 'b, R: Wait + Log + Clock, W: Side, T: Side>(
     rt: &'a R,
     alloc: Global,
     hub: &'a Hub<R, W, T>,
     desks: &'b Desks<'a, R, W, T>,
-    line: Line,
+    outfit: Outfit,
     socket: Socket,
 ) -> WhyLeft {
-    let number = line.peer.number;
-    let left = match desk_of(rt, alloc, hub, &line, socket) {
+    let number = outfit.peer.number;
+    let left = match desk_of(rt, alloc, hub, &outfit, socket) {
         Ok(desk) => {
             let mut connection = Connection {
                 rt,
                 hub,
                 desks,
-                line,
+                outfit,
                 heard: 0,
                 asleep: Vec::new(alloc),
             };
@@ -497,16 +502,16 @@ fn desk_of<'a, R: Wait + Log + Clock, W: Side, T: Side>(
     rt: &'a R,
     alloc: Global,
     hub: &'a Hub<R, W, T>,
-    line: &Line,
+    outfit: &Outfit,
     socket: Socket,
 ) -> Result<Box<Desk<'a, R, W, T>>, Socket> {
-    let Ok(bell) = line.bell.clone() else {
+    let Ok(bell) = outfit.bell.clone() else {
         return Err(socket);
     };
     let Ok(worker) = hub.running.take_worker(rt) else {
         return Err(socket);
     };
-    let calls = Calls::new(rt, alloc, hub, line.peer, bell, worker);
+    let calls = Calls::new(rt, alloc, hub, outfit.peer, bell, worker);
     let talk = Conversation::new(alloc, hub.running.capacity());
     match Box::new(alloc, Desk::new(socket, calls, talk)) {
         Ok(desk) => Ok(desk),

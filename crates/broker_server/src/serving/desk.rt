@@ -1,6 +1,9 @@
 //! What a connection's thread works at.
 
-ghost use Rattle.std.specs.Prelude.{◌≡◌};
+ghost use Rattle.std.specs.Prelude.{◌≡◌, ◌&&◌, nat_lt, true, false, List, [], None, is_some, is_none, length};
+ghost use Rattle.broker_server.specs.BrokerRows.{BrokerRow};
+ghost use Rattle.broker_server.specs.Delivering.{DeliversRound};
+ghost use Rattle.broker_server.specs.declared.serving.socket.Came.TheVariants.{Nothing};
 
 use crate::conversation::{BrokerCalls, Conversation};
 use crate::serving::calls::Calls;
@@ -37,7 +40,13 @@ impl<'a, R: Wait + Log + Clock, W: Side, T: Side> Desk<'a, R, W, T> {
         socket: Socket,
         calls: Calls<'a, R, W, T>,
         talk: Conversation<Calls<'a, R, W, T>>,
-    ) -> Desk<'a, R, W, T> {
+    ) -> Desk<'a, R, W, T>
+        ensures socket { result.socket ≡ socket }
+        ensures calls { result.calls ≡ calls.entry }
+        ensures talk { result.talk ≡ talk.entry }
+        ensures untaken { result.untaken ≡ None }
+        ensures waits { result.waits ≡ 0 }
+    {
         Desk {
             socket,
             calls,
@@ -49,13 +58,18 @@ impl<'a, R: Wait + Log + Clock, W: Side, T: Side> Desk<'a, R, W, T> {
 
     /// Takes what is there for the connection; whether something came of it. It isn't stuck from before it looks, so
     /// that it is told of what comes then.
-    pub(crate) fn deliver(&mut self) -> bool {
+    pub(crate) fn deliver(&mut self) -> bool
+        ensures round { (asked : List BrokerRow) × DeliversRound self.old.talk asked result self.new.talk }
+        ensures socket { self.new.socket ≡ self.old.socket }
+    {
         self.calls.bell().set_stuck(false);
         self.talk.deliver(&mut self.calls)
     }
 
     /// Writes what waits, as far as the system takes it; how many octets went out.
-    pub(crate) fn write(&mut self) -> Result<usize, WriteFailed> {
+    pub(crate) fn write(&mut self) -> Result<usize, WriteFailed>
+        ensures { self.new.calls ≡ self.old.calls }
+    {
         let sent = self.socket.write(&mut self.talk)?;
         if sent > 0 {
             self.untaken = None;
@@ -64,7 +78,12 @@ impl<'a, R: Wait + Log + Clock, W: Side, T: Side> Desk<'a, R, W, T> {
     }
 
     /// Reads once, into this room, unless the connection leaves or too much waits for it.
-    pub(crate) fn read(&mut self, room: &mut [u8]) -> Came {
+    pub(crate) fn read(&mut self, room: &mut [u8]) -> Came
+        ensures idle { (is_none self.old.talk.exit && nat_lt (length self.old.talk.wire) 1048576) ≡ false
+            → (result ≡ Nothing) × (self.new ≡ self.old) × (room.new ≡ room.old) }
+        ensures talk { self.new.talk ≡ self.old.talk }
+        ensures calls { self.new.calls ≡ self.old.calls }
+    {
         if self.talk.may_read() {
             self.socket.read(room)
         } else {
@@ -85,7 +104,7 @@ impl<'a, R: Wait + Log + Clock, W: Side, T: Side> Desk<'a, R, W, T> {
     }
 
     /// It is stuck where more is there than the system takes: it looks again once that takes some.
-    pub(crate) fn note_stuck(&mut self) {
+    pub(crate) fn note_stuck(&self) {
         if self.talk.has_more() && self.socket.is_blocked() {
             self.calls.bell().set_stuck(true);
         }
@@ -94,7 +113,10 @@ impl<'a, R: Wait + Log + Clock, W: Side, T: Side> Desk<'a, R, W, T> {
     /// Does for its thread, which sleeps, what that would do once it was told: takes what is there, as much as may
     /// wait, and writes once. Whether nothing is left for that thread to do. (Where a subscription has lagged, what is
     /// open ends here.)
-    pub(crate) fn stand_in(&mut self) -> bool {
+    pub(crate) fn stand_in(&mut self) -> bool
+        ensures { result ≡ true → (self.new.talk.wire ≡ []) × (self.new.talk.more ≡ false)
+            × (is_some self.new.talk.exit ≡ false) }
+    {
         self.deliver();
         self.write().is_ok()
             && self.talk.wire().is_empty()

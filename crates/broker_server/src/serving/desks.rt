@@ -1,5 +1,7 @@
 //! The desks of all connections.
 
+ghost use Rattle.std.specs.Prelude.{◌≡◌, ◌≤◌, false, length, vec_len, IfOk};
+
 use crate::serving::desk::Desk;
 use crate::serving::hub::MAX_CONNECTIONS;
 use broker_locks::Side;
@@ -23,7 +25,9 @@ pub(crate) struct Desks<'a, R: Wait + Log + Clock, W: Side, T: Side> {
 
 impl<'a, R: Wait + Log + Clock, W: Side, T: Side> Desks<'a, R, W, T> {
     /// As many as there are connections at most; none has one.
-    pub(crate) fn new(rt: &R, alloc: Global) -> Result<Desks<'a, R, W, T>, AllocError> {
+    pub(crate) fn new(rt: &R, alloc: Global) -> Result<Desks<'a, R, W, T>, AllocError>
+        ensures { IfOk result (λ desks. vec_len desks.desks ≡ 256) }
+    {
         let count = MAX_CONNECTIONS as usize;
         let mut desks = Vec::with_capacity(alloc, count)?;
         let free = ArrayQueue::new(alloc, count)?;
@@ -50,7 +54,9 @@ impl<'a, R: Wait + Log + Clock, W: Side, T: Side> Desks<'a, R, W, T> {
     }
 
     /// Stands in at the desk of this number, unless somebody works there. Whether nothing is left for its thread to do.
-    pub(crate) fn stand_in(&self, number: usize) -> bool {
+    pub(crate) fn stand_in(&self, number: usize) -> bool
+        ensures { length self.now.desks.items ≤ number → result ≡ false }
+    {
         let Some(guarded) = self.desks.get(number) else {
             return false;
         };

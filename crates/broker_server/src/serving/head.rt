@@ -1,5 +1,8 @@
 //! What a thread that turns topics is told by.
 
+ghost use Rattle.std.specs.Prelude.{◌≤◌, IfOk};
+ghost use Rattle.crossbeam_queue.specs.Passes.{queue_capacity};
+
 use crossbeam_queue::ArrayQueue;
 use std::alloc::{AllocError, Global};
 use std::sync::Wait;
@@ -16,7 +19,9 @@ pub(crate) struct Head {
 
 impl Head {
     /// A head of so many topics, none of which is due.
-    pub(crate) fn new(alloc: Global, topics: usize) -> Result<Head, AllocError> {
+    pub(crate) fn new(alloc: Global, topics: usize) -> Result<Head, AllocError>
+        ensures { IfOk result (λ head. topics ≤ queue_capacity head.due) }
+    {
         Ok(Head {
             due: ArrayQueue::new(alloc, topics.max(1))?,
             parker: Parker::new(),

@@ -1,6 +1,6 @@
 //! What the server's threads share.
 
-ghost use Rattle.std.specs.Prelude.{◌≡◌};
+ghost use Rattle.std.specs.Prelude.{◌≡◌, ◌≤◌, true, length, Ok};
 
 use crate::serving::bell::Bell;
 use crate::serving::head::Head;
@@ -120,7 +120,9 @@ impl<R: Wait, W: Side, T: Side> Hub<R, W, T> {
     }
 
     /// Whether what was sent to the topic with the stamp of this number has come to all who subscribed there.
-    pub(crate) fn has_come(&self, rt: &R, topic: Topic, n: u64) -> bool {
+    pub(crate) fn has_come(&self, rt: &R, topic: Topic, n: u64) -> bool
+        ensures { length self.now.topics.items ≤ topic.0 → result ≡ true }
+    {
         match self.topics.get(topic.0 as usize) {
             Some(topic) => topic.has_come(rt, n),
             None => true,
@@ -179,7 +181,9 @@ impl<R: Wait, W: Side, T: Side> Hub<R, W, T> {
     }
 
     /// Who has this seat is told of what the topic releases from now on.
-    pub(crate) fn listen(&self, rt: &R, topic: Topic, seat: &Arc<Seat>) -> Result<(), AllocError> {
+    pub(crate) fn listen(&self, rt: &R, topic: Topic, seat: &Arc<Seat>) -> Result<(), AllocError>
+        ensures { length self.now.topics.items ≤ topic.0 → result ≡ Ok tt }
+    {
         match self.topics.get(topic.0 as usize) {
             Some(topic) => topic.add(rt, seat),
             None => Ok(()),

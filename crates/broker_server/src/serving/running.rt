@@ -1,8 +1,9 @@
 //! The broker, as the server uses it, with the names of its topics and the workers that no connection has.
 
-ghost use Rattle.std.specs.Prelude.{◌≡◌, ℕ, List, length, IfOk, IfErr, IfSome};
+ghost use Rattle.std.specs.Prelude.{◌≡◌, ◌≤◌, ℕ, false, List, length, IfOk, IfErr, IfSome};
 ghost use Rattle.stomp_frame.specs.ClientFrames.{raw_of};
 ghost use Rattle.delivery.specs.Topics.{max_topics};
+ghost use Rattle.broker_locks.specs.declared.server_fault.ServerFault.TheVariants.{TooManyConns};
 ghost use Rattle.broker_locks.specs.Gathering.{IsTraceLeft};
 ghost use Rattle.broker_server.specs.Judging.{Grows, IsFrameAccepted, IsFrameRefused};
 
@@ -31,10 +32,9 @@ pub(crate) struct Running<R: Wait, W: Side, T: Side> {
 
 impl<R: Wait, W: Side, T: Side> Running<R, W, T> {
     /// The broker, with no worker yet.
-    pub(crate) fn new(
-        alloc: Global,
-        broker: Broker<R, W, T>,
-    ) -> Result<Running<R, W, T>, NoMemory> {
+    pub(crate) fn new(alloc: Global, broker: Broker<R, W, T>) -> Result<Running<R, W, T>, NoMemory>
+        ensures { IfOk result (λ running. running.broker ≡ broker) }
+    {
         let names = Mutex::new(names_of(alloc, broker.topics())?);
         Ok(Running {
             broker,
@@ -70,7 +70,9 @@ impl<R: Wait, W: Side, T: Side> Running<R, W, T> {
     }
 
     /// A worker that no connection uses, or a new one. Refused as by `Broker::join`.
-    pub(crate) fn take_worker(&self, rt: &R) -> Result<Worker<W>, ServerFault> {
+    pub(crate) fn take_worker(&self, rt: &R) -> Result<Worker<W>, ServerFault>
+        ensures { IfErr result (λ fault. fault ≡ TooManyConns) }
+    {
         let free = self.workers.lock(rt).pop();
         match free {
             Some(worker) => Ok(worker),
@@ -92,7 +94,9 @@ impl<R: Wait, W: Side, T: Side> Running<R, W, T> {
 
     /// Turns a topic. Whether somebody may find something now: an item, or that it has lagged. Rows that there was no
     /// memory to drain stay in the topic's log until its next turn.
-    pub(crate) fn turn(&self, rt: &R, topic: Topic) -> bool {
+    pub(crate) fn turn(&self, rt: &R, topic: Topic) -> bool
+        ensures { max_topics ≤ topic.0 → result ≡ false }
+    {
         let (turned, _drained) = self.broker.head_turned(rt, topic);
         turned.released > 0 || turned.lagged
     }

@@ -1,5 +1,7 @@
 //! A subscription's place at a topic.
 
+ghost use Rattle.std.specs.Prelude.{◌≡◌, ◌==◌, ◌&&◌};
+
 use crate::serving::bell::Bell;
 use std::sync::Arc;
 use std::sync::atomic::{AtomicU64, Ordering};
@@ -20,7 +22,12 @@ pub(crate) struct Seat {
 
 impl Seat {
     /// The place of this connection's subscription of this number, which has taken nothing.
-    pub(crate) fn new(connection: u64, number: u64, desk: usize, bell: Arc<Bell>) -> Seat {
+    pub(crate) fn new(connection: u64, number: u64, desk: usize, bell: Arc<Bell>) -> Seat
+        ensures connection { result.connection ≡ connection }
+        ensures number { result.number ≡ number }
+        ensures desk { result.desk ≡ desk }
+        ensures bell { result.bell ≡ bell }
+    {
         Seat {
             connection,
             number,
@@ -31,12 +38,17 @@ impl Seat {
     }
 
     /// Whether it is the same as the other.
-    pub(crate) fn is(&self, other: &Seat) -> bool {
+    pub(crate) fn is(&self, other: &Seat) -> bool
+        ensures { result ≡
+            (self.now.connection == other.now.connection && self.now.number == other.now.number) }
+    {
         self.connection == other.connection && self.number == other.number
     }
 
     /// The number of its connection's desk.
-    pub(crate) fn desk(&self) -> usize {
+    pub(crate) fn desk(&self) -> usize
+        ensures { result ≡ self.now.desk }
+    {
         self.desk
     }
 

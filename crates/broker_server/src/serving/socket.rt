@@ -1,5 +1,8 @@
 //! A connection's socket.
 
+ghost use Rattle.std.specs.Prelude.{◌≡◌, true, false, Ok};
+ghost use Rattle.broker_server.specs.declared.serving.socket.Came.TheVariants.{Nothing};
+
 use crate::conversation::{BrokerCalls, Conversation};
 use mio::net::TcpStream;
 use mio::{Events, Interest, Poll, Token};
@@ -39,7 +42,9 @@ pub(crate) struct Socket {
 
 impl Socket {
     /// Nothing is known of it.
-    pub(crate) fn new(stream: TcpStream) -> Socket {
+    pub(crate) fn new(stream: TcpStream) -> Socket
+        ensures { result ≡ record { stream = stream; readable = true; hung_up = false; blocked = false } }
+    {
         Socket {
             stream,
             readable: true,
@@ -68,7 +73,11 @@ impl Socket {
     }
 
     /// Notes what the poll told.
-    pub(crate) fn note(&mut self, events: &Events) {
+    pub(crate) fn note(&mut self, events: &Events)
+        ensures readable { self.old.readable ≡ true → self.new.readable ≡ true }
+        ensures hung_up { self.old.hung_up ≡ true → self.new.hung_up ≡ true }
+        ensures blocked { self.old.blocked ≡ false → self.new.blocked ≡ false }
+    {
         for event in events.iter() {
             if event.token() != SOCKET {
                 continue;
@@ -87,7 +96,11 @@ impl Socket {
 
     /// Notes what the poll told when it was waited for. Where it told nothing the time is over, and a write is tried
     /// again: the system tells of room only once a third of what it holds has gone, which takes a slow peer long.
-    pub(crate) fn note_waited(&mut self, events: &Events) {
+    pub(crate) fn note_waited(&mut self, events: &Events)
+        ensures readable { self.old.readable ≡ true → self.new.readable ≡ true }
+        ensures hung_up { self.old.hung_up ≡ true → self.new.hung_up ≡ true }
+        ensures blocked { self.old.blocked ≡ false → self.new.blocked ≡ false }
+    {
         if events.is_empty() {
             self.blocked = false;
         }
@@ -95,7 +108,12 @@ impl Socket {
     }
 
     /// Reads once, into this room, unless nothing can be there. A failed read is the peer's end.
-    pub(crate) fn read(&mut self, room: &mut [u8]) -> Came {
+    pub(crate) fn read(&mut self, room: &mut [u8]) -> Came
+        ensures idle { self.old.readable ≡ false
+            → (result ≡ Nothing) × (self.new ≡ self.old) × (room.new ≡ room.old) }
+        ensures hung_up { self.new.hung_up ≡ self.old.hung_up }
+        ensures blocked { self.new.blocked ≡ self.old.blocked }
+    {
         if !self.readable {
             return Came::Nothing;
         }
@@ -121,7 +139,12 @@ impl Socket {
     pub(crate) fn write<C: BrokerCalls>(
         &mut self,
         talk: &mut Conversation<C>,
-    ) -> Result<usize, WriteFailed> {
+    ) -> Result<usize, WriteFailed>
+        ensures blocked { self.old.blocked ≡ true
+            → (result ≡ Ok 0) × (self.new ≡ self.old) × (talk.new ≡ talk.old) }
+        ensures readable { self.new.readable ≡ self.old.readable }
+        ensures hung_up { self.new.hung_up ≡ self.old.hung_up }
+    {
         if self.blocked || talk.wire().is_empty() {
             return Ok(0);
         }
@@ -133,7 +156,9 @@ impl Socket {
     }
 
     /// Whether the system took less than there was at the last write, and hasn't told since that it takes more.
-    pub(crate) fn is_blocked(&self) -> bool {
+    pub(crate) fn is_blocked(&self) -> bool
+        ensures { result ≡ self.now.blocked }
+    {
         self.blocked
     }
 

@@ -1,5 +1,7 @@
 //! Who is told of a topic.
 
+ghost use Rattle.std.specs.Prelude.{◌≤◌, IfSome};
+
 use crate::serving::seat::Seat;
 use std::alloc::{AllocError, Global};
 use std::sync::atomic::{AtomicBool, Ordering};
@@ -63,7 +65,9 @@ impl TopicSeats {
     }
 
     /// How many they are, where they are few, and the threads of all of them sleep.
-    pub(crate) fn few_asleep<R: Wait>(&self, rt: &R) -> Option<usize> {
+    pub(crate) fn few_asleep<R: Wait>(&self, rt: &R) -> Option<usize>
+        ensures { IfSome result (λ count. count ≤ 2) }
+    {
         let seats = self.seats.lock(rt);
         let count = seats.len();
         if count <= FEW && seats.iter().all(|seat| seat.is_asleep()) {

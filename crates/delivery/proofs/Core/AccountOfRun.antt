@@ -1,6 +1,6 @@
 -- The account of a run's steps is what the machine answered to its moves, refusals and what was merely done aside.
 use Rattle.std.proofs.Common.{◌≡◌, ℕ, ◌+◌, ◌<◌, ◌==◌, Bool, true, false, cond, not, ◌&&◌, ◌⊎◌, inl, inr, List, [], ◌∷◌, ◌++◌, length, Option, Some, None, refl, sym, ap, subst, ◌∙◌, true≢false}
-use Rattle.std.proofs.lemmas.Bool.{ltb-true, false≢true}
+use Rattle.std.proofs.lemmas.Bool.{ltb-true, false≢true, not-false}
 use Rattle.std.specs.Prelude.{slice_get, codes}
 use Rattle.std.specs.Option.{is_some, option_map, option_map_or, option_or, option_to_list}
 use Rattle.stomp_frame.specs.declared.raw_frame.RawFrame.{RawFrame}
@@ -11,6 +11,7 @@ use Rattle.mcast_txn.specs.Stamp.{greatest}
 use Rattle.mcast_txn.specs.Checks.{first_refusal}
 use Rattle.mcast_txn.specs.Lists.{In}
 use Rattle.mcast_txn.specs.Span.{Item}
+use Rattle.mcast_txn.proofs.CheckLemmas.{NoneHolds}
 use Rattle.mcast_group.specs.declared.fault.ProposeFault.{ProposeFault}
 use Rattle.mcast_group.specs.Machine.{Pending, due_part}
 use Rattle.mcast_group.proofs.Parts.{some_same, none_some}
@@ -46,7 +47,8 @@ use Rattle.delivery.specs.Core.State.{Core, core_of, moves, session_at, frame_mo
 use Rattle.delivery.specs.Core.Outcomes.{outcome_of, move_outcome, unless, frame_no_memory, frame_fault, fault_outcomes, frame_outcome, reading_outcomes, cut_of, is_any, reply_outcomes, outcomes, IsCoreRun, accepted_outcomes, outcomes_without, wants_memory}
 use Rattle.delivery.proofs.Machine.Invariant.{sender_in}
 use Rattle.delivery.proofs.Machine.SenderSteps.{leftover_found, In-append_cases}
-use Rattle.delivery.proofs.Machine.InvariantIsKept.{NoneHolds, checked, false_not, in_flight}
+use Rattle.delivery.proofs.Machine.Effects.{made_answer, made_world, refused_answer}
+use Rattle.delivery.proofs.Machine.InvariantIsKept.{checked, in_flight}
 use Rattle.delivery.proofs.Core.ByRun.{run_append, answers_append, longer}
 use Rattle.delivery.proofs.Core.Said.{said, txn_count_said, has_closed_said}
 use Rattle.delivery.proofs.Core.Speaking.{Spoken, id_at, open_in, run_spoken, start_spoken}
@@ -91,17 +93,6 @@ spoken r = run_spoken r.events [] (start r.capacity r.log_limit r.clocks) (start
 
 -- ---- answers and outcomes
 
--- what isn't refused is answered
-pub answer_is : (w : World) (e : Move) → move_refusal w e ≡ None → answer_to w e ≡ move_answer w e
-answer_is w e n = ap (λ (o : Option Objection). elim o [ None ↦ move_answer w e | Some why ↦ Answer.Refused why ]) n
-
--- the world after what isn't refused
-pub world_moved : (w : World) (e : Move) → move_refusal w e ≡ None → world_after w e ≡ move_effect w e
-world_moved w e n = ap (λ (o : Option Objection). elim o [ None ↦ move_effect w e | Some why ↦ w ]) n
-
-answer_refused : (w : World) (e : Move) (why : Objection) → move_refusal w e ≡ Some why → answer_to w e ≡ Answer.Refused why
-answer_refused w e why n = ap (λ (o : Option Objection). elim o [ None ↦ move_answer w e | Some why ↦ Answer.Refused why ]) n
-
 -- the outcome is a refusal
 pub record IsRefusal (o : Outcome) : Type 0 where
   pub why : Refusal
@@ -126,9 +117,9 @@ pub by_answer : (P : Outcome → Type 0) (w : World) (e : Move) (o : Outcome)
 by_answer P w e o h g d = by_case (move_refusal w e) refl
   where
     by_case : (r : Option Objection) → move_refusal w e ≡ r → P o
-    by_case None n = g n (answer_is w e n) o (ap outcome_of (sym (answer_is w e n)) ∙ d)
+    by_case None n = g n (made_answer w e n) o (ap outcome_of (sym (made_answer w e n)) ∙ d)
     by_case (Some why) n =
-        let a = answer_refused w e why n in let k = refusal_some (refusal_of why) o (ap outcome_of (sym a) ∙ d) in
+        let a = refused_answer w e why n in let k = refusal_some (refusal_of why) o (ap outcome_of (sym a) ∙ d) in
         subst P k.is (h why k.why a)
 
 -- the account says after these moves what the machine answered to them
@@ -205,7 +196,7 @@ pub undecided_is : (r : Run) (older : List CoreStep) (c : ℕ) → Own (final_wo
     → (undecided_at (final_world r) c).txn.id ≡ last_of c older (said (answers_of r))
 undecided_is r older c whose f =
     let w = final_world r in let fl = in_flight w c f in
-    (spoken r).speaking.flying (speaker_number w c) (undecided_at w c) (fl.is ∙ ap Some (sym fl.at)) ∙ last_is r older c whose (flying_speaker w c (false_not _ f))
+    (spoken r).speaking.flying (speaker_number w c) (undecided_at w c) (fl.is ∙ ap Some (sym fl.at)) ∙ last_is r older c whose (flying_speaker w c (not-false _ f))
 
 proposed_case : (names : List (List ℕ)) (r : Run) (older : List CoreStep) (rd : Reading) (c : ℕ) (t : Topic) (m : Bool) (f : Option ProposeFault) (z : Outcome)
     → (undecided_at (final_world r) c).txn.id ≡ last_of c older (said (answers_of r))
@@ -362,8 +353,8 @@ lost_after : (r : Run) (c : ℕ) → move_refusal (final_world r) (Decides c) �
 lost_after r c n h =
     let w = final_world r in let k = checked w (Decides c) n in let v = move_effect w (Decides c) in
     let o = still_open r c (connection_there w c k.0) h in
-    ap (λ z. answer_to z (Lost c)) (world_moved w (Decides c) n)
-    ∙ answer_is v (Lost c)
+    ap (λ z. answer_to z (Lost c)) (made_world w (Decides c) n)
+    ∙ made_answer v (Lost c)
     (ap (λ (z : Option Objection). option_or z None) (unpassed (needs_open v c) (k.0, (k.1.0, (ap not o, tt)))))
 
 decided_says : (names : List (List ℕ)) (r : Run) (older : List CoreStep) (whose : Own (final_world r) older) (rd : Reading) (c : ℕ) (o : Outcome) → account_of names older ≡ said (answers_of r)
@@ -430,10 +421,10 @@ taken_says names r older rd s o i = by_case (move_refusal (final_world r) (Takes
         → In o (unless why (move_outcome (core_at names r older) (Takes s) ++ Outcome.NoMemory ∷ [])) → P o
     by_case (Some why) n i =
         let k = refusal_some (refusal_of why) o (in_option o _ i) in
-        subst P k.is (unsaid _ (answers_of r) why (answer_refused (final_world r) (Takes s) why n))
+        subst P k.is (unsaid _ (answers_of r) why (refused_answer (final_world r) (Takes s) why n))
     by_case None n i = elim (In-append_cases o _ _ i) [
       | inl j ↦ by_answer P (final_world r) (Takes s) o (λ why x a. unsaid _ (answers_of r) why a)
-          (λ m a z d. taken_case names r older rd s _ z (ltb-true s (length (final_world r).subscriptions) (false_not _ (checked (final_world r) (Takes s) n).0)) refl a d)
+          (λ m a z d. taken_case names r older rd s _ z (ltb-true s (length (final_world r).subscriptions) (not-false _ (checked (final_world r) (Takes s) n).0)) refl a d)
           (in_option o _ j)
       | inr j ↦ elim j [ inl e ↦ subst P e refl | inr k ↦ absurd k ]
     ]
@@ -628,7 +619,7 @@ accepted_says names r older whose c f left o (actions.Unsubscribe id) e i =
 accepted_says names r older whose c f left o (actions.Commit sends) e i =
     let w = final_world (for_frame names r older f) in let P = Says names r older (Event.Next c) (Reading.Finds f left) in
     by_answer P w (Commits c sends) o (λ why x a. refl)
-    (λ n a z d. flown_case names r older whose c f left sends z (has_speaker w c (false_not _ (checked w (Commits c sends) n).1.1.1.0)) e a d)
+    (λ n a z d. flown_case names r older whose c f left sends z (has_speaker w c (not-false _ (checked w (Commits c sends) n).1.1.1.0)) e a d)
     (in_option o _ i)
 accepted_says names r older whose c f left o actions.Disconnect e i =
     let q = for_frame names r older f in
@@ -671,7 +662,7 @@ faulted_says names r older rd c fault o n i = elim i [
     errs : (cut : Bool) → P (Outcome.Faulted fault cut)
     errs cut =
         ap (λ z. z ++ said (answers_of r)) (fault_account (names_after names older) older (said (answers_of r)) c (frame_in rd) fault cut)
-        ∙ ap (λ b. said (b ∷ answers_of r)) (sym (answer_is (final_world r) (Errs c) (ap (λ (z : Option Objection). option_or z None) n)))
+        ∙ ap (λ b. said (b ∷ answers_of r)) (sym (made_answer (final_world r) (Errs c) (ap (λ (z : Option Objection). option_or z None) n)))
 
 found_says : (names : List (List ℕ)) (r : Run) (older : List CoreStep) (whose : Own (final_world r) older) (c : ℕ) (f : RawFrame) (left : Unread) (o : Outcome) (why : Option ConnectionFault)
     → first_refusal (needs_idle (final_world r) c) ≡ None

@@ -3,7 +3,8 @@ use Rattle.std.proofs.Common.{◌≡◌, ℕ, ◌+◌, ◌<◌, ◌==◌, Bool, 
 use Rattle.std.specs.Prelude.{codes}
 use Rattle.std.specs.List.{list_all}
 use Rattle.std.specs.Option.{option_map, option_map_or, option_and_then, option_to_list, option_or, unwrap_or}
-use Rattle.std.proofs.lemmas.Bool.{false≢true, and_parts, ltb-true, eqb-true, eq-eqb}
+use Rattle.std.proofs.lemmas.Bool.{false≢true, and_parts, ltb-true, eqb-true, eq-eqb, not-false}
+use Rattle.std.proofs.lemmas.List.{length_push}
 use Rattle.stomp_frame.specs.declared.command.Command.{Command}
 use Rattle.stomp_frame.specs.declared.command.Command.TheVariants as commands
 use Rattle.stomp_frame.specs.declared.raw_frame.RawFrame.{RawFrame}
@@ -46,8 +47,8 @@ use Rattle.delivery.specs.Core.Output.{is_cut}
 use Rattle.delivery.specs.Core.State.{Core, core_for, core_of, names_at, moves, topic_moves, frame_move, session_at, is_no_memory}
 use Rattle.delivery.specs.Core.Outcomes.{unless, frame_no_memory, claim_fault, frame_fault, fault_outcomes, outcomes_without, reading_outcomes, outcomes, accepted_outcomes, IsCoreRun}
 use Rattle.sender_gate.proofs.KeptLemmas.{octets_pass}
-use Rattle.delivery.proofs.Machine.SubscriptionSteps.{at_push, push_length, set_length}
-use Rattle.delivery.proofs.Machine.InvariantIsKept.{by_refusal, checked, false_not}
+use Rattle.delivery.proofs.Machine.SubscriptionSteps.{at_push, set_length}
+use Rattle.delivery.proofs.Machine.InvariantIsKept.{by_refusal, checked}
 
 -- there are as many senders as have begun, and each connection speaks for whom it claimed
 pub record Stand (w : World) (claims : List Claim) : Type 0 where
@@ -135,13 +136,13 @@ run_stand (e ∷ es) w claims q h =
 
 claim_counts : (client : Option (List ℕ)) (claims : List Claim) (senders : List SenderState) → length senders ≡ begun_count claims
     → length (claimed_senders senders (claimed_sender client claims)) ≡ cond (begins client claims) (begun_count claims + 1) (begun_count claims)
-claim_counts None claims senders h = let m = push_length senders new_sender in omega (arith, m, h)
+claim_counts None claims senders h = let m = length_push senders new_sender in omega (arith, m, h)
 claim_counts (Some id) claims senders h = by (is_kept id claims)
   where
     by : (b : Bool) → length (claimed_senders senders (cond b (Some (Rattle.delivery.specs.Core.Claims.kept_sender id claims)) None))
         ≡ cond (not b) (begun_count claims + 1) (begun_count claims)
     by true = h
-    by false = let m = push_length senders new_sender in omega (arith, m, h)
+    by false = let m = length_push senders new_sender in omega (arith, m, h)
 
 claimed_stand : (w : World) (c : ℕ) (client : Option (List ℕ)) (claims : List Claim) → c < length w.connections → Stand w claims
     → Stand (connect_effect w c (claimed_sender client claims)) (record { connection = c; client = client } ∷ claims)
@@ -262,7 +263,7 @@ found_stand k c f left o effect i h = by_connect (is_connect f.command) refl
         ∙ (ap (λ (a : Action). run (option_to_list (frame_move k c a)) k.world) asks
         ∙ ap (λ (why : Option Objection). elim why [ None ↦ move_effect k.world mv | Some x ↦ k.world ]) free) in
         subst (λ w. Stand w (record { connection = c; client = client_of f } ∷ claims)) (sym world)
-        (claimed_stand k.world c (client_of f) claims (ltb-true c (length k.world.connections) (false_not _ (checked k.world mv free).0)) h)
+        (claimed_stand k.world c (client_of f) claims (ltb-true c (length k.world.connections) (not-false _ (checked k.world mv free).0)) h)
 
 -- ---- a step
 
@@ -308,15 +309,16 @@ step_stand k (Event.Decide c) rd o i h = run_stand (moves k (Event.Decide c) rd 
 step_stand k (Event.Take s) rd o i h = run_stand (moves k (Event.Take s) rd o) k.world (claims_of k.steps) (take_quiet s (is_no_memory o)) h
 step_stand k event rd o i h = run_stand (moves k event rd o) k.world (claims_of k.steps) refl h
 
-steps_are : (topics : TopicList) (capacity : ℕ) (steps : List CoreStep) → (core_of topics capacity steps).steps ≡ steps
-steps_are topics capacity [] = refl
-steps_are topics capacity (step ∷ older) = ap (λ (ss : List CoreStep). step ∷ ss) (steps_are topics capacity older)
+-- the steps of a core are those that led to it
+pub core_steps : (topics : TopicList) (capacity : ℕ) (steps : List CoreStep) → (core_of topics capacity steps).steps ≡ steps
+core_steps topics capacity [] = refl
+core_steps topics capacity (step ∷ older) = ap (λ (ss : List CoreStep). step ∷ ss) (core_steps topics capacity older)
 
 -- so it is in each run of the core
 pub claims_stand : (topics : TopicList) (capacity : ℕ) (steps : List CoreStep) → IsCoreRun topics capacity steps → Stand (core_of topics capacity steps).world (claims_of steps)
 claims_stand topics capacity [] r = record { begun = refl; spoken = λ c. refl }
 claims_stand topics capacity (step ∷ older) r =
-    let k = core_of topics capacity older in let is = steps_are topics capacity older in
+    let k = core_of topics capacity older in let is = core_steps topics capacity older in
     subst (λ (ss : List CoreStep). Stand (run (moves k step.event step.reading step.outcome) k.world) (claim_of step.event (cond (has_effect step.outcome) (frame_in step.reading) None) ++ claims_of ss)) is
     (step_stand k step.event step.reading step.outcome r.0.outcome (subst (λ (ss : List CoreStep). Stand k.world (claims_of ss)) (sym is) (claims_stand topics capacity older r.1)))
 
@@ -324,7 +326,7 @@ claims_stand topics capacity (step ∷ older) r =
 pub core_stands : (topics : TopicList) (capacity : ℕ) (steps : List CoreStep) → IsCoreRun topics capacity steps
     → Stand (core_of topics capacity steps).world (claims_of (core_of topics capacity steps).steps)
 core_stands topics capacity steps r =
-    subst (λ (ss : List CoreStep). Stand (core_of topics capacity steps).world (claims_of ss)) (sym (steps_are topics capacity steps)) (claims_stand topics capacity steps r)
+    subst (λ (ss : List CoreStep). Stand (core_of topics capacity steps).world (claims_of ss)) (sym (core_steps topics capacity steps)) (claims_stand topics capacity steps r)
 
 -- what a connection's claim gives it, as a number
 number_claimed : (c : ℕ) (claims : List Claim) → unwrap_or (sender_claimed c claims) 0 ≡ sender_of c claims

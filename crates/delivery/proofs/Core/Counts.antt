@@ -4,6 +4,7 @@ use Rattle.std.specs.Prelude.{codes}
 use Rattle.std.specs.List.{list_all}
 use Rattle.std.proofs.lemmas.Bool.{false≢true, and_parts}
 use Rattle.std.specs.Option.{option_map_or, option_to_list}
+use Rattle.std.proofs.lemmas.List.{length_push}
 use Rattle.mcast_txn.specs.declared.id.Topic.{Topic}
 use Rattle.mcast_txn.specs.declared.id.TxnId.{TxnId}
 use Rattle.mcast_txn.specs.declared.draft.sent_message.SentMessage.{SentMessage}
@@ -28,7 +29,7 @@ use Rattle.delivery.specs.Machine.Runs.{run}
 use Rattle.delivery.specs.Core.Steps.{CoreStep, Reading, frame_in, has_effect}
 use Rattle.delivery.specs.Core.Output.{is_cut}
 use Rattle.delivery.specs.Core.State.{Core, log_limit, core_after, core_for, core_of, moves, frame_move, names_at, session_at, topic_moves, is_faulted, is_no_memory, unread_at}
-use Rattle.delivery.proofs.Machine.SubscriptionSteps.{set_length, push_length}
+use Rattle.delivery.proofs.Machine.SubscriptionSteps.{set_length}
 use Rattle.delivery.specs.declared.refusal.Refusal.{Refusal}
 use Rattle.delivery.specs.declared.connection_fault.ConnectionFault.{ConnectionFault}
 use Rattle.delivery.specs.Theorem.Answers.{IsAnswer}
@@ -95,7 +96,7 @@ taken w s (Some item) = same w _ refl refl
 
 effect_grows : (w : World) (e : Move) → adds_none e ≡ true → Grown w (move_effect w e) (opened_by_move e)
 effect_grows w (AddsTopic clock) n = absurd (false≢true n)
-effect_grows w Opens n = record { topics = refl; connections = push_length w.connections _ ∙ omega arith }
+effect_grows w Opens n = record { topics = refl; connections = length_push w.connections _ ∙ omega arith }
 effect_grows w (Connects c claimed) n = same w _ refl (set_length w.connections c _)
 effect_grows w (Commits c sends) n = flown w c sends
 effect_grows w (Subscribes c t) n = same w _ (set_length w.topics t.0 _) refl
@@ -315,7 +316,7 @@ made_both : (a known : Bool) (names : List (List ℕ)) (name : List ℕ) (w : Wo
     → length (run (cond (a && not known) (AddsTopic 0 ∷ []) []) w).topics ≡ length (cond a (cond known names (names ++ name ∷ [])) names)
 made_both true true names name w h = h
 made_both true false names name w h =
-    let a = push_length w.topics (new_topic (record { 0 = length w.topics }) w.log_limit 0) in let b = push_length names name in omega (arith, a, b, h)
+    let a = length_push w.topics (new_topic (record { 0 = length w.topics }) w.log_limit 0) in let b = length_push names name in omega (arith, a, b, h)
 made_both false known names name w h = h
 
 -- there is a topic for each name once a frame's destination has one

@@ -1,7 +1,6 @@
 -- What every run of the core delivers: the laws of the machine's run, said of the account and of the report.
 use Rattle.std.proofs.Common.{◌≡◌, ℕ, zero, suc, ◌+◌, ◌<◌, ◌≤◌, inl, inr, List, [], ◌∷◌, ◌++◌, map, length, get_or, Option, Some, None, refl, sym, ap, subst, ◌∙◌, arith}
 use Rattle.std.specs.Prelude.{take, slice_get}
-use Rattle.std.specs.Option.{option_map}
 use Rattle.mcast_txn.specs.declared.id.Topic.{Topic}
 use Rattle.mcast_txn.specs.declared.stamp.Stamp.{Stamp}
 use Rattle.mcast_txn.specs.Stamp.{zero_stamp}
@@ -35,7 +34,7 @@ use Rattle.delivery.proofs.Theorem.SpansAsAnswered.{handing, spans_end_as_told, 
 use Rattle.delivery.proofs.Core.Said.{said, said_from, commits_said, delivered_said, beginning_said, released_log_said, released_frontier_said, begun_said, settled_said, silent_said}
 use Rattle.delivery.proofs.Core.Started.{EndsAtFrontier, begin_of, numbered, begun_is, asked_at_frontier}
 use Rattle.delivery.proofs.Core.AccountOfRun.{run_of, core_at, core_is, account_is}
-use Rattle.delivery.proofs.Core.LagsAsTold.{lag_as_told}
+use Rattle.delivery.proofs.Core.LagsAsTold.{lag_as_told, cause_by, end_by}
 use Rattle.delivery.proofs.Core.SaidParts.{said_append}
 use Rattle.delivery.proofs.Core.ToldEnds.{silent_at}
 use Rattle.delivery.proofs.Core.DeliveredAsTold.{EndsAt, take_given, delivered_told}
@@ -44,17 +43,6 @@ use Rattle.delivery.proofs.Core.ToldOfSteps.{told_is}
 use Rattle.mcast_group.proofs.Parts.{some_same, none_some}
 
 -- ---- numbered lists
-
--- what stands at a place of a numbered list
-pub each_at : {X Y : Type 0} (f : ℕ → Y) (i : ℕ) (xs : List X) (s : ℕ) (d : Y) → s < length xs → get_or (each_number f i xs) s d ≡ f (i + s)
-each_at f i [] s d l = absurd (omega arith)
-each_at f i (x ∷ xs) zero d l = ap f (omega arith)
-each_at f i (x ∷ xs) (suc s) d l = each_at f (i + 1) xs s d (omega arith) ∙ ap f (omega arith)
-
--- how long it is
-pub each_length : {X Y : Type 0} (f : ℕ → Y) (i : ℕ) (xs : List X) → length (each_number f i xs) ≡ length xs
-each_length f i [] = refl
-each_length f i (x ∷ xs) = ap suc (each_length f (i + 1) xs)
 
 -- what is found in it, and what stands in it
 each_got : {X Y : Type 0} (f : ℕ → Y) (i : ℕ) (xs : List X) (s : ℕ) (y : Y) → slice_get (each_number f i xs) s ≡ Some y → (s < length xs) × (f (i + s) ≡ y)
@@ -100,12 +88,6 @@ end_said s past to h =
           ∙ (sym (released_frontier_said (beginning_of s before).topic before)
           ∙ ap (λ (z : Beginning). released_frontier z.topic (said before)) (sym (beginning_said s before))),
     )
-
-abbrev cause_by : Option EntryEnd → Option Stamp → Option Cause
-cause_by closed lagged = elim closed [ None ↦ option_map (λ end. Lag) lagged | Some end ↦ Some end.cause ]
-
-abbrev end_by : Option EntryEnd → Option Stamp → Option Stamp
-end_by closed lagged = elim closed [ None ↦ lagged | Some end ↦ Some end.to ]
 
 -- what has a cause has an end, and what has none has none
 has_end : (closed : Option EntryEnd) (lagged : Option Stamp) (cause : Cause) → cause_by closed lagged ≡ Some cause → (end : Stamp) × (end_by closed lagged ≡ Some end)

@@ -10,9 +10,10 @@ use Rattle.delivery.specs.Core.Reports.{report_of, out_in}
 use Rattle.delivery.specs.Core.Answered.{RunsDeliverAnswers}
 use Rattle.delivery.specs.Core.Delivery.{RunsDeliver}
 use Rattle.delivery.proofs.Core.AccountOfRun.{run_of, core_at, core_is}
-use Rattle.delivery.proofs.Core.DeliversOfRun.{each_at, each_length, delivers, delivers_told}
+use Rattle.delivery.proofs.Core.DeliversOfRun.{delivers, delivers_told}
 use Rattle.delivery.proofs.Core.Counts.{counted}
 use Rattle.delivery.proofs.Core.FramesRead.{are_readings}
+use Rattle.delivery.proofs.Views.Lists.ByNumber.{get_or-each_number, length-each_number}
 
 -- the octets out of each connection are those that the steps say
 written : (topics : TopicList) (capacity : ℕ) (steps : List CoreStep) (c : ℕ) → c < length (report_of (core_of topics capacity steps)).outs
@@ -20,8 +21,8 @@ written : (topics : TopicList) (capacity : ℕ) (steps : List CoreStep) (c : ℕ
 written topics capacity steps =
     subst (λ (k : Core). (c : ℕ) → c < length (report_of k).outs → out_in (report_of k) c ≡ text_out topics.names c steps) (sym (core_is topics capacity steps))
     (λ c l. (let w = (core_at topics.names (run_of topics capacity steps) steps).world in
-    let m = each_length (λ n. text_out topics.names n steps) 0 w.connections in
-    each_at (λ n. text_out topics.names n steps) 0 w.connections c [] (omega arith) ∙ ap (λ n. text_out topics.names n steps) (omega arith)))
+    let m = length-each_number (λ n. text_out topics.names n steps) 0 w.connections in
+    get_or-each_number (λ n. text_out topics.names n steps) 0 w.connections c [] (omega arith) ∙ ap (λ n. text_out topics.names n steps) (omega arith)))
 
 -- every run of the core is delivered
 pub delivery : RunsDeliver
@@ -32,7 +33,7 @@ delivery topics capacity steps same run =
       written = record {
         are_read = are_readings topics capacity steps run;
         output = written topics capacity steps;
-        counts = (map_length (λ (x : TopicState). x.held) k.world.topics ∙ (n.0 ∙ ap (λ (z : List (List ℕ)). length z) names), each_length (λ c. text_out k.names c k.steps) 0 k.world.connections ∙ n.1);
+        counts = (map_length (λ (x : TopicState). x.held) k.world.topics ∙ (n.0 ∙ ap (λ (z : List (List ℕ)). length z) names), length-each_number (λ c. text_out k.names c k.steps) 0 k.world.connections ∙ n.1);
       };
     }
 

@@ -1,14 +1,14 @@
 -- What a run read of a connection are the first frames of its octets, by the grammar.
 use Rattle.std.proofs.Common.{◌≡◌, ℕ, ◌<◌, ◌==◌, Bool, true, false, cond, ◌&&◌, ◌⊎◌, inl, inr, true≢false, List, [], ◌∷◌, ◌++◌, length, Option, Some, None, refl, sym, ap, subst, ◌∙◌, append_assoc, append-nil, arith}
-use Rattle.std.proofs.lemmas.Bool.{eqb-true, ltb-true, false≢true, or_parts}
-use Rattle.std.proofs.lemmas.Grind.{flat_map-append}
-use Rattle.std.specs.List.{flat_map}
+use Rattle.std.proofs.lemmas.Bool.{eqb-true, ltb-true, false≢true, or_parts, not-false}
 use Rattle.std.specs.Option.{option_map_or, option_to_list, option_or}
 use Rattle.stomp_frame.specs.declared.limits.Limits.{Limits}
 use Rattle.stomp_frame.specs.declared.raw_frame.RawFrame.{RawFrame}
 use Rattle.stomp_frame.specs.declared.fault.Check.{Check}
-use Rattle.stomp_frame.specs.Grammar.{AreEols, BeginsWith, eol}
+use Rattle.stomp_frame.specs.Grammar.{AreEols, BeginsWith}
 use Rattle.stomp_frame.specs.Reader.{Unread, with_piece}
+use Rattle.stomp_frame.proofs.Pieces.{eols_before}
+use Rattle.stomp_frame.proofs.Whole.{keeps_first_frame}
 use Rattle.mcast_txn.specs.Checks.{first_refusal}
 use Rattle.mcast_txn.specs.Lists.{In}
 use Rattle.delivery.specs.Topics.{TopicList}
@@ -24,46 +24,34 @@ use Rattle.delivery.specs.Core.Steps.{CoreStep, Reading, frame_in, is_fed, is_ne
 use Rattle.delivery.specs.Core.State.{Core, core_of, moves, left_by, unread_after, unread_at, IsReadBy}
 use Rattle.delivery.specs.Core.Outcomes.{unless, fault_outcomes, reading_outcomes, outcomes, IsReadAt, IsCoreRun}
 use Rattle.mcast_txn.proofs.Members.{at_set_within}
+use Rattle.mcast_txn.proofs.CheckLemmas.{passes}
 use Rattle.delivery.proofs.Machine.SubscriptionSteps.{set_length}
-use Rattle.delivery.proofs.Machine.InvariantIsKept.{passes, false_not}
-use Rattle.delivery.proofs.Core.AccountOfRun.{in_option, refusal_some, world_moved, core_is}
+use Rattle.delivery.proofs.Machine.Effects.{made_world}
+use Rattle.delivery.proofs.Core.AccountOfRun.{in_option, refusal_some}
 use Rattle.delivery.proofs.Core.ReadingsShown.{ReadsUnless, all_shown}
 use Rattle.delivery.proofs.Core.Speaking.{open_in}
 use Rattle.delivery.proofs.Views.Endpoints.StandingOfConnection.{grown, stays_shut}
+use Rattle.delivery.proofs.Core.ClaimsStand.{core_steps}
 
 -- the text is these frames, end-of-lines between them, and then this, perhaps behind more end-of-lines
 abbrev Front : Limits → List ℕ → List RawFrame → List ℕ → Type 0
 Front limits text [] tail = (eols : List ℕ) × AreEols eols × (text ≡ eols ++ tail)
 Front limits text (f ∷ fs) tail = (others : List ℕ) × BeginsWith limits text f others × Front limits others fs tail
 
-are_eols_two : (a b : List ℕ) → AreEols a → AreEols b → AreEols (a ++ b)
-are_eols_two a b h k =
-    (h.0 ++ k.0, ap (λ (z : List ℕ). z ++ b) h.1 ∙ (ap (λ (z : List ℕ). flat_map eol h.0 ++ z) k.1 ∙ sym (flat_map-append eol h.0 k.0)))
-
 -- it begins with the frames
 front_begins : (limits : Limits) (text : List ℕ) (fs : List RawFrame) (tail : List ℕ) → Front limits text fs tail → BeginsWithFrames limits text fs
 front_begins limits text [] tail h = tt
 front_begins limits text (f ∷ fs) tail h = (h.0, h.1, front_begins limits h.0 fs tail h.2)
 
-begins_longer : (limits : Limits) (text : List ℕ) (f : RawFrame) (others more : List ℕ) → BeginsWith limits text f others → BeginsWith limits (text ++ more) f (others ++ more)
-begins_longer limits text f others more h = record {
-  eols = h.eols;
-  spelling = h.spelling;
-  are_eols = h.are_eols;
-  is_spelling = h.is_spelling;
-  parts = ap (λ (z : List ℕ). z ++ more) h.parts
-      ∙ (append_assoc h.eols (h.spelling ++ others) more ∙ ap (λ (z : List ℕ). h.eols ++ z) (append_assoc h.spelling others more));
-}
-
 -- more octets behind
 front_longer : (limits : Limits) (text : List ℕ) (fs : List RawFrame) (tail more : List ℕ) → Front limits text fs tail → Front limits (text ++ more) fs (tail ++ more)
 front_longer limits text [] tail more h = (h.0, h.1, ap (λ (z : List ℕ). z ++ more) h.2 ∙ append_assoc h.0 tail more)
-front_longer limits text (f ∷ fs) tail more h = (h.0 ++ more, begins_longer limits text f h.0 more h.1, front_longer limits h.0 fs tail more h.2)
+front_longer limits text (f ∷ fs) tail more h = (h.0 ++ more, keeps_first_frame limits text more f h.0 h.1, front_longer limits h.0 fs tail more h.2)
 
 -- end-of-lines that are left out
 front_shorter : (limits : Limits) (text : List ℕ) (fs : List RawFrame) (tail rest eols : List ℕ) → AreEols eols → tail ≡ eols ++ rest → Front limits text fs tail → Front limits text fs rest
 front_shorter limits text [] tail rest eols k e h =
-    (h.0 ++ eols, are_eols_two h.0 eols h.1 k, h.2 ∙ (ap (λ (z : List ℕ). h.0 ++ z) e ∙ sym (append_assoc h.0 eols rest)))
+    (h.0 ++ eols, eols_before h.0 eols h.1 k, h.2 ∙ (ap (λ (z : List ℕ). h.0 ++ z) e ∙ sym (append_assoc h.0 eols rest)))
 front_shorter limits text (f ∷ fs) tail rest eols k e h = (h.0, h.1, front_shorter limits h.0 fs tail rest eols k e h.2)
 
 -- one frame more
@@ -73,7 +61,7 @@ front_next limits text [] tail f others b h = (
   record {
     eols = h.0 ++ b.eols;
     spelling = b.spelling;
-    are_eols = are_eols_two h.0 b.eols h.1 b.are_eols;
+    are_eols = eols_before h.0 b.eols h.1 b.are_eols;
     is_spelling = b.is_spelling;
     parts = h.2 ∙ (ap (λ (z : List ℕ). h.0 ++ z) b.parts ∙ sym (append_assoc h.0 b.eols (b.spelling ++ others)));
   },
@@ -123,7 +111,7 @@ quiet k c ms piece e h =
 
 -- a connection that nothing stands against is open
 not_shut : (w : World) (c : ℕ) → first_refusal (needs_open w c) ≡ None → IsShut w c → Prim.⊥
-not_shut w c n h = true≢false (sym (false_not _ (passes (needs_open w c) n).1.1.0) ∙ h.1)
+not_shut w c n h = true≢false (sym (not-false _ (passes (needs_open w c) n).1.1.0) ∙ h.1)
 
 fed_open : (k : Core) (c : ℕ) (octets : List ℕ) (o : Outcome) (why : Option Objection) → first_refusal (needs_open k.world c) ≡ why
     → In o (unless why (Outcome.Fed ∷ Outcome.NoMemory ∷ [])) → is_fed o ≡ true → first_refusal (needs_open k.world c) ≡ None
@@ -162,13 +150,13 @@ piece_case k c d octets o ms true true e f i h =
 -- one that is read is of an open connection
 idle_open : (w : World) (c : ℕ) → first_refusal (needs_idle w c) ≡ None → IsShut w c → Prim.⊥
 idle_open w c n h =
-    true≢false (sym (false_not _ (or_parts _ _ (passes (needs_idle w c) n).1.1.0).0) ∙ h.1)
+    true≢false (sym (not-false _ (or_parts _ _ (passes (needs_idle w c) n).1.1.0).0) ∙ h.1)
 
 -- after an ERROR it isn't
 shut_by_error : (w : World) (c : ℕ) → first_refusal (needs_idle w c) ≡ None → IsShut (run (Errs c ∷ []) w) c
 shut_by_error w c n =
-    let l : c < length w.connections = ltb-true c (length w.connections) (false_not _ (passes (needs_idle w c) n).0) in
-    subst (λ v. IsShut v c) (sym (world_moved w (Errs c) (ap (λ (z : Option Objection). option_or z None) n))) (
+    let l : c < length w.connections = ltb-true c (length w.connections) (not-false _ (passes (needs_idle w c) n).0) in
+    subst (λ v. IsShut v c) (sym (made_world w (Errs c) (ap (λ (z : Option Objection). option_or z None) n))) (
       (let m = set_length w.connections c (record { sender = (connection_at w c).sender; standing = Standing.Leaving }) in omega arith),
       at_set_within (λ (z : Connection). is_reading z.standing ≡ false) w.connections c c _ nobody l (λ j. refl) (λ ne. absurd (ne refl)),
     )
@@ -249,9 +237,6 @@ step_read k c (Event.Next d) rd o r i h =
     subst (λ z. ReadsAfter k c z (cond (d == c) (option_to_list (frame_in rd)) []) (cond (d == c) (left_by (unread_at c k.steps) rd) (unread_at c k.steps)) (run (moves k (Event.Next d) rd o) k.world))
     (sym (same_branch (is_fed o) [])) (next_of k c d rd o (d == c) refl r i h)
 step_read k c event rd o r i h = quiet k c (moves k event rd o) (cond (is_fed o) [] []) (same_branch (is_fed o) []) h
-
-pub core_steps : (topics : TopicList) (capacity : ℕ) (steps : List CoreStep) → (core_of topics capacity steps).steps ≡ steps
-core_steps topics capacity steps = ap (λ (k : Core). k.steps) (core_is topics capacity steps)
 
 reads_all : (topics : TopicList) (capacity : ℕ) (steps : List CoreStep) → IsCoreRun topics capacity steps → (c : ℕ) → ReadsAt (core_of topics capacity steps) c
 reads_all topics capacity [] is_run c = (refl, inl (refl, ([], ([], refl), refl)))

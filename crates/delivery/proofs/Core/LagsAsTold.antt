@@ -1,14 +1,15 @@
 -- A span that lagged ends at the last item of its queue, which was full as a row came that its topic's log has above the end.
 use Rattle.std.proofs.Common.{◌≡◌, ℕ, ◌+◌, ◌<◌, ◌⊎◌, Bool, true, false, not, inl, inr, List, [], ◌∷◌, ◌++◌, length, Option, Some, None, refl, sym, ap, subst, ◌∙◌, arith, append-nil}
-use Rattle.std.proofs.lemmas.Bool.{true≢false, not-true, and_parts, and_from}
+use Rattle.std.proofs.lemmas.Bool.{true≢false, not-true, and_parts, and_from, cases_lt}
 use Rattle.std.specs.Option.{option_map}
 use Rattle.mcast_txn.specs.declared.id.Topic.{Topic}
 use Rattle.mcast_txn.specs.declared.stamp.Stamp.{Stamp}
 use Rattle.mcast_txn.specs.Lists.{In, Rises}
 use Rattle.mcast_txn.specs.Span.{LogRow, Item, last_stamp, row_stamp, item_stamp, up_to}
 use Rattle.mcast_txn.specs.Stamp.{zero_stamp, stamp_lt}
-use Rattle.mcast_txn.proofs.Members.{In-append_left}
+use Rattle.mcast_txn.proofs.Members.{In-append_left, In-append_right}
 use Rattle.mcast_txn.proofs.Orders.{lt_irrefl, lt_asym, lt_le, le_trans, same_stamps, zero_least}
+use Rattle.mcast_txn.proofs.Sorting.{Rises-back, Rises-front}
 use Rattle.mcast_group.specs.declared.cause.Cause.{Cause}
 use Rattle.mcast_group.specs.declared.cause.Cause.TheVariants.{Asked, Lag}
 use Rattle.mcast_group.specs.Machine.{EntryEnd}
@@ -33,7 +34,7 @@ use Rattle.delivery.proofs.Theorem.ClosedAsAnswered.{closed_as_told, closed_stay
 use Rattle.delivery.proofs.Theorem.EndsAreAnswered.{ends_are_told}
 use Rattle.delivery.proofs.Theorem.LagsEndBeforeRow.{lags_end_before_row}
 use Rattle.delivery.proofs.Theorem.QueuesGrow.{queues_grow}
-use Rattle.delivery.proofs.Theorem.SpansAsAnswered.{known, end_there, within, ends_stay}
+use Rattle.delivery.proofs.Theorem.SpansAsAnswered.{known, end_there, ends_stay}
 use Rattle.delivery.proofs.Core.ByRun.{by_run}
 use Rattle.delivery.proofs.Core.AtNext.{at_next}
 use Rattle.delivery.proofs.Core.Said.{said, is_said, released_frontier_said, delivered_said}
@@ -41,10 +42,6 @@ use Rattle.delivery.proofs.Core.SaidParts.{said_append, said_kept, unsaid_same}
 use Rattle.delivery.proofs.Core.Started.{frontier_of}
 
 -- ---- rising lists
-
-in_right : {X : Type 0} (x : X) (xs ys : List X) → In x ys → In x (xs ++ ys)
-in_right x [] ys k = k
-in_right x (y ∷ xs) ys k = inr (in_right x xs ys k)
 
 -- items up to an end, one of which is at it if the span isn't empty: the last is
 last_item : (from end : Stamp) (xs : List Item) → Rises item_stamp xs → ((i : Item) → In i xs → stamp_lt from i.stamp ≡ true)
@@ -62,7 +59,7 @@ none_after : (from end : Stamp) (xs more : List Item) → Rises item_stamp (xs +
 none_after from end [] [] rises above past e = refl
 none_after from end [] (m ∷ ms) rises above past e =
     absurd (true≢false (sym (above m (inl refl)) ∙ (ap (λ z. stamp_lt z m.stamp) (sym e) ∙ past m (inl refl))))
-none_after from end (x ∷ xs) more rises above past e = none_after x.stamp end xs more rises.1 (λ i k. rises.0 i (in_right i xs more k)) past e
+none_after from end (x ∷ xs) more rises above past e = none_after x.stamp end xs more rises.1 (λ i k. rises.0 i (In-append_right i xs more k)) past e
 
 last_row : (base : Stamp) (xs : List LogRow) → (last_stamp base xs ≡ base) ⊎ ((r : LogRow) × In r xs × (r.stamp ≡ last_stamp base xs))
 last_row base [] = inl refl
@@ -71,7 +68,7 @@ last_row base (x ∷ xs) = elim (last_row x.stamp xs) [ inl e ↦ inr (x, inl re
 last_below : (base : Stamp) (xs others : List LogRow) (row : LogRow) → Rises row_stamp (xs ++ row ∷ others) → stamp_lt base row.stamp ≡ true
     → stamp_lt (last_stamp base xs) row.stamp ≡ true
 last_below base [] others row rises l = l
-last_below base (x ∷ xs) others row rises l = last_below x.stamp xs others row rises.1 (rises.0 row (in_right row xs (row ∷ others) (inl refl)))
+last_below base (x ∷ xs) others row rises l = last_below x.stamp xs others row rises.1 (rises.0 row (In-append_right row xs (row ∷ others) (inl refl)))
 
 last_reaches : (base : Stamp) (xs : List LogRow) → ((r : LogRow) → In r xs → stamp_lt base r.stamp ≡ true) → Rises row_stamp xs
     → stamp_lt (last_stamp base xs) base ≡ false
@@ -89,14 +86,6 @@ last_grows : (base : Stamp) (xs ys : List LogRow) → ((r : LogRow) → In r (xs
 last_grows base [] ys above rises = last_reaches base ys above rises
 last_grows base (x ∷ xs) ys above rises = last_grows x.stamp xs ys rises.0 rises.1
 
-rises_front : (xs ys : List LogRow) → Rises row_stamp (xs ++ ys) → Rises row_stamp xs
-rises_front [] ys rises = tt
-rises_front (x ∷ xs) ys rises = ((λ y k. rises.0 y (In-append_left y xs ys k)), rises_front xs ys rises.1)
-
-rises_back : (xs ys : List LogRow) → Rises row_stamp (xs ++ ys) → Rises row_stamp ys
-rises_back [] ys rises = rises
-rises_back (x ∷ xs) ys rises = rises_back xs ys rises.1
-
 -- an end before a row that was added to a log: at or above the last stamp before, below the last one then, and a row's own or zero
 record Between (before later : List LogRow) (end : Stamp) : Type 0 where
   reached : stamp_lt end (last_stamp zero_stamp before) ≡ false
@@ -109,12 +98,12 @@ between before later end h rises above =
     let xs = before ++ h.rows in let ys = h.row ∷ h.others in
     let all : Rises row_stamp (xs ++ ys) = subst (λ z. Rises row_stamp z) h.log_is rises in
     let over : (r : LogRow) → In r (xs ++ ys) → stamp_lt zero_stamp r.stamp ≡ true = λ r k. above r (subst (λ z. In r z) (sym h.log_is) k) in
-    let rest = rises_back xs ys all in
+    let rest = Rises-back row_stamp xs ys all in
     let below : stamp_lt end h.row.stamp ≡ true =
-    subst (λ z. stamp_lt z h.row.stamp ≡ true) (sym h.end_is) (last_below zero_stamp xs h.others h.row all (over h.row (in_right h.row xs ys (inl refl)))) in
+    subst (λ z. stamp_lt z h.row.stamp ≡ true) (sym h.end_is) (last_below zero_stamp xs h.others h.row all (over h.row (In-append_right h.row xs ys (inl refl)))) in
     record {
       reached = subst (λ z. stamp_lt z (last_stamp zero_stamp before) ≡ false) (sym h.end_is)
-          (last_grows zero_stamp before h.rows (λ r k. over r (In-append_left r xs ys k)) (rises_front xs ys all));
+          (last_grows zero_stamp before h.rows (λ r k. over r (In-append_left r xs ys k)) (Rises-front row_stamp xs ys all));
       passed = subst (λ z. stamp_lt end z ≡ true) (sym (ap (last_stamp zero_stamp) h.log_is ∙ last_split zero_stamp xs h.others h.row))
           (lt_le end h.row.stamp (last_stamp h.row.stamp h.others) below (last_reaches h.row.stamp h.others rest.0 rest.1));
       at_row = elim (last_row zero_stamp xs) [
@@ -143,9 +132,11 @@ queue_last base frontier held from end accepted q le at =
 
 -- ---- a span's cause
 
-abbrev cause_by : Option EntryEnd → Option Stamp → Option Cause
+-- by its closed subscription's end, or where it lagged
+abbrev pub cause_by : Option EntryEnd → Option Stamp → Option Cause
 cause_by closed lagged = elim closed [ None ↦ option_map (λ end. Lag) lagged | Some end ↦ Some end.cause ]
 
+-- and its end
 abbrev pub end_by : Option EntryEnd → Option Stamp → Option Stamp
 end_by closed lagged = elim closed [ None ↦ lagged | Some end ↦ Some end.to ]
 
@@ -188,7 +179,7 @@ lag_stays capacity more s o past q p end same topic from items h = record {
 -- a subscription whose span has an end after an event, if it had none or one before, is an old one
 pub old_one : (r : Run) (e : Move) (s : ℕ) (end : Stamp) → end_at (world_after (final_world r) e) s ≡ Some end → s < length (final_world r).subscriptions
 old_one r e s end some =
-    let w = final_world r in let h = reached r in elim (within s (length w.subscriptions)) [
+    let w = final_world r in let h = reached r in elim (cases_lt s (length w.subscriptions)) [
       | inl l ↦ l
       | inr l ↦ none_some end (sym ((step_tells (answers_of r) w e h).fresh s l (end_there (answer_to w e ∷ answers_of r) (world_after w e) s end (step_reached (answers_of r) w e h) some)).0 ∙ some)
     ]
@@ -256,7 +247,7 @@ lag_case r e h s end (Some old) was cause some =
     let q = queue_then r e s end some in
     let span : (i : Item) → In i more → (stamp_lt (subscription_at w s).from i.stamp ≡ true) × (not (stamp_lt end i.stamp) ≡ true) =
     λ i k. and_parts (stamp_lt (subscription_at w s).from i.stamp) (not (stamp_lt end i.stamp))
-    (q.within i (subst (λ z. In i z) (sym grown.1) (in_right i (accepted_at w s) more k))) in
+    (q.within i (subst (λ z. In i z) (sym grown.1) (In-append_right i (accepted_at w s) more k))) in
     let none : more ≡ [] =
     none_after (subscription_at w s).from end (accepted_at w s) more (subst (λ z. Rises item_stamp z) grown.1 q.rises) (λ i k. (span i k).0)
     (λ i k. not-true (stamp_lt end i.stamp) (span i k).1) before.last in

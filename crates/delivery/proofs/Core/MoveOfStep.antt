@@ -21,7 +21,7 @@ use Rattle.delivery.specs.declared.outcome.Outcome.{Outcome}
 use Rattle.delivery.specs.declared.connection_fault.ConnectionFault.{ConnectionFault}
 use Rattle.delivery.specs.Machine.Objections.{Objection, refusal_of}
 use Rattle.delivery.specs.Machine.World.{World, topic_at}
-use Rattle.delivery.specs.Machine.Moves.{Move, Answer, needs_open, needs_idle, move_refusal, move_effect, answer_to, world_after, commit_answer, end_now}
+use Rattle.delivery.specs.Machine.Moves.{Move, Answer, needs_open, needs_idle, move_refusal, answer_to, world_after, commit_answer, end_now}
 use Rattle.delivery.specs.Machine.Moves.Move.{AddsTopic, Opens, Connects, Commits, Subscribes, Unsubscribes, Disconnects, Errs, Lost, Leaves, Proposes, Decides, Withdraws, Cancels, Learns, Releases, Turns, Takes}
 use Rattle.delivery.specs.Machine.Runs.{run}
 use Rattle.delivery.specs.Theorem.Laws.{move_topic}
@@ -30,6 +30,7 @@ use Rattle.delivery.specs.Core.Output.{is_cut}
 use Rattle.delivery.specs.Core.State.{Core, core_for, names_at, session_at, frame_move, is_faulted, is_no_memory, is_out_of_memory, moves, unread_at}
 use Rattle.delivery.specs.Core.Outcomes.{outcome_of, move_outcome, unless, frame_no_memory, frame_fault, fault_outcomes, frame_outcome, reading_outcomes, cut_of, outcomes, accepted_outcomes, is_any, wants_memory, claim_fault}
 use Rattle.delivery.specs.Core.Stepped.{event_topic}
+use Rattle.delivery.proofs.Machine.Effects.{same_world}
 use Rattle.delivery.proofs.Machine.SenderSteps.{In-append_cases}
 use Rattle.delivery.proofs.Core.AccountOfRun.{in_option, refusal_some, replied, same_memory, was_wanted}
 use Rattle.delivery.proofs.Core.ReadingsShown.{effect_of}
@@ -140,10 +141,6 @@ remembered _ o e = ap is_no_memory (sym (some_same _ o e))
 alone : (k : Core) (e : Event) (rd : Reading) (o : Outcome) (mv : Move) → IsMoveOf e mv → move_topic k.world mv ≡ event_topic k e rd
     → world_then k e rd o ≡ world_after k.world mv → outcome_of (answer_to k.world mv) ≡ Some o → Comes k e rd o
 alone k e rd o mv own topic world is = inr (inr (inl (record { move = mv; own = own; topic = topic; world = world; base = o; is = is; cut = inl refl })))
-
--- a move that is refused leaves the world
-pub refused_after : (w : World) (mv : Move) (why : Objection) → move_refusal w mv ≡ Some why → world_after w mv ≡ w
-refused_after w mv why n = ap (λ (o : Option Objection). elim o [ None ↦ move_effect w mv | Some why ↦ w ]) n
 
 -- ---- a Next
 
@@ -317,7 +314,7 @@ taken_comes k s rd o None n i = elim (In-append_cases o (move_outcome k (Takes s
 ]
 taken_comes k s rd o (Some why) n i =
     let r = refusal_some (refusal_of why) o (in_option o _ i) in
-    subst (Comes k (Event.Take s) rd) r.is (inl (refused_after k.world (Takes s) why n, refl))
+    subst (Comes k (Event.Take s) rd) r.is (inl (same_world k.world (Takes s) why n, refl))
 
 -- an outcome, cut or not
 either : {Q : Type 0} (b o : Outcome) → (b ≡ o) ⊎ ((cut_of b ≡ o) × Q) → (b ≡ o) ⊎ (cut_of b ≡ o)

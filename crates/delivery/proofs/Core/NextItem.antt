@@ -33,14 +33,8 @@ filter_same p q (x ∷ xs) h =
 
 bound_last : (a b c d : Bool) → (a && (b && c) && d) ≡ ((a && (b && true) && d) && c)
 bound_last true true true true = refl
-bound_last true true true false = refl
 bound_last true true false true = refl
-bound_last true true false false = refl
-bound_last true false true true = refl
-bound_last true false true false = refl
-bound_last true false false true = refl
-bound_last true false false false = refl
-bound_last false b c d = refl
+bound_last _ _ _ _ = refl
 
 -- what is in a front of a list is at the same place in the list
 in_front : {X : Type 0} (n i : ℕ) (xs : List X) (x : X) → slice_get (take n xs) i ≡ Some x → slice_get xs i ≡ Some x

@@ -26,8 +26,9 @@ use Rattle.delivery.specs.Machine.Moves.Move.{Connects, Commits, Subscribes, Uns
 use Rattle.delivery.specs.Core.Steps.{CoreStep, Reading, frame_in, has_frame, says_frame, reads_as_said, shows_reading, number_by}
 use Rattle.delivery.specs.Core.State.{Core, core_of, IsReadBy, unread_at, session_at, frame_move, core_for}
 use Rattle.delivery.specs.Core.Outcomes.{outcome_of, move_outcome, unless, frame_no_memory, frame_fault, fault_outcomes, frame_outcome, reading_outcomes, outcomes, IsReadAt, IsCoreRun, accepted_outcomes, is_any, wants_memory, claim_fault}
+use Rattle.delivery.proofs.Machine.Effects.{made_answer}
 use Rattle.delivery.proofs.Machine.SenderSteps.{In-append_cases}
-use Rattle.delivery.proofs.Core.AccountOfRun.{in_option, refusal_some, answer_is, was_wanted}
+use Rattle.delivery.proofs.Core.AccountOfRun.{in_option, refusal_some, was_wanted}
 use Rattle.delivery.specs.Core.Claims.{claims_of, claimed_sender, is_one_too_many}
 use Rattle.delivery.proofs.Core.ClaimsStand.{unobjected}
 
@@ -63,7 +64,7 @@ committed_said w c (first ∷ others) o d = ap says_frame (sym (some_same _ o d)
 
 -- an outcome of a move that isn't refused is its answer's
 pub effect_of : (w : World) (mv : Move) (o : Outcome) → move_refusal w mv ≡ None → In o (option_to_list (outcome_of (answer_to w mv))) → outcome_of (move_answer w mv) ≡ Some o
-effect_of w mv o n i = ap outcome_of (sym (answer_is w mv n)) ∙ in_option o _ i
+effect_of w mv o n i = ap outcome_of (sym (made_answer w mv n)) ∙ in_option o _ i
 
 -- the outcome of an accepted frame says that it was read
 accepted_said : (k : Core) (w : World) (c : ℕ) (action : Action) (o : Outcome) → option_and_then (λ mv. move_refusal w mv) (frame_move k c action) ≡ None

@@ -76,12 +76,8 @@ zero_added : (es fs : List Move) → AreZero (added_clocks es) → AreZero (adde
 zero_added es fs h g = subst AreZero (sym (added_append es fs)) (zero_append (added_clocks es) (added_clocks fs) h g)
 
 zero_by_action : (k : Core) (c : ℕ) (action : Action) → AreZero (added_clocks (option_to_list (frame_move k c action)))
-zero_by_action k c (actions.Connected client) i = refl
 zero_by_action k c actions.Nothing i = refl
-zero_by_action k c (actions.Subscribe id t) i = refl
-zero_by_action k c (actions.Unsubscribe id) i = refl
-zero_by_action k c (actions.Commit sends) i = refl
-zero_by_action k c actions.Disconnect i = refl
+zero_by_action k c _ i = refl
 
 zero_if : (b : Bool) (es fs : List Move) → AreZero (added_clocks es) → AreZero (added_clocks fs) → AreZero (added_clocks (if b then es else fs))
 zero_if true es fs h g = h

@@ -1,7 +1,8 @@
 -- What every run keeps of connections and their senders: a sender's number of transactions, whose its undecided
 -- transaction and its leftover tickets are, and that a connection which isn't open was closed.
 use Rattle.std.proofs.Common.{◌≡◌, ℕ, ◌+◌, ◌<◌, ◌==◌, Bool, true, false, cond, ◌||◌, inl, inr, List, [], ◌∷◌, ◌++◌, map, length, get_or, set, Option, Some, None, refl, sym, ap, subst, ◌∙◌, true≢false, arith}
-use Rattle.std.proofs.lemmas.Bool.{eqb-true, eq-eqb, or_parts}
+use Rattle.std.proofs.lemmas.Bool.{eqb-true, eq-eqb, or_parts, or_right, not-false}
+use Rattle.std.proofs.lemmas.List.{length_push}
 use Rattle.mcast_txn.specs.declared.id.Topic.{Topic}
 use Rattle.mcast_txn.specs.declared.id.TxnId.{TxnId}
 use Rattle.mcast_txn.specs.declared.draft.sent_message.SentMessage.{SentMessage}
@@ -22,8 +23,8 @@ use Rattle.delivery.specs.Theorem.Settled.{closes}
 use Rattle.delivery.specs.Core.Output.{has_closed}
 use Rattle.delivery.proofs.Machine.Invariant.{sender_in}
 use Rattle.delivery.proofs.Machine.SenderSteps.{In-append_cases, In-drop}
-use Rattle.delivery.proofs.Machine.SubscriptionSteps.{at_push, at_end, at_push_two, push_length, set_length}
-use Rattle.delivery.proofs.Machine.InvariantIsKept.{by_refusal, checked, false_not, in_flight}
+use Rattle.delivery.proofs.Machine.SubscriptionSteps.{at_push, at_end, at_push_two, set_length}
+use Rattle.delivery.proofs.Machine.InvariantIsKept.{by_refusal, checked, in_flight}
 use Rattle.delivery.proofs.Theorem.SendersAreOwn.{Speaks, effect_speaks, start_speaks, flying_speaks, speaks, reading_there}
 use Rattle.delivery.proofs.Machine.Speakers.{has_speaker, claim_free}
 use Rattle.delivery.proofs.Core.Tests.{connection_there}
@@ -87,10 +88,6 @@ stood past senders connections c x n t h = record {
       (h.shut d (let m : length (set connections c x) ≡ length connections = set_length connections c x in omega arith));
 }
 
-or_true : (a b : Bool) → b ≡ true → (a || b) ≡ true
-or_true true b e = refl
-or_true false b e = e
-
 -- another answer than a new transaction
 noted : (past : List Answer) (senders : List SenderState) (connections : List Connection) (o : Answer) → ((s : ℕ) → txn_count s (o ∷ past) ≡ txn_count s past)
     → Speaking past senders connections → Speaking (o ∷ past) senders connections
@@ -98,7 +95,7 @@ noted past senders connections o a h = record {
   seqs = λ s. h.seqs s ∙ sym (a s);
   flying = h.flying;
   left = h.left;
-  shut = λ c l e. or_true (closes c o) (has_closed c past) (h.shut c l e);
+  shut = λ c l e. or_right (closes c o) (has_closed c past) (h.shut c l e);
 }
 
 closed_now : (c : ℕ) (past : List Answer) → ((c == c) || has_closed c past) ≡ true
@@ -175,7 +172,7 @@ taken past w s (Some item) h = noted past w.senders w.connections (take_answer w
 opened : (past : List Answer) (w : World) → Speaking past w.senders w.connections → Speaking (move_answer w Opens ∷ past) w.senders (move_effect w Opens).connections
 opened past w h =
     let new : Connection = record { sender = None; standing = Standing.Open } in
-    let n = push_length w.connections new in
+    let n = length_push w.connections new in
     noted past w.senders (move_effect w Opens).connections (Opened (length w.connections)) (λ s. refl) (record {
       seqs = h.seqs;
       flying = h.flying;
@@ -251,8 +248,8 @@ happens past w (AddsTopic clock) p h e = noted past w.senders w.connections Done
 happens past w Opens p h e = opened past w h
 happens past w (Connects c claimed) p h e = noted past _ _ Done (λ s. refl) (connected past w c claimed (claim_free w c claimed e) p h)
 happens past w (Commits c sends) p h e =
-    let k = checked w (Commits c sends) e in let own = has_speaker w c (false_not _ k.1.1.1.0) in
-    flown past w c sends (p.there c (speaker_number w c) own) own (false_not _ (or_parts _ _ k.1.1.0).0) h
+    let k = checked w (Commits c sends) e in let own = has_speaker w c (not-false _ k.1.1.1.0) in
+    flown past w c sends (p.there c (speaker_number w c) own) own (not-false _ (or_parts _ _ k.1.1.0).0) h
 happens past w (Subscribes c t) p h e = noted past w.senders w.connections _ (λ s. refl) h
 happens past w (Unsubscribes c s) p h e = noted past _ _ (move_answer w (Unsubscribes c s)) (λ s. refl) (closed past w s (entry_at w s) h)
 happens past w (Disconnects c) p h e = leaving past w c _ (λ s. refl) (closed_now c past) h

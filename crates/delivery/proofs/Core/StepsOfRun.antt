@@ -6,12 +6,10 @@ use Rattle.std.specs.Prelude.{reverse}
 use Rattle.std.specs.Option.{option_map}
 use Rattle.stomp_frame.specs.declared.raw_frame.RawFrame.{RawFrame}
 use Rattle.stomp_frame.specs.declared.fault.Check.{Check}
-use Rattle.stomp_frame.specs.declared.fault.Check.TheVariants as checks
-use Rattle.stomp_frame.specs.declared.fault.FrameFault.{FrameFault}
-use Rattle.stomp_frame.specs.declared.fault.FrameFault.TheVariants as faults
 use Rattle.stomp_frame.specs.Faults.{fault_of}
 use Rattle.stomp_frame.specs.Reader.{Unread, ReadsNext}
 use Rattle.stomp_frame.specs.Inner.Parser.{Halt, after_eols, frame_at}
+use Rattle.stomp_frame.proofs.Pieces.{fault_of-only}
 use Rattle.stomp_frame.proofs.Whole.{answers_frame, answers_none, answers_fault, one_answer}
 use Rattle.mcast_txn.specs.Checks.{first_refusal}
 use Rattle.mcast_txn.specs.Lists.{In}
@@ -45,27 +43,6 @@ reported Objection.HasSender r e = none_some r e
 reported Objection.InUse r e = none_some r e
 reported Objection.SeqFull r e = none_some r e
 reported _ r e = ap (λ (q : Refusal). reads_nothing (Outcome.Refused q)) (sym (some_same _ r e))
-
--- the check of a fault that `next` returns
-abbrev check_of : FrameFault → Option Check
-check_of faults.BadCommand = Some checks.BadCommand
-check_of faults.BadLine = Some checks.BadLine
-check_of faults.BadHeader = Some checks.BadHeader
-check_of faults.BadEscape = Some checks.BadEscape
-check_of faults.BadText = Some checks.BadText
-check_of faults.BadLength = Some checks.BadLength
-check_of faults.BadEnd = Some checks.BadEnd
-check_of faults.LineTooLong = Some checks.LineTooLong
-check_of faults.TooManyHeaders = Some checks.TooManyHeaders
-check_of faults.BodyTooLong = Some checks.BodyTooLong
-check_of faults.NoMemory = None
-
-check_of-fault_of : (k : Check) → check_of (fault_of k) ≡ Some k
-check_of-fault_of checks.BadCommand = refl
-check_of-fault_of _ = refl
-
-fault_of-only : (j k : Check) → fault_of j ≡ fault_of k → j ≡ k
-fault_of-only j k e = some_same j k (sym (check_of-fault_of j) ∙ (ap check_of e ∙ check_of-fault_of k))
 
 -- ---- what a reader gives
 

@@ -3,8 +3,8 @@ use Rattle.std.proofs.Common.{◌≡◌, ◌≢◌, ℕ, zero, suc, ◌+◌, ◌
 use Rattle.std.specs.Prelude.{slice_get}
 use Rattle.std.specs.List.{list_all, find}
 use Rattle.std.specs.Option.{option_map, option_to_list, unwrap_or}
-use Rattle.std.proofs.lemmas.Bool.{true≢false, false≢true, and_parts, ltb-true}
-use Rattle.std.proofs.lemmas.List.{get_or_past}
+use Rattle.std.proofs.lemmas.Bool.{true≢false, false≢true, and_parts, ltb-true, not-false, cases_lt}
+use Rattle.std.proofs.lemmas.List.{get_or_past, length_push}
 use Rattle.mcast_txn.specs.declared.id.Topic.{Topic}
 use Rattle.mcast_txn.specs.declared.id.TxnId.{TxnId}
 use Rattle.mcast_txn.specs.declared.draft.sent_message.SentMessage.{SentMessage}
@@ -37,16 +37,16 @@ use Rattle.delivery.specs.Core.Output.{is_cut}
 use Rattle.delivery.specs.Core.State.{Core, core_of, core_after, is_faulted, is_no_memory}
 use Rattle.delivery.specs.Core.Outcomes.{outcome_of, cut_of}
 use Rattle.delivery.specs.Core.Stepped
-use Rattle.delivery.specs.Core.Stepped.{event_topic, GivesTicket, GivesStamp, DeliversNext, LagsFull, HasStepped, IsNewTopic}
+use Rattle.delivery.specs.Core.Stepped.{event_topic, GivesTicket, GivesStamp, DeliversNext, LagsFull, IsNewTopic}
 use Rattle.delivery.specs.Inner.Stands.{IsReached}
 use Rattle.delivery.proofs.Machine.Invariant.{topic_in}
-use Rattle.delivery.proofs.Machine.InvariantIsKept.{by_refusal, checked, false_not, in_flight, asks_of, Asks}
+use Rattle.delivery.proofs.Machine.InvariantIsKept.{by_refusal, checked, in_flight, asks_of, Asks}
 use Rattle.delivery.proofs.Theorem.MovesAreAnswered.{events_are_answered}
 use Rattle.delivery.proofs.Theorem.StepLaws.{refusals_change_nothing, others_untouched, ticket_is_own}
 use Rattle.delivery.proofs.Theorem.EndsAreAnswered.{ends_are_told}
 use Rattle.delivery.proofs.Theorem.LagsEndBeforeRow.{lags_end_before_row}
 use Rattle.delivery.proofs.Theorem.RowsEnter.{AllEnter, Enters, rows_enter}
-use Rattle.delivery.proofs.Theorem.SpansAsAnswered.{known, handing, within, ends_stay, spans_end_as_told}
+use Rattle.delivery.proofs.Theorem.SpansAsAnswered.{known, handing, ends_stay, spans_end_as_told}
 use Rattle.delivery.proofs.Core.AccountOfRun.{refusal_some}
 use Rattle.delivery.proofs.Core.ClaimsStand.{core_stands}
 use Rattle.delivery.proofs.Core.AtNext.{at_next}
@@ -55,7 +55,7 @@ use Rattle.delivery.proofs.Core.MoveOfStep.{IsMoveOf, is_of_frame, is_plain, wor
 use Rattle.delivery.proofs.Views.Runs.ByRunOfCore.{machine_run, world_of, by_world}
 use Rattle.delivery.proofs.Core.ByRun.{longer, run_append}
 use Rattle.delivery.proofs.Core.Counts.{adds_none, step_adds_none, topics_counted}
-use Rattle.delivery.proofs.Machine.SubscriptionSteps.{at_push_two, push_length}
+use Rattle.delivery.proofs.Machine.SubscriptionSteps.{at_push_two}
 use Rattle.delivery.proofs.Views.Senders.TicketsOfTopics.{given, tickets_are}
 
 -- ---- outcomes and answers
@@ -217,7 +217,7 @@ others_stay k e rd o t l ne (inr (inr (inr (inl h)))) =
 others_stay k e rd o t l ne (inr (inr (inr (inr h)))) =
     let w = k.world in
     let first : topic_at (with_topic w) t ≡ topic_at w t = others_untouched w (AddsTopic 0) t l (λ d. none_some t d) in
-    let there : t.0 < length (with_topic w).topics = (let n = push_length w.topics (new_topic (record { 0 = length w.topics }) w.log_limit 0) in omega (arith, n, l)) in
+    let there : t.0 < length (with_topic w).topics = (let n = length_push w.topics (new_topic (record { 0 = length w.topics }) w.log_limit 0) in omega (arith, n, l)) in
     elim h.then [
       | inl (is, plain) ↦ ap (λ (z : World). topic_at z t) is ∙ first
       | inr (mv, own, topic, is, came) ↦
@@ -306,10 +306,10 @@ stamp_given : (k : Core) (c : ℕ) (stamp : Stamp) → IsReached k → move_refu
     → GivesStamp k.world (decide_effect k.world c) c stamp
 stamp_given k c stamp reached n is =
     let w = k.world in let s = speaker_number w c in let f = undecided_at w c in
-    let tests = checked w (Decides c) n in
-    let flying = in_flight w c tests.1.1.0 in
+    let passed = checked w (Decides c) n in
+    let flying = in_flight w c passed.1.1.0 in
     let flight : (sender_at w s).flight ≡ Some f = flying.is ∙ ap (λ (z : Undecided). Some z) (sym flying.at) in
-    let complete : is_complete f ≡ true = false_not (is_complete f) tests.1.1.1.1.0 in
+    let complete : is_complete f ≡ true = not-false (is_complete f) passed.1.1.1.1.0 in
     let y : SenderState = record (speaker w c) { floor = greatest f.given; flight = None } in record {
       of_each = ap (map (λ (a : Stamp). a.topic)) (sym (tickets_are k s f reached flight)) ∙ topics_given (topics_of f.txn.sends) f.given complete;
       is_greatest = is;
@@ -379,7 +379,7 @@ item_after : (w : World) (s : ℕ) (item : Item) (count : ℕ) → slice_get (ac
     → answer_to w (Takes s) ≡ Answer.Handed s item → DeliversNext w (world_after w (Takes s)) s count
 item_after w s item count is sends =
     by_refusal (λ v a. a ≡ Answer.Handed s item → DeliversNext w v s count) w (Takes s) (λ why a. cc)
-    (λ n a. item_given w s item count (slice_get (accepted_at w s) (subscription_at w s).taken) is sends (ltb-true s (length w.subscriptions) (false_not _ (checked w (Takes s) n).0)) is)
+    (λ n a. item_given w s item count (slice_get (accepted_at w s) (subscription_at w s).taken) is sends (ltb-true s (length w.subscriptions) (not-false _ (checked w (Takes s) n).0)) is)
 
 abbrev Delivered : Core → Event → World → ℕ → Type 0
 Delivered k e v count = (s : ℕ) × (e ≡ Event.Take s) × DeliversNext k.world v s count
@@ -419,7 +419,7 @@ lag_answer w mv t s end by a = elim (subst (IsAnswer w mv) a (events_are_answere
 
 -- as many items were delivered as were taken
 taken_is : (r : Run) (s : ℕ) → length (delivered_items s (answers_of r)) ≡ (subscription_at (final_world r) s).taken
-taken_is r s = elim (within s (length (final_world r).subscriptions)) [
+taken_is r s = elim (cases_lt s (length (final_world r).subscriptions)) [
   | inl l ↦ sym ((handing r).held s l).count
   | inr l ↦ ap (λ (items : List Item). length items) ((handing r).fresh s l) ∙ sym (ap (λ (x : Subscription). x.taken) (get_or_past (final_world r).subscriptions s no_subscription l))
 ]
@@ -606,7 +606,7 @@ IsNew w t = IsNewTopic (topic_at w t)
 made_new : (w : World) (t : Topic) → length w.topics ≤ t.0 → t.0 < length (with_topic w).topics → IsNew (with_topic w) t
 made_new w t low high =
     at_push_two IsNewTopic w.topics t.0 (new_topic (record { 0 = length w.topics }) w.log_limit 0) (new_topic t 0 0)
-    (λ e. (refl, refl, refl, refl)) (λ ne. absurd (ne (let n = push_length w.topics (new_topic (record { 0 = length w.topics }) w.log_limit 0) in omega (arith, n, low, high))))
+    (λ e. (refl, refl, refl, refl)) (λ ne. absurd (ne (let n = length_push w.topics (new_topic (record { 0 = length w.topics }) w.log_limit 0) in omega (arith, n, low, high))))
 
 closed_new : (w : World) (s : ℕ) (o : Option Entry) (t : Topic) → IsNew w t → IsNew (close_effect_of w s o) t
 closed_new w s None t h = h
@@ -638,16 +638,7 @@ own_adds : (e : Event) (mv : Move) → IsMoveOf e mv → adds_none mv ≡ true
 own_adds (Event.Piece c octets) mv own = absurd own
 own_adds (Event.Next c) mv own = frame_adds mv own
 own_adds (Event.Propose c t) mv (memory, own) = ap adds_none own
-own_adds Event.Open mv own = ap adds_none own
-own_adds (Event.Decide c) mv own = ap adds_none own
-own_adds (Event.Withdraw c) mv own = ap adds_none own
-own_adds (Event.Cancel c t) mv own = ap adds_none own
-own_adds (Event.Learn t id) mv own = ap adds_none own
-own_adds (Event.Release t) mv own = ap adds_none own
-own_adds (Event.Turn t) mv own = ap adds_none own
-own_adds (Event.Take s) mv own = ap adds_none own
-own_adds (Event.Leave c) mv own = ap adds_none own
-own_adds (Event.Lost c) mv own = ap adds_none own
+own_adds _ mv own = ap adds_none own
 
 -- where there are as many topics, none was made
 none_made : (w v u : World) (t : Topic) → v ≡ u → length u.topics ≡ length w.topics → length w.topics ≤ t.0 → t.0 < length v.topics → IsNew v t

@@ -1,9 +1,8 @@
--- What the tests of a move that isn't refused say.
+-- What the refusals of a move say, where none of them holds.
 use Rattle.std.proofs.Common.{◌≡◌, ℕ, ◌<◌, not, false, length, ltb}
-use Rattle.std.proofs.lemmas.Bool.{ltb-true}
+use Rattle.std.proofs.lemmas.Bool.{ltb-true, not-false}
 use Rattle.delivery.specs.Machine.World.{World}
-use Rattle.delivery.proofs.Machine.InvariantIsKept.{false_not}
 
 -- its connection is there
 pub connection_there : (w : World) (c : ℕ) → not (ltb c (length w.connections)) ≡ false → c < length w.connections
-connection_there w c e = ltb-true c (length w.connections) (false_not (ltb c (length w.connections)) e)
+connection_there w c e = ltb-true c (length w.connections) (not-false (ltb c (length w.connections)) e)

@@ -76,15 +76,9 @@ step_told names older past (Event.Take s) read (Outcome.Faulted fault cut) h =
     record { same = ap (λ (k : ℕ). Told.Closed k ∷ tell past) (owner_told s past); last = h }
 step_told names older past Event.Open read (Outcome.Opened c) h = record { same = refl; last = h }
 step_told names older past (Event.Next c) read (Outcome.Faulted fault cut) h = record { same = refl; last = h }
-step_told names older past (Event.Next c) (Some f) (Outcome.Subscribed s from) h = record { same = refl; last = h }
-step_told names older past (Event.Next c) (Some f) (Outcome.Unsubscribed s to) h = record { same = refl; last = h }
-step_told names older past (Event.Next c) (Some f) Outcome.Leaving h = record { same = refl; last = h }
-step_told names older past (Event.Propose c t) read (Outcome.Failed why) h = record { same = refl; last = h }
 step_told names older past (Event.Learn t id) read Outcome.Learnt h = record { same = refl; last = h }
 step_told names older past (Event.Release t) read (Outcome.Released id) h = record { same = refl; last = h }
 step_told names older past (Event.Turn t) read (Outcome.Turned count) h = record { same = refl; last = h }
-step_told names older past (Event.Take s) read (Outcome.Handed n) h = record { same = refl; last = h }
-step_told names older past (Event.Leave c) read (Outcome.Unsubscribed s to) h = record { same = refl; last = h }
 step_told names older past (Event.Leave c) read (Outcome.Gone cut) h = record { same = refl; last = h }
 step_told names older past (Event.Lost c) read Outcome.Leaving h = record { same = refl; last = h }
 step_told names older past e read o h = record { same = refl; last = h }

@@ -8,13 +8,13 @@ use Rattle.mcast_txn.specs.Lists.{In}
 use Rattle.mcast_txn.specs.declared.id.TxnId.{TxnId}
 use Rattle.mcast_txn.specs.declared.stamp.Stamp.{Stamp}
 use Rattle.mcast_txn.proofs.Orders.{id_equal, id_same}
-use Rattle.mcast_txn.proofs.Members.{In-append_left, In-push}
+use Rattle.mcast_txn.proofs.Members.{In-append_left, In-push, not_head}
 use Rattle.mcast_txn.proofs.Greatest.{is_greatest}
 use Rattle.delivery.specs.Machine.Moves.{Answer}
 use Rattle.delivery.specs.Machine.Moves.Answer.{Begun, Ticket, Decided}
 use Rattle.delivery.specs.Machine.Runs.{txn_of_id, commits_of, tickets_of}
 use Rattle.delivery.specs.Theorem.Laws
-use Rattle.delivery.specs.Theorem.Laws.{Run, answers_of, final_world}
+use Rattle.delivery.specs.Theorem.Laws.{answers_of, final_world}
 use Rattle.delivery.proofs.Machine.Invariant.{row}
 use Rattle.delivery.proofs.Machine.InvariantIsKept.{tickets}
 use Rattle.delivery.proofs.Theorem.AcceptedIsDue.{reached}
@@ -92,16 +92,11 @@ decided_case id i stamp s past ih (inl d) = record {
 decided_case id i stamp s past ih (inr k) =
     let h = ih k in record { it = h.it; stands = In-append_left h.it (commits_of past) (row (txn_of_id i past) s ∷ []) h.stands; id_is = h.id_is; stamp_is = h.stamp_is }
 
--- what isn't the head stands behind it
-behind : {X : Type 0} (x y : X) (xs : List X) → (y ≡ x → Prim.⊥) → In x (y ∷ xs) → In x xs
-behind x y xs ne (inl e) = absurd (ne e)
-behind x y xs ne (inr k) = k
-
 -- a transaction that was decided is in the commit list, with its stamp
 pub commit_of : (id : TxnId) (stamp : Stamp) (past : List Answer) → In (Decided id stamp) past → CommitOf id stamp (commits_of past)
 commit_of id stamp [] k = absurd k
 commit_of id stamp (Decided i s ∷ past) k = decided_case id i stamp s past (commit_of id stamp past) k
-commit_of id stamp (o ∷ past) k = commit_of id stamp past (behind (Decided id stamp) _ past (λ e. cc) k)
+commit_of id stamp (o ∷ past) k = commit_of id stamp past (not_head (Decided id stamp) _ past (λ e. cc) k)
 
 -- a decided transaction's stamp is the greatest of its tickets
 pub stamp_is_greatest : Laws.StampIsGreatest

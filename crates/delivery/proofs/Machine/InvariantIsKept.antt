@@ -3,7 +3,7 @@ use Rattle.std.specs.Option.{option_or}
 use Rattle.std.specs.Option.{option_map}
 use Rattle.std.proofs.Common.{◌≡◌, ℕ, ◌+◌, ◌<◌, ◌≤◌, Bool, true, false, cond, not, inl, inr, List, [], ◌∷◌, ◌++◌, length, set, Option, Some, None, refl, sym, ap, subst, ◌∙◌, arith}
 use Rattle.std.specs.Option.{is_some}
-use Rattle.std.proofs.lemmas.Bool.{true≢false, and_parts, ltb-true}
+use Rattle.std.proofs.lemmas.Bool.{true≢false, and_parts, ltb-true, not-false}
 use Rattle.mcast_txn.specs.Stamp.{greatest}
 use Rattle.mcast_txn.specs.Part.{part_at}
 use Rattle.mcast_txn.specs.Transaction.{topics_of}
@@ -21,11 +21,12 @@ use Rattle.mcast_group.specs.declared.fault.ProposeFault.{ProposeFault}
 use Rattle.mcast_group.specs.declared.fault.LearnFault.{LearnFault}
 use Rattle.mcast_txn.specs.Checks.{first_refusal}
 use Rattle.mcast_txn.specs.Span.{Item}
+use Rattle.mcast_txn.proofs.CheckLemmas.{NoneHolds, passes}
 use Rattle.mcast_group.specs.Machine.{Pending, Entry, propose_refusals, propose_fault, is_pending, after_learn, due_part, after_release, after_turn, decided_stamp}
 use Rattle.mcast_group.proofs.Parts.{some_same, none_some, not_true}
 use Rattle.delivery.specs.Machine.Objections.{Objection}
 use Rattle.delivery.specs.Machine.World.{World, Undecided, Leftover, SenderState, topic_at, new_sender, speaker, entry_at, speaker_number}
-use Rattle.delivery.specs.Machine.Moves.{Move, Answer, world_after, answer_to, move_refusal, move_effect, move_answer, undecided_at, undecided_or_none, find_leftover, find_verdict, verdict_in, oldest_live, has_ticket, next_txn, next_ticket, connect_effect, commit_effect, commit_answer, proposal_fault, propose_effect, propose_answer, decide_effect, withdraw_effect, cancel_effect, cancel_answer, learn_effect, learn_objection, release_answer, queue_has_room, take_effect, take_answer, leave_effect, leave_answer, close_effect, close_effect_of, or_out_of_memory, learn_objection_of, is_topic, objections, topic_objection}
+use Rattle.delivery.specs.Machine.Moves.{Move, Answer, world_after, answer_to, move_refusal, move_effect, move_answer, undecided_at, undecided_or_none, find_leftover, find_verdict, verdict_in, oldest_live, has_ticket, next_txn, next_ticket, connect_effect, commit_effect, commit_answer, proposal_fault, propose_effect, propose_answer, decide_effect, withdraw_effect, cancel_effect, cancel_answer, learn_effect, learn_objection, release_answer, queue_has_room, take_effect, take_answer, leave_effect, leave_answer, close_effect, close_effect_of, or_out_of_memory, learn_objection_of, is_topic, move_refusals, topic_objection}
 use Rattle.delivery.specs.Machine.Moves.Move.{AddsTopic, Opens, Connects, Commits, Subscribes, Unsubscribes, Disconnects, Errs, Lost, Leaves, Proposes, Decides, Withdraws, Cancels, Learns, Releases, Turns, Takes}
 use Rattle.delivery.specs.Machine.Moves.Answer.{Refused, Done, Begun, Ticket}
 use Rattle.delivery.specs.Machine.Runs.{txn_of_id, commits_of}
@@ -36,20 +37,6 @@ use Rattle.delivery.proofs.Machine.SenderSteps.{flown_step, marked_step, decide_
 use Rattle.delivery.proofs.Machine.SubscriptionSteps.{subscribe_step, end_step, take_step, added_step, opened_step, at_push}
 
 -- ---- refusals
-
--- none of these holds
-abbrev pub NoneHolds : {F : Type 0} → List (Bool × F) → Type 0
-NoneHolds [] = Unit {0}
-NoneHolds (c ∷ cs) = (c.0 ≡ false) × NoneHolds cs
-
-passes_case : {F : Type 0} (b : Bool) (f : F) (rest : Option F) (P : Type 0) → (rest ≡ None → P) → cond b (Some f) rest ≡ None → (b ≡ false) × P
-passes_case true f rest P ih e = none_some f (sym e)
-passes_case false f rest P ih e = (refl, ih e)
-
--- where there is no refusal, none of its tests holds
-pub passes : {F : Type 0} (cs : List (Bool × F)) → first_refusal cs ≡ None → NoneHolds cs
-passes [] e = tt
-passes (c ∷ cs) e = passes_case c.0 c.1 (first_refusal cs) (NoneHolds cs) (passes cs) e
 
 -- an event is refused and nothing is changed, or it isn't
 refusal_case : (P : World → Answer → Type 0) (w : World) (e : Move) (o : Option Objection) → ((why : Objection) → P w (Refused why)) → (o ≡ None → P (move_effect w e) (move_answer w e)) → P (elim o [ None ↦ move_effect w e | Some why ↦ w ]) (elim o [ None ↦ move_answer w e | Some why ↦ Refused why ])
@@ -70,8 +57,8 @@ or_else_after None b e = e
 or_else_after (Some why) b e = none_some why (sym e)
 
 -- what an event that isn't refused says
-pub checked : (w : World) (e : Move) → move_refusal w e ≡ None → NoneHolds (objections w e)
-checked w e h = passes (objections w e) (or_else_first (first_refusal (objections w e)) (topic_objection w e) h)
+pub checked : (w : World) (e : Move) → move_refusal w e ≡ None → NoneHolds (move_refusals w e)
+checked w e h = passes (move_refusals w e) (or_else_first (first_refusal (move_refusals w e)) (topic_objection w e) h)
 
 -- the flight of an event that wants one
 pub record InFlight (w : World) (c : ℕ) : Type 0 where
@@ -86,11 +73,6 @@ flight_case w c (Some f) e h = record { flight = f; is = e; at = ap undecided_or
 -- where the test for a flight passes, the connection's sender has an undecided transaction
 pub in_flight : (w : World) (c : ℕ) → not (is_some (speaker w c).flight) ≡ false → InFlight w c
 in_flight w c h = flight_case w c (speaker w c).flight refl h
-
--- a bool whose negation is false is true
-pub false_not : (b : Bool) → not b ≡ false → b ≡ true
-false_not true e = refl
-false_not false e = absurd (true≢false e)
 
 -- ---- tickets of a past
 
@@ -213,7 +195,7 @@ pub record Room (w : World) (c : ℕ) (t : Topic) : Type 0 where
 room_of : (w : World) (c : ℕ) (t : Topic) → propose_fault (speaker w c).floor (part_at (undecided_at w c).txn.id (undecided_at w c).txn.sends t) (topic_at w t) ≡ None → Room w c t
 room_of w c t e =
     let p = passes (propose_refusals (speaker w c).floor (part_at (undecided_at w c).txn.id (undecided_at w c).txn.sends t) (topic_at w t)) e in
-    record { apart = p.0; limit = ltb-true (length (topic_at w t).pending + length (topic_at w t).held) (topic_at w t).log_limit (false_not _ p.1.1.0) }
+    record { apart = p.0; limit = ltb-true (length (topic_at w t).pending + length (topic_at w t).held) (topic_at w t).log_limit (not-false _ p.1.1.0) }
 
 -- where a proposal has no fault, its transaction isn't pending at the topic, whose log has room
 pub no_fault : (w : World) (c : ℕ) (t : Topic) (memory : Bool) (o : Option ProposeFault) → propose_fault (speaker w c).floor (part_at (undecided_at w c).txn.id (undecided_at w c).txn.sends t) (topic_at w t) ≡ o → or_out_of_memory memory o ≡ None → Room w c t
@@ -231,7 +213,7 @@ pub record Asks (w : World) (c : ℕ) (t : Topic) : Type 0 where
 pub asks_of : (w : World) (c : ℕ) (t : Topic) (memory : Bool) → move_refusal w (Proposes c t memory) ≡ None → Asks w c t
 asks_of w c t memory e =
     let p = checked w (Proposes c t memory) e in
-    let n = and_parts (is_topic w t) (names t (topics_of (undecided_at w c).txn.sends)) (false_not _ p.1.1.1.1.0) in
+    let n = and_parts (is_topic w t) (names t (topics_of (undecided_at w c).txn.sends)) (not-false _ p.1.1.1.1.0) in
     record { flying = in_flight w c p.1.1.0; room = ltb-true t.0 (length w.topics) n.0; named = n.1; unheard = p.1.1.1.1.1.0 }
 
 -- so a proposal without a fault gets a new ticket
@@ -266,7 +248,7 @@ decided_reached : (past : List Answer) (w : World) (c : ℕ) → Reached past w 
 decided_reached past w c h e =
     let p = checked w (Decides c) e in let fl = in_flight w c p.1.1.0 in
     let s = speaker_number w c in let f = undecided_at w c in let k = fl.is ∙ ap Some (sym fl.at) in record {
-      inv = decide_step (tickets past) w s f h.inv (record { flight = k; complete = false_not _ p.1.1.1.1.0 });
+      inv = decide_step (tickets past) w s f h.inv (record { flight = k; complete = not-false _ p.1.1.1.1.0 });
       flights = flights_fewer past w.senders _ (one_fewer w.senders s _ refl) h.flights;
       commits = ap (λ (z : List CommitRow). z ++ row (txn_of_id f.txn.id past) (greatest f.given) ∷ []) h.commits
           ∙ ap (λ (z : Transaction). w.commits ++ row z (greatest f.given) ∷ []) (h.flights s f k);
@@ -302,14 +284,15 @@ learned_case past w t id h (Some v) f e =
     topic_step (tickets past) w t (after_learn id (decided_stamp v) (topic_at w t)) h.inv
     (Keeps-learned (tickets past) w.commits t (topic_at w t) id v (h.inv.tied t) (no_learn_fault _ e) (finds (tickets past) w h.inv id v f))
 
-learned_same : (w : World) (t : Topic) (id : TxnId) (o : Option Decision) → ((learn_effect w t id o).senders ≡ w.senders) × ((learn_effect w t id o).commits ≡ w.commits)
+-- a learn leaves the senders and the commit list
+pub learned_same : (w : World) (t : Topic) (id : TxnId) (o : Option Decision) → ((learn_effect w t id o).senders ≡ w.senders) × ((learn_effect w t id o).commits ≡ w.commits)
 learned_same w t id None = (refl, refl)
 learned_same w t id (Some v) = (refl, refl)
 
 learned_reached : (past : List Answer) (w : World) (t : Topic) (id : TxnId) → Reached past w → move_refusal w (Learns t id) ≡ None → Reached past (move_effect w (Learns t id))
 learned_reached past w t id h e =
     let o = find_verdict id w.verdicts in let same = learned_same w t id o in record {
-      inv = learned_case past w t id h o refl (or_else_after (first_refusal (objections w (Learns t id))) (learn_objection w t id o) e);
+      inv = learned_case past w t id h o refl (or_else_after (first_refusal (move_refusals w (Learns t id))) (learn_objection w t id o) e);
       flights = subst (λ z. Flights past z) (sym same.0) h.flights;
       commits = h.commits ∙ sym same.1;
     }
@@ -358,7 +341,7 @@ happens_reached past w (Commits c sends) h e = flown_reached past w c sends h
 happens_reached past w (Subscribes c t) h e =
     let p = checked w (Subscribes c t) e in
     record {
-      inv = subscribe_step (tickets past) w c t h.inv (ltb-true t.0 (length w.topics) (false_not _ p.1.1.1.0));
+      inv = subscribe_step (tickets past) w c t h.inv (ltb-true t.0 (length w.topics) (not-false _ p.1.1.1.0));
       flights = h.flights;
       commits = h.commits;
     }

@@ -5,16 +5,12 @@ use Rattle.mcast_txn.specs.Agreed.{Transaction}
 use Rattle.mcast_txn.specs.Ids.{same_id}
 use Rattle.mcast_txn.specs.Lists.{In}
 use Rattle.mcast_txn.specs.declared.id.TxnId.{TxnId}
+use Rattle.mcast_txn.proofs.Members.{not_head}
 use Rattle.mcast_txn.proofs.Orders.{id_equal, id_itself}
 use Rattle.mcast_group.proofs.Parts.{not_true}
 use Rattle.delivery.specs.Machine.Moves.{Answer}
 use Rattle.delivery.specs.Machine.Moves.Answer.{Begun}
 use Rattle.delivery.specs.Machine.Runs.{txn_of_id, txn_count, Numbered}
-
--- what isn't the head is behind it
-pub not_head : {X : Type 0} (x y : X) (xs : List X) → (y ≡ x → Prim.⊥) → In x (y ∷ xs) → In x xs
-not_head x y xs ne (inl e) = absurd (ne e)
-not_head x y xs ne (inr k) = k
 
 more_made : (n : ℕ) (b : Bool) → n ≤ cond b (n + 1) n
 more_made n true = omega arith

@@ -1,5 +1,5 @@
 -- A ticket is given.
-use Rattle.std.proofs.Common.{◌≡◌, ◌≢◌, ℕ, ◌+◌, ◌<◌, ◌≤◌, ◌==◌, Bool, true, false, cond, ◌⊎◌, inl, inr, List, [], ◌∷◌, length, set, Some, None, refl, sym, ap, subst, ◌∙◌, arith, ltb}
+use Rattle.std.proofs.Common.{◌≡◌, ◌≢◌, ℕ, ◌+◌, ◌<◌, ◌≤◌, ◌==◌, Bool, true, false, cond, inl, inr, List, [], ◌∷◌, length, set, Some, None, refl, sym, ap, subst, ◌∙◌, arith, ltb}
 use Rattle.std.proofs.lemmas.Bool.{true≢false, eq-eqb, cases_lt}
 use Rattle.std.proofs.lemmas.List.{get_or_past}
 use Rattle.mcast_txn.specs.Stamp.{stamp_lt}
@@ -14,9 +14,10 @@ use Rattle.mcast_txn.specs.declared.id.Topic.{Topic}
 use Rattle.mcast_txn.specs.declared.id.TxnId.{TxnId}
 use Rattle.mcast_txn.specs.declared.stamp.Stamp.{Stamp}
 use Rattle.mcast_txn.proofs.Orders.{lt_by_number, id_equal, id_same, id_turned, same_topics}
+use Rattle.mcast_txn.proofs.Inserting.{In-insert, In-insert_cases, insert_one}
 use Rattle.mcast_txn.proofs.Members.{any_from, at_set_within}
 use Rattle.mcast_group.specs.Machine.{TopicState, Pending, new_topic, is_pending, next_number, after_propose}
-use Rattle.mcast_group.proofs.Parts.{Waits, In-insert, insert_one, some_same, none_some}
+use Rattle.mcast_group.proofs.Parts.{Waits, some_same, none_some}
 use Rattle.mcast_group.proofs.Keeping.{Sound-proposed}
 use Rattle.delivery.specs.Machine.World.{World, Undecided, Leftover, SenderState, new_sender}
 use Rattle.delivery.specs.Machine.Moves.{has_ticket, insert_ticket}
@@ -39,35 +40,10 @@ cons_two P xs v old left right new x y i j =
 
 -- ---- tickets by rising topic
 
-insert_case : (g a b : Stamp) (bs : List Stamp) (c : Bool) → (In g (insert_ticket a bs) → (a ≡ g) ⊎ In g bs) → In g (cond c (a ∷ b ∷ bs) (b ∷ insert_ticket a bs)) → (a ≡ g) ⊎ In g (b ∷ bs)
-insert_case g a b bs true ih (inl e) = inl e
-insert_case g a b bs true ih (inr h) = inr h
-insert_case g a b bs false ih (inl e) = inr (inl e)
-insert_case g a b bs false ih (inr h) = elim (ih h) [ inl e ↦ inl e | inr k ↦ inr (inr k) ]
-
--- what is among the tickets after an insertion was there before, or is the new one
-pub In-ticket_cases : (g a : Stamp) (bs : List Stamp) → In g (insert_ticket a bs) → (a ≡ g) ⊎ In g bs
-In-ticket_cases g a [] (inl e) = inl e
-In-ticket_cases g a [] (inr h) = absurd h
-In-ticket_cases g a (b ∷ bs) h = insert_case g a b bs (ltb a.topic.0 b.topic.0) (In-ticket_cases g a bs) h
-
-insert_put : (g a b : Stamp) (bs : List Stamp) (c : Bool) → ((a ≡ g) ⊎ In g bs → In g (insert_ticket a bs)) → (a ≡ g) ⊎ In g (b ∷ bs) → In g (cond c (a ∷ b ∷ bs) (b ∷ insert_ticket a bs))
-insert_put g a b bs true ih (inl e) = inl e
-insert_put g a b bs true ih (inr h) = inr h
-insert_put g a b bs false ih (inl e) = inr (ih (inl e))
-insert_put g a b bs false ih (inr (inl e)) = inl e
-insert_put g a b bs false ih (inr (inr h)) = inr (ih (inr h))
-
--- the ticket that is inserted, and each that was there, is among the tickets after it
-pub In-ticket : (g a : Stamp) (bs : List Stamp) → (a ≡ g) ⊎ In g bs → In g (insert_ticket a bs)
-In-ticket g a [] (inl e) = inl e
-In-ticket g a [] (inr h) = absurd h
-In-ticket g a (b ∷ bs) h = insert_put g a b bs (ltb a.topic.0 b.topic.0) (In-ticket g a bs) h
-
 one_case : (a b : Stamp) (bs : List Stamp) (c : Bool) → ((g : Stamp) → In g (b ∷ bs) → a.topic.0 ≢ g.topic.0) → OneEach (b ∷ bs) → OneEach (insert_ticket a bs) → OneEach (cond c (a ∷ b ∷ bs) (b ∷ insert_ticket a bs))
 one_case a b bs true ne h ih = (ne, h)
 one_case a b bs false ne h ih =
-    ((λ g i. elim (In-ticket_cases g a bs i) [ inl e ↦ (λ d. ne b (inl refl) (ap (λ (z : Stamp). z.topic.0) e ∙ sym d)) | inr k ↦ h.0 g k ]), ih)
+    ((λ g i. elim (In-insert_cases _ g a bs i) [ inl e ↦ (λ d. ne b (inl refl) (ap (λ (z : Stamp). z.topic.0) e ∙ sym d)) | inr k ↦ h.0 g k ]), ih)
 
 -- no two tickets are of one topic after another topic's is inserted
 pub OneEach-insert : (a : Stamp) (bs : List Stamp) → ((g : Stamp) → In g bs → a.topic.0 ≢ g.topic.0) → OneEach bs → OneEach (insert_ticket a bs)
@@ -154,13 +130,13 @@ Tied-here ts w s t f inv new =
       topic = h.topic;
       given = cons_one (λ (b : CommitRow). b.stamp.topic ≡ t → b.stamp.n ≤ number w s t) ts a
           (λ b k e. let l : b.stamp.n ≤ x.clock = h.given b k e in omega arith) (λ e. omega arith);
-      ticketed = insert_one (λ (q : Pending). Ticketed (a ∷ ts) q.part q.number) x.pending p
+      ticketed = insert_one _ (λ (q : Pending). Ticketed (a ∷ ts) q.part q.number) x.pending p
           (λ q k. Ticketed-more ts a q.part q.number (h.ticketed q k))
           (record { ticket = a; stands = inl refl; part_is = refl; stamp_is = refl; named = new.named });
-      decided = insert_one (λ (q : Pending). (z : Stamp) → q.learnt ≡ Some z → Committed w.commits q.part.id z) x.pending p h.decided
+      decided = insert_one _ (λ (q : Pending). (z : Stamp) → q.learnt ≡ Some z → Committed w.commits q.part.id z) x.pending p h.decided
           (λ z e. none_some z e);
       logged = h.logged;
-      placed = λ r k e. elim (h.placed r k e) [ inl i ↦ inl i | inr v ↦ inr (record { part = v.part; stands = In-insert v.part p x.pending (inr v.stands); is = v.is }) ];
+      placed = λ r k e. elim (h.placed r k e) [ inl i ↦ inl i | inr v ↦ inr (record { part = v.part; stands = In-insert _ v.part p x.pending (inr v.stands); is = v.is }) ];
       items = h.items;
       undrained = h.undrained;
       sound = Sound-proposed (sender_in w.senders s).floor (part_at f.txn.id f.txn.sends t) x h.sound (sym h.topic) new.apart new.limit;
@@ -184,7 +160,7 @@ Tied-there ts cs u x a ne h = record {
 pub waits_kept : (w : World) (s : ℕ) (t : Topic) (f : Undecided) (id : TxnId) (u : Topic) → Waits id (topic_in w.topics u).pending → Waits id (topic_in (set w.topics t.0 (topic_after w s t f)) u).pending
 waits_kept w s t f id u v =
     at_topic_from (λ y z. Waits id z.pending) w.topics t u (topic_after w s t f)
-    (λ h. record { part = h.part; stands = In-insert h.part _ (topic_in w.topics t).pending (inr h.stands); is = h.is }) v
+    (λ h. record { part = h.part; stands = In-insert _ h.part _ (topic_in w.topics t).pending (inr h.stands); is = h.is }) v
 
 -- a sender that has a flight is in the list
 pub within_senders : (senders : List SenderState) (s : ℕ) (f : Undecided) → (sender_in senders s).flight ≡ Some f → s < length senders
@@ -216,17 +192,17 @@ Serves-here ts w s t f inv new =
         same = cons_one (λ (b : CommitRow). same_id b.txn.id f.txn.id ≡ true → b.txn ≡ f.txn) ts a g.same (λ i. refl);
         higher = cons_one (λ (b : CommitRow). b.txn ≡ f.txn → stamp_lt x.floor b.stamp ≡ true) ts a g.higher
             (λ i. lt_by_number x.floor a.stamp (omega arith));
-        given_in = λ z i. elim (In-ticket_cases z (ticket w s t) f.given i) [ inl e ↦ inl (ap (row f.txn) e) | inr k ↦ inr (g.given_in z k) ];
+        given_in = λ z i. elim (In-insert_cases _ z (ticket w s t) f.given i) [ inl e ↦ inl (ap (row f.txn) e) | inr k ↦ inr (g.given_in z k) ];
         given_all = cons_one (λ (b : CommitRow). b.txn ≡ f.txn → In b.stamp (insert_ticket (ticket w s t) f.given)) ts a
-            (λ b k e. In-ticket b.stamp (ticket w s t) f.given (inr (g.given_all b k e)))
-            (λ e. In-ticket a.stamp (ticket w s t) f.given (inl refl));
+            (λ b k e. In-insert _ b.stamp (ticket w s t) f.given (inr (g.given_all b k e)))
+            (λ e. In-insert _ a.stamp (ticket w s t) f.given (inl refl));
         given_apart = OneEach-insert (ticket w s t) f.given (not_given t f.given new.unheard) g.given_apart;
         waits = cons_one (λ (b : CommitRow). b.txn ≡ f.txn → Waits f.txn.id (topic_in topics b.stamp.topic).pending) ts a
             (λ b k i. waits_kept w s t f f.txn.id b.stamp.topic (g.waits b k i))
             (λ i. at_set_within (λ (z : TopicState). Waits f.txn.id z.pending) w.topics t.0 t.0 (topic_after w s t f) (new_topic t 0 0) new.room
             (λ j. record {
               part = record { part = part_at f.txn.id f.txn.sends t; number = number w s t; learnt = None };
-              stands = In-insert _ _ (topic_in w.topics t).pending (inl refl);
+              stands = In-insert _ _ _ (topic_in w.topics t).pending (inl refl);
               is = refl;
             })
             (λ ne. absurd (ne refl)));

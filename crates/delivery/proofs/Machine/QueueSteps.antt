@@ -1,18 +1,16 @@
 -- How a topic's step moves the end and the queue of its subscriptions.
 use Rattle.std.proofs.Common.{◌≡◌, ℕ, zero, suc, ◌+◌, ◌-◌, ◌<◌, ◌≤◌, ◌==◌, Bool, true, false, cond, List, [], ◌∷◌, ◌++◌, map, length, Option, Some, None, refl, sym, ap, subst, ◌∙◌, arith}
 use Rattle.std.proofs.lemmas.Bool.{eqb-true, ltb-true, true≢false, lt-ltb}
-use Rattle.mcast_txn.specs.Ballot.{Decision}
-use Rattle.mcast_txn.specs.declared.id.TxnId.{TxnId}
+use Rattle.std.proofs.lemmas.List.{length_push}
 use Rattle.mcast_txn.specs.declared.stamp.Stamp.{Stamp}
-use Rattle.mcast_group.specs.declared.fault.LearnFault.{LearnFault}
 use Rattle.mcast_txn.specs.Span.{Item}
-use Rattle.mcast_group.specs.Machine.{TopicState, Pending, Entry, find_entry, entry_after, due_part, after_release, learn_fault, after_learn, after_try, after_tries, after_releases, after_turn, item_of, decided_stamp}
+use Rattle.mcast_group.specs.Machine.{TopicState, Pending, Entry, find_entry, entry_after, due_part, after_release, after_tries, after_releases, after_turn, item_of}
 use Rattle.mcast_group.proofs.Parts.{none_some, after_release_if}
+use Rattle.mcast_group.proofs.Counting.{tried_all_subs}
 use Rattle.delivery.specs.Machine.World.{World, subscription_at}
 use Rattle.delivery.specs.Machine.Observed.{entry_items, entry_to}
 use Rattle.delivery.specs.Machine.Moves.{queue_has_room, verdict_in}
 use Rattle.delivery.proofs.Machine.TopicSteps.{map_same, map_map}
-use Rattle.delivery.proofs.Theorem.HandedIsPrefix.{length_push}
 
 -- from one end and queue to the next: an end stays and its queue with it, the queue keeps its bound, and it is full where it ends
 pub record Moves (taken capacity : ℕ) (to : Option Stamp) (xs : List Item) (end : Option Stamp) (ys : List Item) : Type 0 where
@@ -135,23 +133,11 @@ times_go w zero x = Goes-same w x x refl
 times_go w (suc k) x =
     Goes-then w x (after_release (queue_has_room w) x) (after_releases (queue_has_room w) k (after_release (queue_has_room w) x)) (release_goes w x) (times_go w k (after_release (queue_has_room w) x))
 
-tried_case : (id : TxnId) (v : Decision) (x : TopicState) (o : Option LearnFault) → let y : TopicState = elim o [ None ↦ after_learn id (decided_stamp v) x | Some fault ↦ x ] in y.subscriptions ≡ x.subscriptions
-tried_case id v x None = refl
-tried_case id v x (Some fault) = refl
-
-tried_subscriptions : (id : TxnId) (o : Option Decision) (x : TopicState) → (after_try id o x).subscriptions ≡ x.subscriptions
-tried_subscriptions id None x = refl
-tried_subscriptions id (Some v) x = tried_case id v x (learn_fault id v x)
-
-all_tried : (find : TxnId → Option Decision) (ps : List Pending) (x : TopicState) → (after_tries find ps x).subscriptions ≡ x.subscriptions
-all_tried find [] x = refl
-all_tried find (p ∷ ps) x = all_tried find ps (after_try p.part.id (find p.part.id) x) ∙ tried_subscriptions p.part.id (find p.part.id) x
-
 -- Goes holds of a turn
 pub turned_goes : (w : World) (x : TopicState) → Goes w x (after_turn (queue_has_room w) (verdict_in w) x)
 turned_goes w x =
     let y = after_tries (verdict_in w) x.pending x in
-    Goes-then w x y (after_releases (queue_has_room w) (length y.pending) y) (Goes-same w x y (all_tried (verdict_in w) x.pending x)) (times_go w (length y.pending) y)
+    Goes-then w x y (after_releases (queue_has_room w) (length y.pending) y) (Goes-same w x y (tried_all_subs (verdict_in w) x.pending x)) (times_go w (length y.pending) y)
 
 -- ---- one entry of it
 

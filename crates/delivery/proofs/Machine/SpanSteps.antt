@@ -1,5 +1,6 @@
 -- What each event makes of subscriptions: where they begin and end, and how much their queues hold.
 use Rattle.std.proofs.Common.{◌≡◌, ℕ, ◌+◌, ◌<◌, ◌≤◌, ◌==◌, nat_lt, Bool, true, false, cond, List, [], ◌∷◌, length, set, get_or, Option, Some, None, refl, sym, ap, subst, ◌∙◌, arith}
+use Rattle.std.proofs.lemmas.List.{length_push}
 use Rattle.mcast_txn.specs.Part.{part_at}
 use Rattle.mcast_txn.specs.Ballot.{Decision}
 use Rattle.mcast_txn.specs.declared.id.Topic.{Topic}
@@ -17,14 +18,11 @@ use Rattle.delivery.specs.Machine.Moves.{Move, Answer, world_after, move_effect,
 use Rattle.delivery.specs.Machine.Moves.Move.{AddsTopic, Commits, Subscribes, Unsubscribes, Leaves, Proposes, Cancels, Learns, Releases, Turns, Takes}
 use Rattle.delivery.proofs.Machine.Invariant.{topic_in, Owned}
 use Rattle.delivery.proofs.Machine.TopicSteps.{at_topic_from}
-use Rattle.delivery.proofs.Machine.SubscriptionSteps.{at_push_two, at_added, set_length, push_length, found_entry, new_subscription, new_entry, topic_with, taken_more}
+use Rattle.delivery.proofs.Machine.SubscriptionSteps.{at_push_two, at_added, set_length, found_entry, new_subscription, new_entry, topic_with, taken_more}
 use Rattle.delivery.proofs.Machine.InvariantIsKept.{Reached, by_refusal}
-use Rattle.delivery.proofs.Theorem.HandedIsPrefix.{items_by, find_kept, find_inserted, ended_same, open_items}
+use Rattle.delivery.proofs.Theorem.HandedIsPrefix.{find_kept, find_inserted, ended_same, open_items}
 use Rattle.delivery.proofs.Machine.QueueSteps.{Moves, Moves-same, Goes, Goes-same, release_goes, turned_goes, entry_moves}
-
--- where a span ends: by what the closed subscription left, or by its entry
-abbrev pub end_by : Option EntryEnd → Option Entry → Option Stamp
-end_by closed entry = elim closed [ None ↦ entry_to entry | Some end ↦ Some end.to ]
+use Rattle.delivery.proofs.Theorem.AcceptedIsDue.{end_by, items_by}
 
 -- where the span of subscription s ends, among these topics
 abbrev pub end_in : List TopicState → ℕ → Subscription → Option Stamp
@@ -146,7 +144,7 @@ none_there past w s t r l = none_case past w s t r l (find_entry s (topic_in w.t
 
 Tells-begun : (past : List Answer) (w : World) (c : ℕ) (t : Topic) → Reached past w → TellsOf w (move_effect w (Subscribes c t))
 Tells-begun past w c t r =
-    let v = move_effect w (Subscribes c t) in let m = push_length w.subscriptions (new_subscription w c t) in record {
+    let v = move_effect w (Subscribes c t) in let m = length_push w.subscriptions (new_subscription w c t) in record {
       same = refl;
       more = omega arith;
       each = λ s l. at_push_two (λ (z : Subscription). Tell w.capacity (subscription_at w s) z (end_at w s) (end_in v.topics s z) (accepted_at w s) (items_in v.topics s z)) w.subscriptions s (new_subscription w c t) no_subscription
@@ -167,7 +165,8 @@ ended_to : (frontier : Stamp) (n : ℕ) (from : Stamp) (to : Option Stamp) (acce
 ended_to frontier n from None accepted s e = none_some s e
 ended_to frontier n from (Some end) accepted s e = e
 
-open_end : (closed : Option EntryEnd) (entry : Option Entry) → closed ≡ None → end_by closed entry ≡ entry_to entry
+-- a span that isn't closed ends as its entry does
+pub open_end : (closed : Option EntryEnd) (entry : Option Entry) → closed ≡ None → end_by closed entry ≡ entry_to entry
 open_end None entry e = refl
 open_end (Some end) entry e = none_some end (sym e)
 

@@ -1,12 +1,12 @@
 -- Whom a connection speaks for, where a test says that it speaks for somebody, and whom it claims.
 use Rattle.std.proofs.Common.{◌≡◌, ℕ, ◌<◌, true, false, length, get_or, Option, Some, None, refl, sym, ap, ◌∙◌, arith, set, subst}
 use Rattle.std.specs.Option.{is_some, unwrap_or}
-use Rattle.std.proofs.lemmas.Bool.{true≢false, ltb-true}
+use Rattle.std.proofs.lemmas.Bool.{true≢false, ltb-true, not-false}
 use Rattle.mcast_group.proofs.Parts.{some_same, none_some}
 use Rattle.delivery.specs.Machine.World.{World, SenderState, new_sender, connection_at, sender_at, speaker, speaker_number, is_in_use, with_sender, Leftover}
 use Rattle.delivery.specs.Machine.Moves.{move_refusal}
 use Rattle.delivery.specs.Machine.Moves.Move.{Connects}
-use Rattle.delivery.proofs.Machine.InvariantIsKept.{checked, false_not}
+use Rattle.delivery.proofs.Machine.InvariantIsKept.{checked}
 use Rattle.delivery.proofs.Machine.SubscriptionSteps.{beyond, set_length}
 use Rattle.mcast_txn.specs.Lists.{In}
 
@@ -22,7 +22,7 @@ has_speaker w c e = some_unwrapped (connection_at w c).sender (length w.senders)
 pub claim_there : (w : World) (c : ℕ) (claimed : Option ℕ) → move_refusal w (Connects c claimed) ≡ None → (s : ℕ) → claimed ≡ Some s → s < length w.senders
 claim_there w c None n s e = none_some s e
 claim_there w c (Some r) n s e =
-    let l : r < length w.senders = ltb-true r (length w.senders) (false_not _ (checked w (Connects c (Some r)) n).1.1.1.1.0) in
+    let l : r < length w.senders = ltb-true r (length w.senders) (not-false _ (checked w (Connects c (Some r)) n).1.1.1.1.0) in
     let d : r ≡ s = some_same r s e in omega arith
 
 pub claim_free : (w : World) (c : ℕ) (claimed : Option ℕ) → move_refusal w (Connects c claimed) ≡ None → (s : ℕ) → claimed ≡ Some s → is_in_use w s ≡ false

@@ -2,17 +2,18 @@
 use Rattle.std.proofs.Common.{◌≡◌, ◌≢◌, ℕ, zero, suc, ◌+◌, ◌<◌, ◌≤◌, ◌==◌, Bool, true, false, cond, not, inl, inr, List, [], ◌∷◌, ◌++◌, length, get_or, set, Option, Some, None, refl, sym, ap, subst, ◌∙◌, arith}
 use Rattle.std.specs.List.{filter}
 use Rattle.std.proofs.lemmas.Bool.{true≢false, not-true, eqb-true, eq-eqb}
+use Rattle.std.proofs.lemmas.List.{length_push}
 use Rattle.mcast_txn.proofs.Orders.{same_topics}
 use Rattle.mcast_txn.specs.Agreed.{CommitRow}
 use Rattle.mcast_txn.specs.Lists.{In}
 use Rattle.mcast_txn.specs.declared.id.Topic.{Topic}
 use Rattle.mcast_txn.specs.declared.stamp.Stamp.{Stamp}
+use Rattle.mcast_txn.proofs.Inserting.{In-insert, In-insert_cases, insert_one, insert_two}
 use Rattle.mcast_txn.proofs.Members.{In-filter, In-filter_cases, at_set, at_set_within}
 use Rattle.mcast_txn.specs.Span.{Item}
 use Rattle.mcast_group.specs.Sound.{IsSound, IsQueueOf}
 use Rattle.mcast_group.specs.Machine.{TopicState, Entry, EntryEnd, new_topic, find_entry, insert_entry, after_subscribe, end_of, after_unsubscribe}
 use Rattle.mcast_group.proofs.Parts.{Waits, some_same, none_some, not_true}
-use Rattle.mcast_group.proofs.Numbers.{In-entry, In-entry_cases, entry_one, entry_two}
 use Rattle.mcast_group.proofs.Queues.{Queue-ended}
 use Rattle.mcast_group.proofs.Keeping.{Sound-new, Sound-subscribed, Sound-unsubscribed}
 use Rattle.delivery.specs.Machine.World.{World, Subscription, SenderState, new_sender, no_subscription}
@@ -50,11 +51,6 @@ beyond [] j d l = refl
 beyond (x ∷ xs) zero d l = absurd (omega arith)
 beyond (x ∷ xs) (suc j) d l = beyond xs j d (omega arith)
 
--- a push adds one to the length
-pub push_length : {X : Type 0} (xs : List X) (x : X) → length (xs ++ x ∷ []) ≡ suc (length xs)
-push_length [] x = refl
-push_length (y ∷ xs) x = ap suc (push_length xs x)
-
 -- ---- a change of one topic's subscriptions
 
 Tied-subs : (ts cs : List CommitRow) (t : Topic) (x : TopicState) (subs : List Entry) → Tied ts cs t x → IsSound (record x { subscriptions = subs }) → ((e : Entry) → In e subs → (i : Item) → In i e.accepted → (f : Entry) × In f x.subscriptions × In i f.accepted) → Tied ts cs t (record x { subscriptions = subs })
@@ -89,14 +85,14 @@ Tied-subscribed ts w t inv =
     let x = topic_in w.topics t in let h = inv.tied t in
     Tied-subs ts w.commits t x (insert_entry (new_entry w t) x.subscriptions) h (Sound-subscribed (length w.subscriptions) x h.sound
     (λ e i d. let l : e.number < length w.subscriptions = (inv.subscribes.owned t e i).there in omega arith))
-    (λ e k i l. elim (In-entry_cases e (new_entry w t) x.subscriptions k) [
+    (λ e k i l. elim (In-insert_cases _ e (new_entry w t) x.subscriptions k) [
       | inl d ↦ absurd (subst (λ (z : Entry). In i z.accepted) (sym d) l)
       | inr o ↦ (e, o, l)
     ])
 
 Owned-more : (subs : List Subscription) (v : Subscription) (t : Topic) (n : ℕ) (from : Stamp) → Owned subs t n from → Owned (subs ++ v ∷ []) t n from
 Owned-more subs v t n from h = record {
-  there = let m = push_length subs v in let l : n < length subs = h.there in omega arith;
+  there = let m = length_push subs v in let l : n < length subs = h.there in omega arith;
   topic = at_old (λ (z : Subscription). z.topic ≡ t) subs n v no_subscription h.there h.topic;
   closed = at_old (λ (z : Subscription). z.closed ≡ None) subs n v no_subscription h.there h.closed;
   from_is = at_old (λ (z : Subscription). z.from ≡ from) subs n v no_subscription h.there h.from_is;
@@ -116,18 +112,18 @@ Subscribes-begun ts w c t inv room =
     record {
       live = λ s l. at_push_two (λ (z : Subscription). z.closed ≡ None → HasEntry s z.from (topic_in topics z.topic)) subs s v no_subscription
           (λ d n. at_set_within (λ (z : TopicState). HasEntry s x.frontier z) w.topics t.0 t.0 (topic_with w t) (new_topic t 0 0) room
-          (λ i. record { entry = e; stands = In-entry e e x.subscriptions (inl refl); number = sym d; from_is = refl }) (λ ne. absurd (ne refl)))
-          (λ ne n. moved s (sub_in subs s).from (sub_in subs s).topic (h.live s (let m = push_length subs v in omega arith) n));
+          (λ i. record { entry = e; stands = In-insert _ e e x.subscriptions (inl refl); number = sym d; from_is = refl }) (λ ne. absurd (ne refl)))
+          (λ ne n. moved s (sub_in subs s).from (sub_in subs s).topic (h.live s (let m = length_push subs v in omega arith) n));
       owned = λ u. at_topic_from (λ y z. (f : Entry) → In f z.subscriptions → Owned (subs ++ v ∷ []) y f.number f.from) w.topics t u (topic_with w t)
-          (λ o. entry_one (λ (f : Entry). Owned (subs ++ v ∷ []) t f.number f.from) x.subscriptions e o (record {
-            there = let m = push_length subs v in omega arith;
+          (λ o. insert_one _ (λ (f : Entry). Owned (subs ++ v ∷ []) t f.number f.from) x.subscriptions e o (record {
+            there = let m = length_push subs v in omega arith;
             topic = at_end (λ (z : Subscription). z.topic ≡ t) subs v no_subscription refl;
             closed = at_end (λ (z : Subscription). z.closed ≡ None) subs v no_subscription refl;
             from_is = at_end (λ (z : Subscription). z.from ≡ x.frontier) subs v no_subscription refl;
           }))
           (λ f i. Owned-more subs v u f.number f.from (h.owned u f i));
       one = λ u. at_topic_from (λ y z. (a b : Entry) → In a z.subscriptions → In b z.subscriptions → a.number ≡ b.number → a ≡ b) w.topics t u (topic_with w t)
-          (λ o. entry_two (λ (a b : Entry). a.number ≡ b.number → a ≡ b) x.subscriptions e o
+          (λ o. insert_two _ (λ (a b : Entry). a.number ≡ b.number → a ≡ b) x.subscriptions e o
           (λ a i d. absurd (let k : a.number < length subs = (h.owned t a i).there in omega arith))
           (λ a i d. absurd (let k : a.number < length subs = (h.owned t a i).there in omega arith))
           (λ d. refl))
@@ -140,7 +136,7 @@ Subscribes-begun ts w c t inv room =
   where
     moved : (s : ℕ) (from : Stamp) (u : Topic) → HasEntry s from (topic_in w.topics u) → HasEntry s from (topic_in (set w.topics t.0 (topic_with w t)) u)
     moved s from u k = at_topic_from (λ y z. HasEntry s from z) w.topics t u (topic_with w t)
-        (λ o. record { entry = o.entry; stands = In-entry o.entry (new_entry w t) (topic_in w.topics t).subscriptions (inr o.stands); number = o.number; from_is = o.from_is }) k
+        (λ o. record { entry = o.entry; stands = In-insert _ o.entry (new_entry w t) (topic_in w.topics t).subscriptions (inr o.stands); number = o.number; from_is = o.from_is }) k
 
 -- beginning a subscription keeps the invariant
 pub subscribe_step : (ts : List CommitRow) (w : World) (c : ℕ) (t : Topic) → Holds ts w → t.0 < length w.topics → Inv ts w.commits w.verdicts (set w.topics t.0 (topic_with w t)) w.senders (w.subscriptions ++ new_subscription w c t ∷ [])

@@ -1,7 +1,7 @@
 -- The verdict of a pending part is its own, and clashes with none.
-use Rattle.std.proofs.Common.{◌≡◌, Bool, true, false, not, ◌&&◌, ◌||◌, ◌⊎◌, inl, inr, List, [], ◌∷◌, Option, Some, None, refl, sym, ap, ◌∙◌}
+use Rattle.std.proofs.Common.{◌≡◌, Bool, true, false, not, ◌&&◌, ◌⊎◌, inl, inr, List, [], ◌∷◌, Option, Some, None, refl, sym, ap, ◌∙◌}
 use Rattle.std.specs.List.{list_any}
-use Rattle.std.proofs.lemmas.Bool.{true≢false, not-true, and_parts, and_from}
+use Rattle.std.proofs.lemmas.Bool.{true≢false, not-true, and_parts, and_from, or_from}
 use Rattle.mcast_txn.specs.Transaction.{TopicPart}
 use Rattle.mcast_txn.specs.Agreed.{Transaction, CommitRow}
 use Rattle.mcast_txn.specs.Ids.{same_id}
@@ -10,13 +10,13 @@ use Rattle.mcast_txn.specs.Ballot.{Decision}
 use Rattle.mcast_txn.specs.declared.id.Topic.{Topic}
 use Rattle.mcast_txn.specs.declared.id.TxnId.{TxnId}
 use Rattle.mcast_txn.specs.declared.stamp.Stamp.{Stamp}
-use Rattle.mcast_txn.proofs.Orders.{id_same}
+use Rattle.mcast_txn.proofs.Orders.{id_same, same_stamp_is, same_stamp_from}
 use Rattle.mcast_txn.proofs.Members.{any_found, any_from}
 use Rattle.mcast_group.specs.declared.fault.LearnFault.{LearnFault}
 use Rattle.mcast_group.specs.Fitting.{Fits, FoundHaveOneRowEach}
 use Rattle.mcast_group.specs.Machine.{TopicState, Pending, HasOneRowEach, key, find_pending, has_row, is_foreign, has_learnt_other, clashes, learn_fault, learn_fault_of, decided_stamp}
 use Rattle.mcast_txn.specs.Stamp.{same_stamp}
-use Rattle.mcast_group.proofs.Parts.{found_part, same_stamp_is, same_stamp_from, not_true}
+use Rattle.mcast_group.proofs.Parts.{found_part, not_true}
 use Rattle.delivery.specs.Machine.World.{World}
 use Rattle.delivery.specs.Machine.Moves.{verdict_in, find_verdict}
 use Rattle.delivery.proofs.Machine.Invariant.{row, topic_in, Holds}
@@ -29,9 +29,6 @@ pub record OwnVerdict (v : Decision) (p : Pending) (x : TopicState) : Type 0 whe
   pub own : is_foreign v p ≡ false
   pub learnt : (s : Stamp) → p.learnt ≡ Some s → s ≡ decided_stamp v
   pub alone : clashes v p x.pending ≡ false
-
-or_false : (a b : Bool) → a ≡ false → b ≡ false → (a || b) ≡ false
-or_false a b e f = rw (e, f) refl
 
 learnt_case : (v : Decision) (p : Pending) → ((s : Stamp) → p.learnt ≡ Some s → s ≡ decided_stamp v) → (o : Option Stamp) → p.learnt ≡ o → has_learnt_other (decided_stamp v) o ≡ false
 learnt_case v p h None e = refl
@@ -54,7 +51,7 @@ own_verdict ts w t p v inv i j e =
       one_row = g.one_row;
       own = ap not (and_from (same_id v.id p.part.id) (has_row here v.rows) (id_same v.id p.part.id e) found);
       learnt = learnt;
-      alone = or_false (has_learnt_other (decided_stamp v) p.learnt) (list_any (λ (q : Pending). not (same_id q.part.id p.part.id) && same_stamp (key q) (decided_stamp v)) x.pending)
+      alone = or_from (has_learnt_other (decided_stamp v) p.learnt) (list_any (λ (q : Pending). not (same_id q.part.id p.part.id) && same_stamp (key q) (decided_stamp v)) x.pending)
           (learnt_case v p learnt p.learnt refl)
           (not_true (list_any (λ (q : Pending). not (same_id q.part.id p.part.id) && same_stamp (key q) (decided_stamp v)) x.pending) refl (λ n.
           let f = any_found (λ (q : Pending). not (same_id q.part.id p.part.id) && same_stamp (key q) (decided_stamp v)) x.pending n in

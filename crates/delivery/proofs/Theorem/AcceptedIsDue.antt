@@ -28,7 +28,7 @@ use Rattle.delivery.specs.Machine.Runs.{run, answers_from}
 use Rattle.delivery.specs.Theorem.Laws
 use Rattle.mcast_txn.specs.declared.mark.Mark.{Mark}
 use Rattle.delivery.specs.Theorem.Laws.{Run, answers_of, final_world, shared_marks}
-use Rattle.delivery.proofs.Machine.Invariant.{row, Consistent, Tied, Itemed, Logged, topic_in, sub_in, HasEntry, Inv, Holds}
+use Rattle.delivery.proofs.Machine.Invariant.{row, Consistent, Tied, Itemed, topic_in, HasEntry, Holds}
 use Rattle.delivery.proofs.Machine.TopicSteps.{one_commit, key_ticket}
 use Rattle.delivery.proofs.Machine.SubscriptionSteps.{found_entry, finds_entry}
 use Rattle.delivery.proofs.Machine.InvariantIsKept.{Reached, tickets, step_reached}
@@ -157,10 +157,12 @@ queue_is_due ts w t from to accepted inv h items =
         let same : g.row ≡ r = one_commit ts w.commits inv.consistent g.row r g.stands old (ap (λ (z : Item). z.id) g.is ∙ j.is.id) in
         subst (λ z. In z accepted) (sym g.is ∙ (ap (item_at t) same ∙ m.is)) j.stands
 
-abbrev accepted_by : Option EntryEnd → Option Entry → List Item
-accepted_by closed entry = elim closed [ None ↦ entry_items entry | Some end ↦ end.accepted ]
+-- what a queue has accepted: by what the closed subscription left, or by its entry
+abbrev pub items_by : Option EntryEnd → Option Entry → List Item
+items_by closed entry = elim closed [ None ↦ entry_items entry | Some end ↦ end.accepted ]
 
-abbrev end_by : Option EntryEnd → Option Entry → Option Stamp
+-- where a span ends: by what the closed subscription left, or by its entry
+abbrev pub end_by : Option EntryEnd → Option Entry → Option Stamp
 end_by closed entry = elim closed [ None ↦ entry_to entry | Some end ↦ Some end.to ]
 
 -- the queue has accepted what its span says, and each item is a committed transaction's part
@@ -179,7 +181,7 @@ queued_entry ts w s t from inv h (Some entry) e =
       items = (inv.tied t).items entry f.stands;
     })
 
-queued_case : (ts : List CommitRow) (w : World) (s : ℕ) → Holds ts w → s < length w.subscriptions → (o : Option EntryEnd) → (subscription_at w s).closed ≡ o → Queued w (subscription_at w s).topic (subscription_at w s).from (end_by o (entry_at w s)) (accepted_by o (entry_at w s))
+queued_case : (ts : List CommitRow) (w : World) (s : ℕ) → Holds ts w → s < length w.subscriptions → (o : Option EntryEnd) → (subscription_at w s).closed ≡ o → Queued w (subscription_at w s).topic (subscription_at w s).from (end_by o (entry_at w s)) (items_by o (entry_at w s))
 queued_case ts w s inv l None e =
     queued_entry ts w s (subscription_at w s).topic (subscription_at w s).from inv (inv.subscribes.live s l e) (entry_at w s) refl
 queued_case ts w s inv l (Some end) e =

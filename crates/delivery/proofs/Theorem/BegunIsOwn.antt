@@ -1,5 +1,6 @@
 -- A transaction in flight is its frame's, and its sender is that for which its connection speaks.
 use Rattle.std.proofs.Common.{◌≡◌, ℕ, List, [], ◌∷◌, Option, Some, None, refl, sym, ap, ◌∙◌}
+use Rattle.std.proofs.lemmas.Bool.{not-false}
 use Rattle.mcast_txn.specs.Agreed.{Transaction}
 use Rattle.mcast_txn.specs.declared.id.Topic.{Topic}
 use Rattle.mcast_txn.specs.declared.draft.sent_message.SentMessage.{SentMessage}
@@ -12,7 +13,7 @@ use Rattle.delivery.specs.Machine.Moves.{Move, move_refusal, move_answer, find_l
 use Rattle.delivery.specs.Machine.Moves.Move.{Commits, Leaves, Proposes, Cancels, Releases, Takes}
 use Rattle.delivery.specs.Machine.Moves.Answer.{Refused, Begun}
 use Rattle.delivery.specs.Theorem.Reported
-use Rattle.delivery.proofs.Machine.InvariantIsKept.{by_refusal, checked, false_not}
+use Rattle.delivery.proofs.Machine.InvariantIsKept.{by_refusal, checked}
 use Rattle.delivery.proofs.Machine.Speakers.{has_speaker}
 
 -- ---- the frame
@@ -48,7 +49,7 @@ no_take w s None txn e = cc
 no_take w s (Some item) txn e = cc
 
 answer_own : (w : World) (e : Move) (txn : Transaction) → move_refusal w e ≡ None → move_answer w e ≡ Begun txn → IsOwn w e txn
-answer_own w (Commits c sends) txn n e = own_case w c sends txn (has_speaker w c (false_not _ (checked w (Commits c sends) n).1.1.1.0)) e
+answer_own w (Commits c sends) txn n e = own_case w c sends txn (has_speaker w c (not-false _ (checked w (Commits c sends) n).1.1.1.0)) e
 answer_own w (Leaves c) txn n e = absurd (no_leave w c (oldest_live c 0 w.subscriptions) txn e)
 answer_own w (Proposes c t memory) txn n e = absurd (no_propose w c t (proposal_fault w c t memory) txn e)
 answer_own w (Cancels c t) txn n e = absurd (no_cancel t (find_leftover t (speaker w c).leftovers) txn e)

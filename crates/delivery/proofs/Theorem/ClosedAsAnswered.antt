@@ -1,7 +1,7 @@
 -- A subscription is closed as its event is answered, and what it left stays; an open span ends with its topic's frontier.
 use Rattle.std.proofs.Common.{◌≡◌, ◌≢◌, ℕ, ◌+◌, ◌<◌, ◌==◌, true, not, ◌⊎◌, inl, inr, List, [], ◌∷◌, length, get_or, Option, Some, None, refl, sym, ap, subst, ◌∙◌, arith, ltb}
 use Rattle.std.specs.Option.{is_some}
-use Rattle.std.proofs.lemmas.Bool.{ltb-true, and_parts, cases_order}
+use Rattle.std.proofs.lemmas.Bool.{ltb-true, and_parts, cases_order, not-false, not-true}
 use Rattle.std.proofs.lemmas.List.{get_or_past}
 use Rattle.mcast_txn.specs.Stamp.{zero_stamp}
 use Rattle.mcast_txn.specs.Ballot.{Decision}
@@ -22,12 +22,11 @@ use Rattle.delivery.specs.Machine.Moves.Answer.{Learnt, Unsubscribed}
 use Rattle.delivery.specs.Theorem.Laws.{Run, answers_of, final_world}
 use Rattle.delivery.specs.Theorem.Spans
 use Rattle.delivery.specs.Theorem.Spans.{cause_of}
-use Rattle.delivery.proofs.Machine.Invariant.{topic_in}
-use Rattle.delivery.proofs.Machine.SubscriptionSteps.{at_push_two, finds_entry, new_subscription, taken_more}
-use Rattle.delivery.proofs.Machine.InvariantIsKept.{Reached, by_refusal, checked, false_not}
+use Rattle.delivery.proofs.Machine.SubscriptionSteps.{at_push_two, new_subscription, taken_more}
+use Rattle.delivery.proofs.Machine.InvariantIsKept.{Reached, by_refusal, checked}
 use Rattle.delivery.proofs.Theorem.AcceptedIsDue.{reached}
-use Rattle.delivery.proofs.Theorem.ClosedIsSilent.{oldest_found, none_of, not_is}
-use Rattle.delivery.proofs.Machine.SpanSteps.{end_by}
+use Rattle.delivery.proofs.Theorem.ClosedIsSilent.{oldest_found, none_of, no_entry}
+use Rattle.delivery.proofs.Machine.SpanSteps.{open_end}
 use Rattle.delivery.proofs.Theorem.HandedIsPrefix.{open_items}
 use Rattle.delivery.proofs.Theorem.TopicsAreSound.{topics_are_sound}
 
@@ -62,11 +61,6 @@ same w v o s e n = inl (ap (λ (z : List Subscription). (get_or z s no_subscript
 
 -- ---- a subscription is closed
 
-no_entry : (past : List Answer) (w : World) (q : ℕ) → Reached past w → q < length w.subscriptions → (subscription_at w q).closed ≡ None → entry_at w q ≡ None → Prim.⊥
-no_entry past w q r l unclosed e =
-    let h = r.inv.subscribes.live q l unclosed in
-    let f = finds_entry q (topic_in w.topics (subscription_at w q).topic).subscriptions h.entry h.stands h.number in none_some f.entry (sym e ∙ f.found)
-
 closed_other : (w : World) (q s : ℕ) (entry : Entry) → s ≢ q → Stays w (close_effect_of w q (Some entry)) (Unsubscribed q (left_of w q entry).to) s
 closed_other w q s entry ne = (
   at_set (λ (z : Subscription). z.closed ≡ (subscription_at w s).closed) w.subscriptions q s (record (subscription_at w q) { closed = Some (left_of w q entry) }) no_subscription
@@ -92,8 +86,9 @@ closed_case past w q s r l unclosed (Some entry) e = elim (cases_order s q) [
   | inr (inr k) ↦ inl (closed_other w q s entry (λ d. omega arith))
 ]
 
-live_unclosed : (c : ℕ) (x : Subscription) → is_live c x ≡ true → x.closed ≡ None
-live_unclosed c x e = none_of x.closed (not_is (is_some x.closed) (and_parts (x.connection == c) (not (is_some x.closed)) e).1)
+-- a live subscription isn't closed
+pub live_unclosed : (c : ℕ) (x : Subscription) → is_live c x ≡ true → x.closed ≡ None
+live_unclosed c x e = none_of x.closed (not-true (is_some x.closed) (and_parts (x.connection == c) (not (is_some x.closed)) e).1)
 
 left_case : (past : List Answer) (w : World) (c s : ℕ) → Reached past w → (o : Option ℕ) → oldest_live c 0 w.subscriptions ≡ o → StaysOrCloses w (leave_effect w c o) (leave_answer w c o) s
 left_case past w c s r None f = same w (leave_effect w c None) (leave_answer w c None) s refl (λ i. i)
@@ -144,7 +139,7 @@ effect_closes past w (AddsTopic clock) s r n = same w _ (move_answer w (AddsTopi
 effect_closes past w (Commits c sends) s r n = flown_case w c s sends
 effect_closes past w (Subscribes c t) s r n = begun_case w c s t
 effect_closes past w (Unsubscribes c q) s r n =
-    let k = and_parts (ltb q (length w.subscriptions)) (is_live c (subscription_at w q)) (false_not _ (checked w (Unsubscribes c q) n).1.1.1.0) in
+    let k = and_parts (ltb q (length w.subscriptions)) (is_live c (subscription_at w q)) (not-false _ (checked w (Unsubscribes c q) n).1.1.1.0) in
     closed_case past w q s r (ltb-true q (length w.subscriptions) k.0) (live_unclosed c (subscription_at w q) k.1) (entry_at w q) refl
 effect_closes past w (Leaves c) s r n = left_case past w c s r (oldest_live c 0 w.subscriptions) refl
 effect_closes past w (Proposes c t memory) s r n = proposed_case w c s t (proposal_fault w c t memory)
@@ -166,10 +161,6 @@ closes r e s to d = elim (closing r e s) [ inl k ↦ absurd (k.1 to d) | inr k �
 
 same_end : (to end : Stamp) (o : Answer) (s : ℕ) → o ≡ Unsubscribed s to → o ≡ Unsubscribed s end → to ≡ end
 same_end to end o s d e = cc
-
-open_end : (closed : Option EntryEnd) (entry : Option Entry) → closed ≡ None → end_by closed entry ≡ entry_to entry
-open_end None entry e = refl
-open_end (Some end) entry e = none_some end (sym e)
 
 -- the end and the queue of a subscription that isn't closed are its entry's
 end_is : (w : World) (s : ℕ) (entry : Entry) → (subscription_at w s).closed ≡ None → entry_at w s ≡ Some entry → end_at w s ≡ entry.to

@@ -1,7 +1,8 @@
 -- Nothing is handed on of a closed subscription.
-use Rattle.std.proofs.Common.{◌≡◌, ℕ, zero, suc, ◌+◌, ◌<◌, ◌≤◌, ◌==◌, Bool, true, false, cond, not, inl, inr, List, [], ◌∷◌, ◌++◌, length, get_or, Option, Some, None, refl, sym, ap, subst, ◌∙◌, arith, ltb}
+use Rattle.std.proofs.Common.{◌≡◌, ℕ, zero, suc, ◌+◌, ◌<◌, ◌≤◌, ◌==◌, Bool, true, false, cond, not, inl, inr, List, [], ◌∷◌, length, get_or, Option, Some, None, refl, sym, ap, subst, ◌∙◌, arith, ltb}
 use Rattle.std.specs.Option.{is_some}
-use Rattle.std.proofs.lemmas.Bool.{true≢false, false≢true, eqb-true, ltb-true, and_parts, or_parts}
+use Rattle.std.proofs.lemmas.Bool.{true≢false, false≢true, eqb-true, ltb-true, and_parts, or_parts, not-false, not-true}
+use Rattle.std.proofs.lemmas.List.{length_push}
 use Rattle.mcast_txn.specs.Lists.{In}
 use Rattle.mcast_txn.specs.Ballot.{Decision}
 use Rattle.mcast_txn.specs.declared.id.Topic.{Topic}
@@ -21,8 +22,8 @@ use Rattle.delivery.specs.Machine.Runs.{run, answers_from}
 use Rattle.delivery.specs.Theorem.Settled.{closes, IsSilent, SilentAfterClose}
 use Rattle.delivery.specs.Theorem.Laws
 use Rattle.delivery.proofs.Machine.Invariant.{topic_in, sub_in}
-use Rattle.delivery.proofs.Machine.SubscriptionSteps.{at_push, at_old, at_end, push_length, set_length, finds_entry}
-use Rattle.delivery.proofs.Machine.InvariantIsKept.{Reached, by_refusal, checked, step_reached, false_not}
+use Rattle.delivery.proofs.Machine.SubscriptionSteps.{at_push, at_old, at_end, set_length, finds_entry}
+use Rattle.delivery.proofs.Machine.InvariantIsKept.{Reached, by_refusal, checked, step_reached}
 use Rattle.delivery.proofs.Theorem.AcceptedIsDue.{start_reached}
 use Rattle.delivery.proofs.Core.Tests.{connection_there}
 
@@ -149,7 +150,8 @@ closed_now : (w : World) (s : ℕ) → s < length w.subscriptions → (o : Optio
 closed_now w s l None has = absurd (has refl)
 closed_now w s l (Some e) has = at_set_within (λ (z : Subscription). is_some z.closed ≡ true) w.subscriptions s s _ no_subscription l (λ n. refl) (λ ne. absurd (ne refl))
 
-no_entry : (past : List Answer) (w : World) (s : ℕ) → Reached past w → s < length w.subscriptions → (subscription_at w s).closed ≡ None → entry_at w s ≡ None → Prim.⊥
+-- a subscription that isn't closed has its entry
+pub no_entry : (past : List Answer) (w : World) (s : ℕ) → Reached past w → s < length w.subscriptions → (subscription_at w s).closed ≡ None → entry_at w s ≡ None → Prim.⊥
 no_entry past w s r l n e =
     let h = r.inv.subscribes.live s l n in
     let f = finds_entry s (topic_in w.topics (subscription_at w s).topic).subscriptions h.entry h.stands h.number in
@@ -165,11 +167,6 @@ closing_shut past w s end r l n h =
 pub none_of : (o : Option EntryEnd) → is_some o ≡ false → o ≡ None
 none_of None e = refl
 none_of (Some end) e = absurd (true≢false e)
-
--- a bool that isn't true is false
-pub not_is : (b : Bool) → not b ≡ true → b ≡ false
-not_is true e = absurd (false≢true e)
-not_is false e = refl
 
 -- the oldest subscription that isn't closed
 pub record Oldest (c i n : ℕ) (xs : List Subscription) : Type 0 where
@@ -199,7 +196,7 @@ left_shut past w c r h (Some s) e =
     let p : s ≡ k.place = (let d : s ≡ 0 + k.place = k.is in omega arith) in
     let live = and_parts ((subscription_at w k.place).connection == c) (not (is_some (subscription_at w k.place).closed)) k.live in
     closing_shut past w s _ r (subst (λ z. z < length w.subscriptions) (sym p) k.there)
-    (subst (λ z. (subscription_at w z).closed ≡ None) (sym p) (none_of (subscription_at w k.place).closed (not_is (is_some (subscription_at w k.place).closed) live.1))) h
+    (subst (λ z. (subscription_at w z).closed ≡ None) (sym p) (none_of (subscription_at w k.place).closed (not-true (is_some (subscription_at w k.place).closed) live.1))) h
 
 -- ---- each event
 
@@ -232,7 +229,7 @@ learned_same w t id (Some v) = (refl, refl)
 begun_shut : (past : List Answer) (w : World) (c : ℕ) (t : Topic) → Shutting past w.connections w.subscriptions → Shutting (move_answer w (Subscribes c t) ∷ past) (move_effect w (Subscribes c t)).connections (move_effect w (Subscribes c t)).subscriptions
 begun_shut past w c t h =
     let new : Subscription = record { connection = c; topic = t; from = (topic_at w t).frontier; taken = 0; closed = None } in
-    let v = move_effect w (Subscribes c t) in let m = push_length w.subscriptions new in
+    let v = move_effect w (Subscribes c t) in let m = length_push w.subscriptions new in
     note_owner past v.connections v.subscriptions (length w.subscriptions) c t (topic_at w t).frontier (omega arith)
     (at_end (λ (z : Subscription). z.connection ≡ c) w.subscriptions new no_subscription refl)
     (Shutting-on past w.connections v.connections w.subscriptions v.subscriptions (record {
@@ -268,7 +265,7 @@ open_there (x ∷ xs) (suc c) e = let l = open_there xs c e in omega arith
 happens_shut : (past : List Answer) (w : World) (e : Move) → Reached past w → Shutting past w.connections w.subscriptions → move_refusal w e ≡ None → Shutting (move_answer w e ∷ past) (move_effect w e).connections (move_effect w e).subscriptions
 happens_shut past w (AddsTopic clock) r h e = note past w.connections w.subscriptions Done closeless_done h
 happens_shut past w Opens r h e =
-    let v = move_effect w Opens in let m = conn_length w.connections (record { sender = None; standing = Standing.Open }) in
+    let v = move_effect w Opens in let m = length_push w.connections (record { sender = None; standing = Standing.Open }) in
     note past v.connections w.subscriptions (Opened (length w.connections)) (closeless_opened (length w.connections))
     (Shutting-on past w.connections v.connections w.subscriptions w.subscriptions (record {
       count = omega arith;
@@ -277,9 +274,6 @@ happens_shut past w Opens r h e =
       grow = omega arith;
       owner = λ s l. refl;
     }) h)
-  where
-    conn_length : (xs : List Connection) (x : Connection) → length (xs ++ x ∷ []) ≡ suc (length xs)
-    conn_length xs x = push_length xs x
 happens_shut past w (Connects c claimed) r h e =
     let v = connect_effect w c claimed in
     note past v.connections w.subscriptions Done closeless_done
@@ -294,9 +288,9 @@ happens_shut past w (Commits c sends) r h e = flown_shut past w c sends h
 happens_shut past w (Subscribes c t) r h e = begun_shut past w c t h
 happens_shut past w (Unsubscribes c s) r h e =
     let p = (checked w (Unsubscribes c s) e).1.1.1.0 in
-    let k = and_parts (ltb s (length w.subscriptions)) (is_live c (subscription_at w s)) (false_not _ p) in
+    let k = and_parts (ltb s (length w.subscriptions)) (is_live c (subscription_at w s)) (not-false _ p) in
     let live = and_parts ((subscription_at w s).connection == c) (not (is_some (subscription_at w s).closed)) k.1 in
-    closing_shut past w s _ r (ltb-true s (length w.subscriptions) k.0) (none_of (subscription_at w s).closed (not_is (is_some (subscription_at w s).closed) live.1)) h
+    closing_shut past w s _ r (ltb-true s (length w.subscriptions) k.0) (none_of (subscription_at w s).closed (not-true (is_some (subscription_at w s).closed) live.1)) h
 happens_shut past w (Disconnects c) r h e =
     leaving_shut past w (with_leaving w c) (Leaving c) c (connection_there w c (checked w (Disconnects c) e).0) refl refl (λ d k. k) (λ s to d. cc) (λ s d t from k. cc) h
 happens_shut past w (Errs c) r h e =
@@ -317,7 +311,7 @@ happens_shut past w (Releases t) r h e = note past w.connections w.subscriptions
 happens_shut past w (Turns t) r h e = note past w.connections w.subscriptions _ (record { ended = λ s to d. cc; shut = λ d k. k; owner = λ s d t from k. cc }) h
 happens_shut past w (Takes s) r h e =
     let p = (checked w (Takes s) e).1.0 in
-    taken_shut past w s (open_there w.connections (subscription_at w s).connection (false_not _ (or_parts (is_some (subscription_at w s).closed) _ p).1)) _ h
+    taken_shut past w s (open_there w.connections (subscription_at w s).connection (not-false _ (or_parts (is_some (subscription_at w s).closed) _ p).1)) _ h
 
 -- ---- silence
 
@@ -330,7 +324,7 @@ not_silent past w s h e (inr k) =
     let p = (checked w (Takes s) e).1.0 in
     let own = h.owner s k.0 k.1 k.2 k.4 in
     let shut = h.shut k.0 k.3 k.5 (closes_is k.0 k.3 k.6) in
-    true≢false (sym (false_not _ (or_parts (is_some (subscription_at w s).closed) _ p).1) ∙ subst (λ z. is_reading (stands w.connections z) ≡ false) (sym own.1) shut.1)
+    true≢false (sym (not-false _ (or_parts (is_some (subscription_at w s).closed) _ p).1) ∙ subst (λ z. is_reading (stands w.connections z) ≡ false) (sym own.1) shut.1)
 
 silent_flown : (w : World) (c : ℕ) (sends : List SentMessage) (past : List Answer) → SilentAfterClose past → SilentAfterClose (commit_answer w c sends ∷ past)
 silent_flown w c [] past h = h

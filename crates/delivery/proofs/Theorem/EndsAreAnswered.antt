@@ -1,6 +1,6 @@
 -- Where a span gets its end.
 use Rattle.std.proofs.Common.{◌≡◌, ◌≢◌, ℕ, ◌+◌, ◌<◌, ◌≤◌, ◌⊎◌, inl, inr, List, [], ◌∷◌, ◌++◌, length, Option, Some, None, refl, sym, ap, subst, ◌∙◌, arith}
-use Rattle.std.proofs.lemmas.Bool.{cases_order}
+use Rattle.std.proofs.lemmas.Bool.{cases_order, cases_lt}
 use Rattle.mcast_txn.specs.Part.{part_at}
 use Rattle.mcast_txn.specs.Ballot.{Decision}
 use Rattle.mcast_txn.specs.declared.id.Topic.{Topic}
@@ -24,11 +24,11 @@ use Rattle.delivery.proofs.Machine.Invariant.{topic_in, Owned}
 use Rattle.delivery.proofs.Machine.TopicSteps.{at_topic_from, at_topic}
 use Rattle.delivery.proofs.Machine.SubscriptionSteps.{at_push_two, at_added, found_entry, new_subscription, new_entry, topic_with, taken_more}
 use Rattle.delivery.proofs.Machine.InvariantIsKept.{Reached, by_refusal, step_reached}
-use Rattle.delivery.proofs.Theorem.AcceptedIsDue.{reached}
+use Rattle.delivery.proofs.Theorem.AcceptedIsDue.{reached, end_by}
 use Rattle.delivery.proofs.Theorem.HandedIsPrefix.{find_kept, find_inserted}
 use Rattle.delivery.proofs.Machine.QueueSteps.{Goes, release_goes, turned_goes}
-use Rattle.delivery.proofs.Machine.SpanSteps.{end_by, end_in, step_tells, moves_topic}
-use Rattle.delivery.proofs.Theorem.SpansAsAnswered.{known, handing, end_there, within, answer_ends, leave_ends}
+use Rattle.delivery.proofs.Machine.SpanSteps.{end_in, step_tells, moves_topic}
+use Rattle.delivery.proofs.Theorem.SpansAsAnswered.{known, handing, end_there, answer_ends, leave_ends}
 
 -- an end that is new
 abbrev New : World → ℕ → Stamp → World → Type 0
@@ -163,7 +163,7 @@ happens_why r e s end l =
 -- a span gets its end as it is closed, or by a release or a turn that leaves its queue full
 pub ends_are_told : Reported.EndsAreAnswered
 ends_are_told r e s end none some =
-    let w = final_world r in let h = reached r in elim (within s (length w.subscriptions)) [
+    let w = final_world r in let h = reached r in elim (cases_lt s (length w.subscriptions)) [
       | inl l ↦ happens_why r e s end l (none, some)
       | inr l ↦ none_some end (sym ((step_tells (answers_of r) w e h).fresh s l (end_there (answer_to w e ∷ answers_of r) (world_after w e) s end (step_reached (answers_of r) w e h) some)).0 ∙ some)
     ]

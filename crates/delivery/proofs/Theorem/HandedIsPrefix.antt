@@ -1,8 +1,9 @@
 -- What was handed on is a prefix of what was accepted.
 use Rattle.std.specs.Prelude.{slice_get}
-use Rattle.std.proofs.Common.{◌≡◌, ◌≢◌, ℕ, ◌+◌, ◌<◌, ◌≤◌, ◌==◌, nat_lt, Bool, true, false, cond, not, List, [], ◌∷◌, ◌++◌, map, length, set, Option, Some, None, refl, sym, ap, subst, ◌∙◌, arith, ltb}
+use Rattle.std.proofs.Common.{◌≡◌, ◌≢◌, ℕ, ◌+◌, ◌<◌, ◌≤◌, ◌==◌, nat_lt, Bool, true, false, cond, not, List, [], ◌∷◌, ◌++◌, map, length, set, Option, Some, None, refl, sym, ap, subst, ◌∙◌, arith, ltb, append_assoc}
 use Rattle.std.specs.List.{filter}
-use Rattle.std.proofs.lemmas.Bool.{eqb-true, eq-eqb, ltb-true}
+use Rattle.std.proofs.lemmas.Bool.{eqb-true, eq-eqb, ltb-true, not-false}
+use Rattle.std.proofs.lemmas.List.{length_push}
 use Rattle.mcast_txn.specs.Part.{part_at}
 use Rattle.mcast_txn.specs.Ballot.{Decision}
 use Rattle.mcast_txn.specs.declared.id.Topic.{Topic}
@@ -22,12 +23,11 @@ use Rattle.delivery.specs.Machine.Moves.Move.{AddsTopic, Commits, Subscribes, Un
 use Rattle.delivery.specs.Machine.Moves.Answer.{Refused, Done, Learnt, Handed}
 use Rattle.delivery.specs.Machine.Runs.{run, answers_from, delivered_items}
 use Rattle.delivery.specs.Theorem.Laws
-use Rattle.delivery.specs.Theorem.Laws.{Run, answers_of, final_world}
 use Rattle.delivery.proofs.Machine.Invariant.{topic_in, Owned}
 use Rattle.delivery.proofs.Machine.TopicSteps.{Entries, Entries-same, Keeps-release, Keeps-turned, at_topic_from}
-use Rattle.delivery.proofs.Machine.SubscriptionSteps.{at_push_two, at_added, set_length, push_length, found_entry, new_subscription, new_entry, topic_with, taken_more}
-use Rattle.delivery.proofs.Machine.InvariantIsKept.{Reached, tickets, by_refusal, finds, step_reached, checked, false_not}
-use Rattle.delivery.proofs.Theorem.AcceptedIsDue.{start_reached}
+use Rattle.delivery.proofs.Machine.SubscriptionSteps.{at_push_two, at_added, set_length, found_entry, new_subscription, new_entry, topic_with, taken_more}
+use Rattle.delivery.proofs.Machine.InvariantIsKept.{Reached, tickets, by_refusal, finds, step_reached, checked}
+use Rattle.delivery.proofs.Theorem.AcceptedIsDue.{start_reached, items_by}
 
 -- ---- queues grow
 
@@ -40,10 +40,6 @@ find_more n step number grows [] = More-same []
 find_more n step number grows (e ∷ es) =
     subst (λ (k : ℕ). More (entry_items (cond (e.number == n) (Some e) (find_entry n es))) (entry_items (cond (k == n) (Some (step e)) (find_entry n (map step es))))) (sym (number e))
     (find_more_case (e.number == n) e (step e) (find_entry n es) (find_entry n (map step es)) (grows e) (find_more n step number grows es))
-
--- what a queue has accepted: by what the closed subscription left, or by its entry
-abbrev pub items_by : Option EntryEnd → Option Entry → List Item
-items_by closed entry = elim closed [ None ↦ entry_items entry | Some end ↦ end.accepted ]
 
 -- a subscription's queue has more where its entry's has
 pub More-by : (closed : Option EntryEnd) (a b : Option Entry) → More (entry_items a) (entry_items b) → More (items_by closed a) (items_by closed b)
@@ -82,14 +78,10 @@ pub record Grows (w v : World) : Type 0 where
   taken : (s : ℕ) → (subscription_at v s).taken ≡ (subscription_at w s).taken
   pub more : (s : ℕ) → s < length w.subscriptions → More (accepted_at w s) (accepted_at v s)
 
-append_again : (xs ys zs : List Item) → (xs ++ ys) ++ zs ≡ xs ++ (ys ++ zs)
-append_again [] ys zs = refl
-append_again (x ∷ xs) ys zs = ap (λ z. x ∷ z) (append_again xs ys zs)
-
 IsTaken-more : (given xs ys : List Item) (m n : ℕ) → More xs ys → n ≡ m → IsTaken given xs m → IsTaken given ys n
 IsTaken-more given xs ys m n g e h = record {
   rest = h.rest ++ g.more;
-  is = g.is ∙ (ap (λ z. z ++ g.more) h.is ∙ append_again given h.rest g.more);
+  is = g.is ∙ (ap (λ z. z ++ g.more) h.is ∙ append_assoc given h.rest g.more);
   count = e ∙ h.count;
 }
 
@@ -187,12 +179,12 @@ begun_handing past w c t h =
             is = ap (λ z. z ++ entry_items (find_entry s (topic_in v.topics t).subscriptions)) (sym (h.fresh s (omega arith)));
             count = ap (λ (z : List Item). length z) (sym (h.fresh s (omega arith)));
           })
-          (λ ne. let k : s < length w.subscriptions = (let m = push_length w.subscriptions (new_subscription w c t) in omega arith) in
+          (λ ne. let k : s < length w.subscriptions = (let m = length_push w.subscriptions (new_subscription w c t) in omega arith) in
           IsTaken-more (delivered_items s past) (accepted_at w s) _ (subscription_at w s).taken (subscription_at w s).taken
           (More-topic w t (topic_with w t) s (subscription_at w s)
           (More-equal _ _ (ap entry_items (find_inserted s (topic_in w.topics t).subscriptions (new_entry w t) (λ e. ne (sym e))))))
           refl (h.held s k));
-      fresh = λ s l. h.fresh s (let m = push_length w.subscriptions (new_subscription w c t) in omega arith);
+      fresh = λ s l. h.fresh s (let m = length_push w.subscriptions (new_subscription w c t) in omega arith);
     }
 
 -- ---- an item is handed on
@@ -202,18 +194,13 @@ next_of [] [] i e = none_some i e
 next_of [] (r ∷ rest) i e = (rest, ap (λ z. z ∷ rest) (some_same r i e))
 next_of (x ∷ xs) rest i e = next_of xs rest i e
 
--- a push adds one to the length
-pub length_push : (xs : List Item) (i : Item) → length xs + 1 ≡ length (xs ++ i ∷ [])
-length_push [] i = refl
-length_push (x ∷ xs) i = let m = length_push xs i in omega arith
-
 taken_next : (given accepted : List Item) (n : ℕ) (i : Item) → IsTaken given accepted n → slice_get accepted n ≡ Some i → IsTaken (given ++ i ∷ []) accepted (n + 1)
 taken_next given accepted n i h e =
     let k = next_of given h.rest i (subst (λ z. slice_get (given ++ h.rest) z ≡ Some i) h.count (subst (λ z. slice_get z n ≡ Some i) h.is e)) in
     record {
       rest = k.0;
-      is = h.is ∙ (ap (λ z. given ++ z) k.1 ∙ sym (append_again given (i ∷ []) k.0));
-      count = ap (λ (z : ℕ). z + 1) h.count ∙ length_push given i;
+      is = h.is ∙ (ap (λ z. given ++ z) k.1 ∙ sym (append_assoc given (i ∷ []) k.0));
+      count = ap (λ (z : ℕ). z + 1) h.count ∙ sym (length_push given i);
     }
 
 handed_other : (s r : ℕ) (i : Item) (past : List Answer) → r ≢ s → delivered_items s (Handed r i ∷ past) ≡ delivered_items s past
@@ -295,7 +282,7 @@ happens_handing past w (Turns t) r h e = told past (move_effect w (Turns t)) (mo
     (grown past w (move_effect w (Turns t)) (Grows-topic w t _ (entries_more (topic_in w.topics t) _
     (Keeps-turned (tickets past) w.commits t (queue_has_room w) (verdict_in w) (topic_at w t) r.inv.consistent (finds (tickets past) w r.inv) (r.inv.tied t)).entries)) h)
 happens_handing past w (Takes s) r h e =
-    handed_handing past w s (ltb-true s (length w.subscriptions) (false_not (ltb s (length w.subscriptions)) (checked w (Takes s) e).0)) h _ refl
+    handed_handing past w s (ltb-true s (length w.subscriptions) (not-false (ltb s (length w.subscriptions)) (checked w (Takes s) e).0)) h _ refl
 happens_handing past w _ r h e = record { held = h.held; fresh = h.fresh }
 
 -- each event keeps Handing

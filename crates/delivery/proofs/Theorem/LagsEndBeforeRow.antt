@@ -10,6 +10,7 @@ use Rattle.mcast_group.specs.Machine.{TopicState, Pending, Entry, EntryEnd, find
 use Rattle.mcast_group.proofs.Parts.{some_same, none_some}
 use Rattle.mcast_group.proofs.Queues.{delivered_number}
 use Rattle.mcast_group.proofs.Turning.{release_keeps, turn_keeps}
+use Rattle.mcast_group.proofs.Keeping.{last_push}
 use Rattle.delivery.specs.Machine.World.{World, topic_at, subscription_at, entry_at, with_topic}
 use Rattle.delivery.specs.Machine.Observed.{entry_to, end_at, log_at}
 use Rattle.delivery.specs.Machine.Moves.{Move, world_after, move_effect, queue_has_room, verdict_in}
@@ -20,9 +21,9 @@ use Rattle.delivery.specs.Theorem.Spans.{EndsBeforeRow}
 use Rattle.delivery.proofs.Machine.Invariant.{topic_in}
 use Rattle.delivery.proofs.Machine.TopicSteps.{at_topic}
 use Rattle.delivery.proofs.Machine.InvariantIsKept.{by_refusal}
-use Rattle.delivery.proofs.Machine.SpanSteps.{end_by}
 use Rattle.delivery.proofs.Theorem.EndsAreAnswered.{ends_are_told}
 use Rattle.delivery.proofs.Theorem.TopicsAreSound.{topics_are_sound}
+use Rattle.delivery.proofs.Theorem.AcceptedIsDue.{end_by}
 
 -- ---- one topic
 
@@ -35,10 +36,6 @@ record Lags (x y : TopicState) : Type 0 where
 
 Lags-same : (x : TopicState) → x.frontier ≡ last_stamp zero_stamp x.held → Lags x x
 Lags-same x f = record { rows = []; log = sym (append-nil x.held); frontier = f; ends = λ n end a b. none_some end (sym a ∙ b) }
-
-last_push : (base : Stamp) (rows : List LogRow) (r : LogRow) → r.stamp ≡ last_stamp base (rows ++ r ∷ [])
-last_push base [] r = refl
-last_push base (q ∷ rows) r = last_push q.stamp rows r
 
 -- the end of an entry that is given an item: its old one, or this frontier
 given_to : (b : Bool) (frontier end : Stamp) (number : ℕ) (from : Stamp) (accepted items : List Item) → let later : Entry = cond b (record { number = number; from = from; to = None; accepted = items }) (record { number = number; from = from; to = Some frontier; accepted = accepted }) in later.to ≡ Some end → frontier ≡ end

@@ -1,7 +1,7 @@
 -- A topic's log is the agreed sequence restricted to it, up to its frontier: as many rows as its outcomes released.
-use Rattle.std.proofs.Common.{◌≡◌, ℕ, ◌+◌, ◌-◌, ◌<◌, ◌≤◌, ◌==◌, Bool, true, false, cond, not, ◌&&◌, inl, inr, List, [], ◌∷◌, map, length, take, Option, Some, None, refl, sym, ap, subst, ◌∙◌, arith}
+use Rattle.std.proofs.Common.{◌≡◌, ℕ, ◌+◌, ◌-◌, ◌<◌, ◌≤◌, ◌==◌, Bool, true, false, cond, not, ◌&&◌, List, [], ◌∷◌, map, length, take, Option, Some, None, refl, sym, ap, subst, ◌∙◌, arith}
 use Rattle.std.specs.List.{filter}
-use Rattle.std.proofs.lemmas.Bool.{not-true, true≢false, and_parts, and_from, eqb-true, eq-eqb, ltb-true}
+use Rattle.std.proofs.lemmas.Bool.{not-true, true≢false, and_parts, and_from, eqb-true, eq-eqb, ltb-true, not-false}
 use Rattle.std.proofs.lemmas.List.{get_or-set_same, length-append, take-map}
 use Rattle.mcast_txn.specs.Stamp.{stamp_lt}
 use Rattle.mcast_txn.specs.Part.{part_at}
@@ -15,7 +15,7 @@ use Rattle.mcast_txn.specs.declared.id.TxnId.{TxnId}
 use Rattle.mcast_txn.specs.declared.draft.sent_message.SentMessage.{SentMessage}
 use Rattle.mcast_txn.specs.declared.stamp.Stamp.{Stamp}
 use Rattle.mcast_txn.proofs.Orders.{lt_asym, le_lt, same_topics}
-use Rattle.mcast_txn.proofs.Members.{In-map, In-map_cases, In-filter, In-filter_cases, at_set}
+use Rattle.mcast_txn.proofs.Members.{In-map, In-map_cases, In-filter, In-filter_cases, at_set, filter_none}
 use Rattle.mcast_txn.proofs.Sorting.{In-sorted, In-sorted_cases, Rises-sorted, Rises-filter, Rises-map, same_rising}
 use Rattle.mcast_group.specs.declared.fault.ProposeFault.{ProposeFault}
 use Rattle.mcast_txn.specs.Span.{LogRow, Item, row_stamp}
@@ -30,11 +30,11 @@ use Rattle.delivery.specs.Machine.Moves.Move.{AddsTopic, Commits, Subscribes, Un
 use Rattle.delivery.specs.Machine.Moves.Answer.{Done, Learnt}
 use Rattle.delivery.specs.Machine.Runs.{run, answers_from, commits_of, released_at}
 use Rattle.delivery.specs.Theorem.Laws
-use Rattle.delivery.specs.Theorem.Laws.{Run, answers_of, final_world, is_logged}
+use Rattle.delivery.specs.Theorem.Laws.{answers_of, final_world, is_logged}
 use Rattle.delivery.proofs.Machine.Invariant.{topic_in, Holds}
 use Rattle.delivery.proofs.Machine.TopicSteps.{at_topic_from}
 use Rattle.delivery.proofs.Machine.SubscriptionSteps.{at_added, topic_with}
-use Rattle.delivery.proofs.Machine.InvariantIsKept.{tickets, by_refusal, checked, false_not}
+use Rattle.delivery.proofs.Machine.InvariantIsKept.{tickets, by_refusal, checked}
 use Rattle.delivery.proofs.Theorem.AcceptedIsDue.{reached, at_new, frontier_is, in_log}
 
 -- ---- the log beside the agreed sequence
@@ -157,8 +157,8 @@ effect_counts t past w (Leaves c) n h = left_counts t past w c (oldest_live c 0 
 effect_counts t past w (Proposes c u memory) n h = proposed_counts t past w c u (proposal_fault w c u memory) h
 effect_counts t past w (Cancels c u) n h = cancelled_counts t past w c u (find_leftover u (speaker w c).leftovers) h
 effect_counts t past w (Learns u id) n h = learned_counts t past w u id (find_verdict id w.verdicts) h
-effect_counts t past w (Releases u) n h = released_counts t past w u (false_not (is_topic w u) (checked w (Releases u) n).0) (due_part (topic_at w u)) h
-effect_counts t past w (Turns u) n h = turned_counts t past w u (false_not (is_topic w u) (checked w (Turns u) n).0) h
+effect_counts t past w (Releases u) n h = released_counts t past w u (not-false (is_topic w u) (checked w (Releases u) n).0) (due_part (topic_at w u)) h
+effect_counts t past w (Turns u) n h = turned_counts t past w u (not-false (is_topic w u) (checked w (Turns u) n).0) h
 effect_counts t past w (Takes q) n h = taken_counts t past w q _ h
 effect_counts t past w _ n h = h
 
@@ -177,10 +177,6 @@ log_counts_releases r t = run_counts t r.events [] (start r.capacity r.log_limit
 
 -- ---- both
 
-none_pass : {X : Type 0} (q : X → Bool) (xs : List X) → ((x : X) → In x xs → q x ≡ false) → filter q xs ≡ []
-none_pass q [] h = refl
-none_pass q (x ∷ xs) h = ap (λ (b : Bool). cond b (x ∷ filter q xs) (filter q xs)) (h x (inl refl)) ∙ none_pass q xs (λ y i. h y (inr i))
-
 -- of rows that rise those up to f that pass are a front of those that pass
 abbrev pub IsFront : (CommitRow → Bool) → Stamp → List CommitRow → Type 0
 IsFront p f rows = let q : CommitRow → Bool = λ r. p r && not (stamp_lt f r.stamp) in filter q rows ≡ take (length (filter q rows)) (filter p rows)
@@ -193,7 +189,7 @@ front_case : (p : CommitRow → Bool) (f : Stamp) (x : CommitRow) (xs : List Com
 front_case p f x xs up h false b e = h
 front_case p f x xs up h true false e = ap (λ z. x ∷ z) h
 front_case p f x xs up h true true e =
-    let n = none_pass (λ r. p r && not (stamp_lt f r.stamp)) xs
+    let n = filter_none (λ r. p r && not (stamp_lt f r.stamp)) xs
     (λ y i. and_false (p y) (not (stamp_lt f y.stamp)) (ap not (le_lt f x.stamp y.stamp (lt_asym f x.stamp e) (up y i)))) in
     n ∙ sym (ap (λ (z : List CommitRow). take (length z) (x ∷ filter p xs)) n)
 

@@ -2,7 +2,7 @@
 use Rattle.std.specs.Prelude.{slice_get}
 use Rattle.std.proofs.Common.{◌≡◌, ℕ, zero, suc, ◌+◌, ◌<◌, ◌≤◌, Bool, true, false, cond, not, ◌&&◌, List, [], ◌∷◌, length, Option, Some, None, refl, sym, subst, ◌⊎◌, inl, inr, arith, ltb}
 use Rattle.std.specs.Option.{is_some}
-use Rattle.std.proofs.lemmas.Bool.{true≢false, and_parts, ltb-true}
+use Rattle.std.proofs.lemmas.Bool.{true≢false, and_parts, ltb-true, not-false}
 use Rattle.mcast_txn.specs.Part.{part_at}
 use Rattle.mcast_txn.specs.Ballot.{Decision}
 use Rattle.mcast_txn.specs.Lists.{In}
@@ -16,13 +16,13 @@ use Rattle.mcast_group.specs.Machine.{Pending, due_part, propose_fault}
 use Rattle.mcast_group.proofs.Parts.{none_some, some_same, not_true}
 use Rattle.delivery.specs.Machine.World.{World, Leftover, Subscription, subscription_at, speaker, topic_at, connection_at, speaker_number}
 use Rattle.delivery.specs.Machine.Observed.{accepted_at, end_at}
-use Rattle.delivery.specs.Machine.Moves.{Move, move_answer, move_refusal, objections, cancel_objection, learn_objection, commit_answer, leave_answer, propose_answer, proposal_fault, or_out_of_memory, cancel_answer, release_answer, take_answer, find_leftover, find_verdict, oldest_live, is_live, undecided_at}
+use Rattle.delivery.specs.Machine.Moves.{Move, move_answer, move_refusal, move_refusals, cancel_objection, learn_objection, commit_answer, leave_answer, propose_answer, proposal_fault, or_out_of_memory, cancel_answer, release_answer, take_answer, find_leftover, find_verdict, oldest_live, is_live, undecided_at}
 use Rattle.delivery.specs.Machine.Moves.Move.{AddsTopic, Opens, Connects, Commits, Subscribes, Unsubscribes, Disconnects, Errs, Lost, Leaves, Proposes, Decides, Withdraws, Cancels, Learns, Releases, Turns, Takes}
 use Rattle.delivery.specs.Theorem.Answers.{IsAnswer, IsOldest, MovesAreAnswered}
 use Rattle.delivery.proofs.Machine.Invariant.{sub_in}
 use Rattle.delivery.proofs.Machine.SenderSteps.{leftover_found}
 use Rattle.delivery.proofs.Machine.Speakers.{has_speaker}
-use Rattle.delivery.proofs.Machine.InvariantIsKept.{by_refusal, checked, false_not, or_else_after, verdict_found}
+use Rattle.delivery.proofs.Machine.InvariantIsKept.{by_refusal, checked, or_else_after, verdict_found}
 
 -- ---- the oldest subscription
 
@@ -129,10 +129,10 @@ answer_is : (w : World) (e : Move) → move_refusal w e ≡ None → IsAnswer w 
 answer_is w (AddsTopic clock) n = inl (clock, refl)
 answer_is w Opens n = (refl, refl)
 answer_is w (Connects c claimed) n = inr (inl (c, claimed, refl))
-answer_is w (Commits c sends) n = commit_is w c sends (has_speaker w c (false_not _ (checked w (Commits c sends) n).1.1.1.0))
+answer_is w (Commits c sends) n = commit_is w c sends (has_speaker w c (not-false _ (checked w (Commits c sends) n).1.1.1.0))
 answer_is w (Subscribes c t) n = (refl, refl, refl)
 answer_is w (Unsubscribes c s) n =
-    let k = and_parts (ltb s (length w.subscriptions)) (is_live c (subscription_at w s)) (false_not _ (checked w (Unsubscribes c s) n).1.1.1.0) in
+    let k = and_parts (ltb s (length w.subscriptions)) (is_live c (subscription_at w s)) (not-false _ (checked w (Unsubscribes c s) n).1.1.1.0) in
     inl (c, refl, k.1)
 answer_is w (Disconnects c) n = inl refl
 answer_is w (Errs c) n = inl refl
@@ -142,9 +142,9 @@ answer_is w (Proposes c t memory) n = propose_is w c t memory (proposal_fault w 
 answer_is w (Decides c) n = (c, refl, refl, refl)
 answer_is w (Withdraws c) n = (refl, refl)
 answer_is w (Cancels c t) n =
-    cancel_is w c t (find_leftover t (speaker w c).leftovers) refl (or_else_after (first_refusal (objections w (Cancels c t))) _ n)
+    cancel_is w c t (find_leftover t (speaker w c).leftovers) refl (or_else_after (first_refusal (move_refusals w (Cancels c t))) _ n)
 answer_is w (Learns t id) n =
-    let h = learn_is w t id (find_verdict id w.verdicts) refl (or_else_after (first_refusal (objections w (Learns t id))) _ n) in
+    let h = learn_is w t id (find_verdict id w.verdicts) refl (or_else_after (first_refusal (move_refusals w (Learns t id))) _ n) in
     (refl, h.0, h.1, h.2)
 answer_is w (Releases t) n = release_is w t (due_part (topic_at w t)) refl (checked w (Releases t) n).1.0
 answer_is w (Turns t) n = refl

@@ -21,7 +21,7 @@ use Rattle.mcast_group.specs.Machine.{TopicState, Pending, Entry, find_pending, 
 use Rattle.mcast_group.proofs.Parts.{Waits, finds_part}
 use Rattle.delivery.specs.Machine.Objections.{Objection}
 use Rattle.delivery.specs.Machine.World.{World, Leftover, Subscription, topic_at, speaker, subscription_at, start, speaker_number}
-use Rattle.delivery.specs.Machine.Moves.{Move, Answer, world_after, answer_to, move_refusal, objections, or_out_of_memory, move_answer, undecided_at, find_leftover, oldest_live, commit_answer, proposal_fault, propose_answer, cancel_objection, cancel_objection_of, cancel_answer, release_answer, take_answer, leave_answer}
+use Rattle.delivery.specs.Machine.Moves.{Move, Answer, world_after, answer_to, move_refusal, move_refusals, or_out_of_memory, move_answer, undecided_at, find_leftover, oldest_live, commit_answer, proposal_fault, propose_answer, cancel_objection, cancel_objection_of, cancel_answer, release_answer, take_answer, leave_answer}
 use Rattle.delivery.specs.Machine.Moves.Move.{Commits, Leaves, Proposes, Cancels, Releases, Takes}
 use Rattle.delivery.specs.Machine.Moves.Answer.{Refused, Failed}
 use Rattle.delivery.specs.Machine.Runs.{answers_from}
@@ -67,7 +67,7 @@ is_waiting past w c t h (Some k) f e =
 pub cancel_finds_its_part : Laws.CancelFindsItsPart
 cancel_finds_its_part r c t e =
     let w = final_world r in
-    elim (else_cases (first_refusal (objections w (Cancels c t))) (cancel_objection w t (find_leftover t (speaker w c).leftovers)) Objection.NotPending
+    elim (else_cases (first_refusal (move_refusals w (Cancels c t))) (cancel_objection w t (find_leftover t (speaker w c).leftovers)) Objection.NotPending
     (outcome_case w (Cancels c t) Objection.NotPending (move_refusal w (Cancels c t)) (no_answer w (Cancels c t) Objection.NotPending) e)) [
       | inl k ↦ not_checked _ _ _ k
       | inr k ↦ is_waiting (answers_of r) w c t (reached r) (find_leftover t (speaker w c).leftovers) refl k

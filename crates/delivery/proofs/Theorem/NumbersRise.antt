@@ -2,7 +2,7 @@
 use Rattle.std.proofs.Common.{◌≡◌, ℕ, zero, suc, ◌+◌, ◌<◌, ◌≤◌, ◌==◌, Bool, true, false, cond, ◌⊎◌, inl, inr, List, [], ◌∷◌, ◌++◌, length, get_or, max, Option, Some, None, refl, sym, ap, subst, ◌∙◌, arith}
 use Rattle.std.specs.List.{AllByRecursion}
 use Rattle.std.proofs.lemmas.Bool.{eqb-true}
-use Rattle.std.proofs.lemmas.List.{get_or_past}
+use Rattle.std.proofs.lemmas.List.{get_or_past, length_push}
 use Rattle.mcast_txn.proofs.Orders.{same_topics}
 use Rattle.mcast_txn.specs.Lists.{RisesBy, In}
 use Rattle.mcast_txn.specs.Agreed.{CommitRow}
@@ -23,7 +23,7 @@ use Rattle.delivery.specs.Machine.Runs.{run, answers_from, txn_of_id}
 use Rattle.delivery.specs.Theorem.Laws.{Run, answers_of, final_world}
 use Rattle.delivery.specs.Theorem.Tied.{added_clocks, numbers_at}
 use Rattle.delivery.proofs.Machine.Invariant.{row}
-use Rattle.delivery.proofs.Machine.SubscriptionSteps.{at_push_two, push_length, set_length}
+use Rattle.delivery.proofs.Machine.SubscriptionSteps.{at_push_two, set_length}
 use Rattle.delivery.proofs.Machine.InvariantIsKept.{Reached, tickets, by_refusal, step_reached}
 use Rattle.delivery.proofs.Theorem.AcceptedIsDue.{start_reached}
 use Rattle.delivery.proofs.Theorem.StepLaws.{ticket_is_own}
@@ -156,7 +156,7 @@ kept_rising past opening w e r same h =
 
 added_rising : (past : List Answer) (opening : List ℕ) (w : World) (clock : ℕ) → Reached past w → Rising past opening w → Rising (answer_to w (AddsTopic clock) ∷ past) (opening ++ clock ∷ []) (world_after w (AddsTopic clock))
 added_rising past opening w clock r h =
-    let m = push_length opening clock in let n = push_length w.topics (new_topic (record { 0 = length w.topics }) w.log_limit clock) in
+    let m = length_push opening clock in let n = length_push w.topics (new_topic (record { 0 = length w.topics }) w.log_limit clock) in
     let c = h.count in record {
       count = omega arith;
       rising = h.rising;

@@ -1,7 +1,8 @@
 -- The plain program of what is due.
-use Rattle.std.proofs.Common.{◌≡◌, ℕ, suc, ◌+◌, ◌==◌, Bool, true, false, cond, ◌||◌, List, [], ◌∷◌, ◌++◌, map, length, refl, sym, ap, ◌∙◌, arith, ltb}
+use Rattle.std.proofs.Common.{◌≡◌, ℕ, suc, ◌+◌, ◌==◌, Bool, true, false, cond, ◌||◌, List, [], ◌∷◌, ◌++◌, map, length, refl, sym, ap, ◌∙◌, arith, ltb, append_assoc}
 use Rattle.std.specs.List.{filter, list_any}
 use Rattle.std.proofs.lemmas.Bool.{eqb-true}
+use Rattle.stomp_frame.proofs.Names.{or_third}
 use Rattle.mcast_txn.specs.Transaction.{topics_of, insert_topic, part_from, part_of}
 use Rattle.mcast_txn.specs.TopicSet.{names}
 use Rattle.mcast_txn.specs.declared.id.Topic.{Topic}
@@ -16,16 +17,10 @@ or_twice false false c e = refl
 or_twice true false c e = cc
 or_twice false true c e = cc
 
-or_swap : (a b c : Bool) → (a || (b || c)) ≡ (b || (a || c))
-or_swap true true c = refl
-or_swap true false c = refl
-or_swap false true c = refl
-or_swap false false c = refl
-
 names_case : (t s u : Topic) (us : List Topic) (a b : Bool) → (s.0 == u.0) ≡ b → names t (insert_topic s us) ≡ ((s.0 == t.0) || names t us) → names t (cond a (s ∷ u ∷ us) (cond b (u ∷ us) (u ∷ insert_topic s us))) ≡ ((s.0 == t.0) || ((u.0 == t.0) || names t us))
 names_case t s u us true b e ih = refl
 names_case t s u us false true e ih = or_twice (s.0 == t.0) (u.0 == t.0) (names t us) (ap (λ (n : ℕ). n == t.0) (eqb-true s.0 u.0 e))
-names_case t s u us false false e ih = ap (λ (z : Bool). (u.0 == t.0) || z) ih ∙ or_swap (u.0 == t.0) (s.0 == t.0) (names t us)
+names_case t s u us false false e ih = ap (λ (z : Bool). (u.0 == t.0) || z) ih ∙ or_third (u.0 == t.0) (s.0 == t.0) (names t us)
 
 names_inserted : (t s : Topic) (us : List Topic) → names t (insert_topic s us) ≡ ((s.0 == t.0) || names t us)
 names_inserted t s [] = refl
@@ -69,22 +64,17 @@ part_last t sends s =
     let k : 0 + length sends ≡ length sends = omega arith in
     part_last_from 0 t sends s ∙ ap (λ n. part_of t sends ++ last_part n t s) k
 
--- appending is associative
-pub append_again : {X : Type 0} (xs ys zs : List X) → (xs ++ ys) ++ zs ≡ xs ++ (ys ++ zs)
-append_again [] ys zs = refl
-append_again (x ∷ xs) ys zs = ap (λ z. x ∷ z) (append_again xs ys zs)
-
 -- what was gathered so far, behind what is left
 pub part_taken : (t : Topic) (sends : List SentMessage) (s : SentMessage) (done : List PartMessage) → (s.topic.0 == t.0) ≡ true → part_of t (sends ++ s ∷ []) ++ done ≡ part_of t sends ++ part_send (length sends) s ∷ done
 part_taken t sends s done e =
     ap (λ z. z ++ done) (part_last t sends s ∙ ap (λ (b : Bool). part_of t sends ++ cond b (part_send (length sends) s ∷ []) []) e)
-    ∙ append_again (part_of t sends) (part_send (length sends) s ∷ []) done
+    ∙ append_assoc (part_of t sends) (part_send (length sends) s ∷ []) done
 
 -- a last SEND to another topic adds nothing to the part at t
 pub part_passed : (t : Topic) (sends : List SentMessage) (s : SentMessage) (done : List PartMessage) → (s.topic.0 == t.0) ≡ false → part_of t (sends ++ s ∷ []) ++ done ≡ part_of t sends ++ done
 part_passed t sends s done e =
     ap (λ z. z ++ done) (part_last t sends s ∙ ap (λ (b : Bool). part_of t sends ++ cond b (part_send (length sends) s ∷ []) []) e)
-    ∙ append_again (part_of t sends) [] done
+    ∙ append_assoc (part_of t sends) [] done
 
 -- ---- filters
 

@@ -20,8 +20,8 @@ use Rattle.delivery.proofs.Machine.Invariant.{topic_in}
 use Rattle.delivery.proofs.Machine.TopicSteps.{Entries-same, Keeps-release, Keeps-turned}
 use Rattle.delivery.proofs.Machine.SubscriptionSteps.{at_push_two, at_added, new_subscription, new_entry, topic_with, taken_more}
 use Rattle.delivery.proofs.Machine.InvariantIsKept.{Reached, tickets, by_refusal, finds}
-use Rattle.delivery.proofs.Theorem.AcceptedIsDue.{reached}
-use Rattle.delivery.proofs.Theorem.HandedIsPrefix.{items_by, find_inserted, closed_grows, entries_more, More-topic, More-by, More-equal}
+use Rattle.delivery.proofs.Theorem.AcceptedIsDue.{reached, items_by}
+use Rattle.delivery.proofs.Theorem.HandedIsPrefix.{find_inserted, closed_grows, entries_more, More-topic, More-by, More-equal}
 
 -- each queue of w has more in v
 abbrev Grow : World → World → Type 0

@@ -14,7 +14,7 @@ use Rattle.mcast_group.specs.Machine.{learn_fault, cancel_fault}
 use Rattle.mcast_group.proofs.Parts.{some_same, none_some}
 use Rattle.delivery.specs.Machine.Objections.{Objection, is_reported}
 use Rattle.delivery.specs.Machine.World.{World, Leftover, topic_at, speaker}
-use Rattle.delivery.specs.Machine.Moves.{Move, move_refusal, objections, topic_objection, find_leftover, find_verdict, learn_objection, learn_objection_of, cancel_objection, cancel_objection_of}
+use Rattle.delivery.specs.Machine.Moves.{Move, move_refusal, move_refusals, topic_objection, find_leftover, find_verdict, learn_objection, learn_objection_of, cancel_objection, cancel_objection_of}
 use Rattle.delivery.specs.Machine.Moves.Move.{AddsTopic, Opens, Connects, Commits, Subscribes, Unsubscribes, Leaves, Proposes, Decides, Withdraws, Cancels, Learns, Releases, Turns}
 use Rattle.delivery.specs.Theorem.Laws
 use Rattle.delivery.specs.Theorem.Laws.{Run, answers_of, final_world, is_odd, is_of_claim}
@@ -40,7 +40,7 @@ reported Objection.HasSender e = inr refl
 reported Objection.InUse e = inr refl
 reported _ e = inl refl
 
--- ---- what each of some tests says, the first that holds says
+-- ---- what each of some refusals says, the first that holds says
 
 abbrev Each : (Objection → Type 0) → List (Bool × Objection) → Type 0
 Each P [] = Unit {0}
@@ -58,9 +58,9 @@ either_is : (P : Objection → Type 0) (a b : Option Objection) (why : Objection
 either_is P None b why f g e = g e
 either_is P (Some x) b why f g e = f e
 
-refused_is : (P : Objection → Type 0) (w : World) (e : Move) (why : Objection) → Each P (objections w e) → (topic_objection w e ≡ Some why → P why) → move_refusal w e ≡ Some why → P why
+refused_is : (P : Objection → Type 0) (w : World) (e : Move) (why : Objection) → Each P (move_refusals w e) → (topic_objection w e ≡ Some why → P why) → move_refusal w e ≡ Some why → P why
 refused_is P w e why h k =
-    either_is P (first_refusal (objections w e)) (topic_objection w e) why (first_is P (objections w e) why h) k
+    either_is P (first_refusal (move_refusals w e)) (topic_objection w e) why (first_is P (move_refusals w e) why h) k
 
 -- ---- another's than the machine's own
 
@@ -117,7 +117,7 @@ IsExcept e why =
     ⊎ ((((why ≡ Objection.SeqFull) ⊎ (why ≡ Objection.NoSender)) × (c : ℕ) × (sends : List SentMessage) × (e ≡ Commits c sends))
     ⊎ ((is_of_claim why ≡ true) × (c : ℕ) × (claimed : Option ℕ) × (e ≡ Connects c claimed)))
 
-plain : (w : World) (e : Move) (why : Objection) → is_odd why ≡ false → Each IsOther (objections w e) → move_refusal w e ≡ Some why → IsExcept e why
+plain : (w : World) (e : Move) (why : Objection) → is_odd why ≡ false → Each IsOther (move_refusals w e) → move_refusal w e ≡ Some why → IsExcept e why
 plain w e why usual h k = elim (reported why usual) [
   | inl y ↦ inl y
   | inr own ↦ absurd (true≢false (sym own ∙ refused_is IsOther w e why h (topic_other w e why) k))

@@ -22,9 +22,9 @@ use Rattle.delivery.proofs.Machine.Invariant.{topic_in, Owned}
 use Rattle.delivery.proofs.Machine.TopicSteps.{at_topic, map_same, map_map}
 use Rattle.delivery.proofs.Machine.SubscriptionSteps.{at_push_two, at_added, found_entry, finds_entry, new_subscription, new_entry, topic_with, taken_more}
 use Rattle.delivery.proofs.Machine.InvariantIsKept.{Reached, by_refusal}
-use Rattle.delivery.proofs.Machine.SpanSteps.{end_by, end_in, items_in}
-use Rattle.delivery.proofs.Theorem.AcceptedIsDue.{reached}
-use Rattle.delivery.proofs.Theorem.HandedIsPrefix.{items_by, find_kept, find_inserted}
+use Rattle.delivery.proofs.Machine.SpanSteps.{end_in, items_in}
+use Rattle.delivery.proofs.Theorem.AcceptedIsDue.{reached, items_by, end_by}
+use Rattle.delivery.proofs.Theorem.HandedIsPrefix.{find_kept, find_inserted}
 use Rattle.delivery.proofs.Theorem.StepLaws.{find_stepped}
 
 -- ---- one topic

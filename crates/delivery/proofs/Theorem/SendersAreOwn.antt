@@ -3,7 +3,8 @@
 use Rattle.std.proofs.Common.{◌≡◌, ℕ, zero, suc, ◌<◌, ◌==◌, Bool, true, false, not, ◌&&◌, ◌||◌, ◌⊎◌, List, [], ◌∷◌, ◌++◌, length, set, get_or, Option, Some, None, inl, inr, refl, sym, ap, subst, ◌∙◌, arith, ltb}
 use Rattle.std.specs.List.{list_any}
 use Rattle.std.specs.Option.{is_some, option_map_or, unwrap_or}
-use Rattle.std.proofs.lemmas.Bool.{true≢false, and_parts, or_parts, eqb-true, eq-eqb, ltb-true, lt-ltb}
+use Rattle.std.proofs.lemmas.Bool.{true≢false, and_parts, or_parts, eqb-true, eq-eqb, ltb-true, lt-ltb, not-false}
+use Rattle.std.proofs.lemmas.List.{length_push}
 use Rattle.mcast_txn.specs.Ballot.{Decision}
 use Rattle.mcast_txn.specs.declared.id.Topic.{Topic}
 use Rattle.mcast_txn.specs.declared.id.TxnId.{TxnId}
@@ -22,8 +23,8 @@ use Rattle.delivery.specs.Machine.Runs.{run}
 use Rattle.delivery.specs.Theorem.Laws.{Run, final_world}
 use Rattle.delivery.specs.Theorem.Reported
 use Rattle.delivery.proofs.Machine.Invariant.{sender_in}
-use Rattle.delivery.proofs.Machine.SubscriptionSteps.{at_push, at_end, push_length, set_length, beyond}
-use Rattle.delivery.proofs.Machine.InvariantIsKept.{by_refusal, checked, false_not}
+use Rattle.delivery.proofs.Machine.SubscriptionSteps.{at_push, at_end, set_length, beyond}
+use Rattle.delivery.proofs.Machine.InvariantIsKept.{by_refusal, checked}
 use Rattle.delivery.proofs.Machine.Speakers.{has_speaker, flying_speaker, claim_there, claim_free}
 
 -- the connection of this number in a list; beyond its end, nobody
@@ -156,7 +157,7 @@ opened senders connections x none h =
 -- a new sender rests, for which none speaks
 begun : (senders : List SenderState) (connections : List Connection) → Speak senders connections → Speak (senders ++ new_sender ∷ []) connections
 begun senders connections h = record {
-  there = λ c s e. let l : s < length senders = h.there c s e in let m = push_length senders new_sender in omega arith;
+  there = λ c s e. let l : s < length senders = h.there c s e in let m = length_push senders new_sender in omega arith;
   own = h.own;
   resting = λ s u. at_push (λ (z : SenderState). Rests z) senders s new_sender new_sender (λ e o. o) (h.resting s u);
 }
@@ -219,21 +220,21 @@ connected : (w : World) (c : ℕ) (claimed : Option ℕ) → move_refusal w (Con
 connected w c claimed n h = by_claim claimed (claim_there w c claimed n) (claim_free w c claimed n)
   where
     room : c < length w.connections
-    room = ltb-true c (length w.connections) (false_not _ (checked w (Connects c claimed) n).0)
+    room = ltb-true c (length w.connections) (not-false _ (checked w (Connects c claimed) n).0)
 
     none : (connection_at w c).sender ≡ None
     none = is_none (connection_at w c).sender (checked w (Connects c claimed) n).1.1.1.0
 
     by_claim : (o : Option ℕ) → ((s : ℕ) → o ≡ Some s → s < length w.senders) → ((s : ℕ) → o ≡ Some s → is_in_use w s ≡ false) → Speaks (connect_effect w c o)
     by_claim None there free =
-        joined (w.senders ++ new_sender ∷ []) w.connections c (length w.senders) (let m = push_length w.senders new_sender in omega arith) room
+        joined (w.senders ++ new_sender ∷ []) w.connections c (length w.senders) (let m = length_push w.senders new_sender in omega arith) room
         (checked w (Connects c claimed) n).1.0 none (next_free w h) (begun w.senders w.connections h)
     by_claim (Some s) there free =
         joined w.senders w.connections c s (there s refl) room (checked w (Connects c claimed) n).1.0 none (unspoken w s (free s refl)) h
 
 -- a connection that is there has a sender with a transaction in flight, and speaks for it
 pub flying_speaks : (w : World) (c : ℕ) → is_gone (connection_at w c).standing ≡ false → not (is_some (speaker w c).flight) ≡ false → speaks_for (speaker_number w c) (connection_at w c) ≡ true
-flying_speaks w c there e = speaks (speaker_number w c) (connection_at w c) there (flying_speaker w c (false_not _ e))
+flying_speaks w c there e = speaks (speaker_number w c) (connection_at w c) there (flying_speaker w c (not-false _ e))
 
 flown : (w : World) (c : ℕ) (sends : List SentMessage) → speaks_for (speaker_number w c) (connection_at w c) ≡ true → Speaks w → Speaks (commit_effect w c sends)
 flown w c [] e h = h
@@ -279,7 +280,7 @@ effect_speaks w Opens n h = opened w.senders w.connections _ refl h
 effect_speaks w (Connects c claimed) n h = connected w c claimed n h
 effect_speaks w (Commits c sends) n h =
     let p = checked w (Commits c sends) n in
-    flown w c sends (speaks (speaker_number w c) (connection_at w c) p.1.0 (has_speaker w c (false_not _ p.1.1.1.0))) h
+    flown w c sends (speaks (speaker_number w c) (connection_at w c) p.1.0 (has_speaker w c (not-false _ p.1.1.1.0))) h
 effect_speaks w (Unsubscribes c s) n h = closed w s (entry_at w s) h
 effect_speaks w (Disconnects c) n h = standing_kept w.senders w.connections c Standing.Leaving refl (checked w (Disconnects c) n).1.0 h
 effect_speaks w (Errs c) n h = standing_kept w.senders w.connections c Standing.Leaving refl (checked w (Errs c) n).1.0 h
@@ -296,7 +297,7 @@ effect_speaks w (Cancels c t) n h = cancelled w c t (find_leftover t (speaker w 
 effect_speaks w (Learns t id) n h = learned w t id (find_verdict id w.verdicts) h
 effect_speaks w (Takes s) n h =
     let p = (checked w (Takes s) n).1.0 in
-    handed w s _ (reading_there (connection_at w (subscription_at w s).connection).standing (false_not _ (or_parts (is_some (subscription_at w s).closed) _ p).1)) h
+    handed w s _ (reading_there (connection_at w (subscription_at w s).connection).standing (not-false _ (or_parts (is_some (subscription_at w s).closed) _ p).1)) h
 effect_speaks w _ n h = h
 
 -- so does each event
@@ -402,7 +403,7 @@ goes_on w c claimed n = (is, ap (λ (o : Option ℕ). sender_in (claimed_senders
   where
     is : (connection_at (connect_effect w c claimed) c).sender ≡ Some (unwrap_or claimed (length w.senders))
     is = at_set_within (λ (z : Connection). z.sender ≡ Some (unwrap_or claimed (length w.senders))) w.connections c c _ nobody
-        (ltb-true c (length w.connections) (false_not _ (checked w (Connects c claimed) n).0)) (λ k. refl) (λ ne. absurd (ne refl))
+        (ltb-true c (length w.connections) (not-false _ (checked w (Connects c claimed) n).0)) (λ k. refl) (λ ne. absurd (ne refl))
 
 pub claims_go_on : Reported.ClaimsGoOn
 claims_go_on w c claimed =

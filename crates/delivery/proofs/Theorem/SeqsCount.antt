@@ -1,6 +1,7 @@
 -- The seq of each transaction counts its sender's.
 use Rattle.std.proofs.Common.{◌≡◌, ℕ, ◌+◌, ◌<◌, ◌≤◌, ◌==◌, Bool, true, false, cond, List, [], ◌∷◌, ◌++◌, length, get_or, set, Option, Some, None, refl, sym, ap, subst, ◌∙◌, arith}
-use Rattle.std.proofs.lemmas.Bool.{eqb-true, eq-eqb}
+use Rattle.std.proofs.lemmas.Bool.{eqb-true, eq-eqb, not-false}
+use Rattle.std.proofs.lemmas.List.{length_push}
 use Rattle.mcast_txn.specs.Ballot.{Decision}
 use Rattle.mcast_txn.specs.declared.id.Topic.{Topic}
 use Rattle.mcast_txn.specs.declared.id.TxnId.{TxnId}
@@ -16,10 +17,9 @@ use Rattle.delivery.specs.Machine.Moves.Move.{AddsTopic, Opens, Connects, Commit
 use Rattle.delivery.specs.Machine.Moves.Answer.{Refused, Done, Opened}
 use Rattle.delivery.specs.Machine.Runs.{run, answers_from, txn_count, Numbered}
 use Rattle.delivery.specs.Theorem.Laws
-use Rattle.delivery.specs.Theorem.Laws.{Run, answers_of, final_world}
 use Rattle.delivery.proofs.Machine.Invariant.{sender_in}
-use Rattle.delivery.proofs.Machine.SubscriptionSteps.{at_push_two, push_length, set_length}
-use Rattle.delivery.proofs.Machine.InvariantIsKept.{by_refusal, checked, false_not}
+use Rattle.delivery.proofs.Machine.SubscriptionSteps.{at_push_two, set_length}
+use Rattle.delivery.proofs.Machine.InvariantIsKept.{by_refusal, checked}
 use Rattle.delivery.proofs.Machine.Speakers.{has_speaker, claim_there}
 
 abbrev sender_of : List Connection → ℕ → Option ℕ
@@ -117,7 +117,7 @@ leaving_numbering past w c o a b h = told past w.senders _ o a b (standing_kept 
 -- a new sender begins
 begun_numbering : (past : List Answer) (w : World) → Numbering past w.senders w.connections → Numbering past (w.senders ++ new_sender ∷ []) w.connections
 begun_numbering past w h =
-    let m = push_length w.senders new_sender in record {
+    let m = length_push w.senders new_sender in record {
       seqs = λ s l. at_push_two (λ (z : SenderState). z.seq ≡ txn_count s past) w.senders s new_sender new_sender
           (λ k. sym (h.fresh s (omega arith))) (λ ne. h.seqs s (omega arith));
       fresh = λ s l. h.fresh s (omega arith);
@@ -139,7 +139,7 @@ spoken_numbering past w c s senders l h = record {
 connected_numbering : (past : List Answer) (w : World) (c : ℕ) (claimed : Option ℕ) → ((s : ℕ) → claimed ≡ Some s → s < length w.senders)
     → Numbering past w.senders w.connections → Numbering past (connect_effect w c claimed).senders (connect_effect w c claimed).connections
 connected_numbering past w c None there h =
-    spoken_numbering past w c (length w.senders) (w.senders ++ new_sender ∷ []) (let m = push_length w.senders new_sender in omega arith) (begun_numbering past w h)
+    spoken_numbering past w c (length w.senders) (w.senders ++ new_sender ∷ []) (let m = length_push w.senders new_sender in omega arith) (begun_numbering past w h)
 connected_numbering past w c (Some s) there h = spoken_numbering past w c s w.senders (there s refl) h
 
 happens_numbering : (past : List Answer) (w : World) (e : Move) → Numbering past w.senders w.connections → move_refusal w e ≡ None → Numbering (move_answer w e ∷ past) (move_effect w e).senders (move_effect w e).connections
@@ -155,7 +155,7 @@ happens_numbering past w Opens h e =
     })
 happens_numbering past w (Connects c claimed) h e = told past _ _ Done (λ s. refl) (λ k. k) (connected_numbering past w c claimed (claim_there w c claimed e) h)
 happens_numbering past w (Commits c sends) h e =
-    flown_numbering past w c sends (has_speaker w c (false_not _ (checked w (Commits c sends) e).1.1.1.0)) h
+    flown_numbering past w c sends (has_speaker w c (not-false _ (checked w (Commits c sends) e).1.1.1.0)) h
 happens_numbering past w (Subscribes c t) h e = told past w.senders w.connections _ (λ s. refl) (λ k. k) h
 happens_numbering past w (Unsubscribes c s) h e = told past _ _ (move_answer w (Unsubscribes c s)) (λ n. refl) (λ k. k) (same_numbering past w (close_effect w s) (closed_same w s (entry_at w s)) h)
 happens_numbering past w (Disconnects c) h e = leaving_numbering past w c _ (λ s. refl) (λ k. k) h

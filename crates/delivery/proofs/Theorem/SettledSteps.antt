@@ -12,9 +12,10 @@ use Rattle.mcast_txn.specs.declared.id.TxnId.{TxnId}
 use Rattle.mcast_txn.specs.declared.draft.sent_message.SentMessage.{SentMessage}
 use Rattle.mcast_txn.specs.declared.stamp.Stamp.{Stamp}
 use Rattle.mcast_txn.proofs.Orders.{id_equal}
+use Rattle.mcast_txn.proofs.Inserting.{In-insert_cases}
 use Rattle.mcast_txn.proofs.Members.{In-map_cases, at_set}
 use Rattle.mcast_group.specs.Machine.{TopicState, Pending, Entry, with_stamp, after_learn, after_cancel, after_release, after_turn, decided_stamp}
-use Rattle.mcast_group.proofs.Parts.{Waits, In-insert_cases, told_how, others, not_true, some_same}
+use Rattle.mcast_group.proofs.Parts.{Waits, told_how, others, not_true, some_same}
 use Rattle.mcast_group.proofs.Turning.{release_keeps, turn_keeps}
 use Rattle.delivery.specs.Machine.World.{World, Undecided, SenderState, new_sender, speaker, speaker_number}
 use Rattle.delivery.specs.Machine.Moves.{Answer, next_txn, commit_effect}
@@ -265,7 +266,7 @@ ticket_settling past w s t f inv new is h = record {
     | inl e ↦ cc
     | inr j ↦
         at (λ v z. (p : Pending) → In p z.pending → In (Cancelled id v) past → same_id p.part.id id ≡ false) u
-        (λ o p l m. elim (In-insert_cases p _ (topic_in w.topics t).pending l) [
+        (λ o p l m. elim (In-insert_cases _ p _ (topic_in w.topics t).pending l) [
           | inl e ↦ subst (λ (z : Pending). same_id z.part.id id ≡ false) e (h.not_cancelled s f id t new.flight m)
           | inr n ↦ h.gone t p id n m
         ])

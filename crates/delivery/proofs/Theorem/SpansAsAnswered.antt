@@ -1,7 +1,8 @@
 -- What a run's outcomes tell of its spans, and the bound of its queues.
-use Rattle.std.proofs.Common.{◌≡◌, ℕ, ◌+◌, ◌<◌, ◌≤◌, ◌==◌, true, false, not, ◌⊎◌, inl, inr, List, [], ◌∷◌, length, Option, Some, None, refl, sym, ap, subst, ◌∙◌, arith, ltb}
+use Rattle.std.proofs.Common.{◌≡◌, ℕ, ◌+◌, ◌<◌, ◌≤◌, ◌==◌, true, false, not, inl, inr, List, [], ◌∷◌, length, Option, Some, None, refl, sym, ap, subst, ◌∙◌, arith, ltb}
 use Rattle.std.specs.Option.{is_some}
-use Rattle.std.proofs.lemmas.Bool.{ltb-true, and_parts, cases_order}
+use Rattle.std.proofs.lemmas.Bool.{ltb-true, and_parts, not-false, not-true, cases_lt}
+use Rattle.std.proofs.lemmas.List.{length_push}
 use Rattle.mcast_txn.specs.Stamp.{zero_stamp}
 use Rattle.mcast_txn.specs.declared.id.Topic.{Topic}
 use Rattle.mcast_txn.specs.declared.draft.sent_message.SentMessage.{SentMessage}
@@ -21,11 +22,11 @@ use Rattle.delivery.specs.Machine.Runs.{run, answers_from}
 use Rattle.delivery.specs.Theorem.Laws.{Run, answers_of, final_world}
 use Rattle.delivery.specs.Theorem.Reported
 use Rattle.delivery.proofs.Machine.Invariant.{topic_in}
-use Rattle.delivery.proofs.Machine.SubscriptionSteps.{beyond, at_push_two, push_length, finds_entry, new_subscription}
-use Rattle.delivery.proofs.Machine.InvariantIsKept.{Reached, tickets, by_refusal, step_reached, checked, false_not}
+use Rattle.delivery.proofs.Machine.SubscriptionSteps.{beyond, at_push_two, finds_entry, new_subscription}
+use Rattle.delivery.proofs.Machine.InvariantIsKept.{Reached, tickets, by_refusal, step_reached, checked}
 use Rattle.delivery.proofs.Theorem.AcceptedIsDue.{reached, start_reached, frontier_is}
 use Rattle.delivery.proofs.Theorem.HandedIsPrefix.{Handing, run_handing}
-use Rattle.delivery.proofs.Theorem.ClosedIsSilent.{oldest_found, none_of, not_is}
+use Rattle.delivery.proofs.Theorem.ClosedIsSilent.{oldest_found, none_of}
 use Rattle.delivery.proofs.Machine.SpanSteps.{end_in, none_there, step_tells}
 
 -- ---- an answer that begins a subscription
@@ -95,7 +96,7 @@ pub record Begins (w : World) (s : ℕ) (t : Topic) (from : Stamp) : Type 0 wher
 
 begins_new : (w : World) (c : ℕ) (t : Topic) (s : ℕ) (from : Stamp) → s ≡ length w.subscriptions → from ≡ (topic_at w t).frontier → Begins (move_effect w (Subscribes c t)) s t from
 begins_new w c t s from n f =
-    let m = push_length w.subscriptions (new_subscription w c t) in record {
+    let m = length_push w.subscriptions (new_subscription w c t) in record {
       there = omega arith;
       topic = at_push_two (λ (z : Subscription). z.topic ≡ t) w.subscriptions s (new_subscription w c t) no_subscription (λ k. refl) (λ ne. absurd (ne n));
       start = at_push_two (λ (z : Subscription). z.from ≡ from) w.subscriptions s (new_subscription w c t) no_subscription (λ k. sym f) (λ ne. absurd (ne n));
@@ -121,7 +122,7 @@ closed_ends : (past : List Answer) (w : World) (s : ℕ) → Reached past w → 
 closed_ends past w s r l unclosed = closed_case past w s r l (none_of (subscription_at w s).closed unclosed) (entry_at w s) refl
 
 live_open : (c : ℕ) (x : Subscription) → is_live c x ≡ true → is_some x.closed ≡ false
-live_open c x e = not_is (is_some x.closed) (and_parts (x.connection == c) (not (is_some x.closed)) e).1
+live_open c x e = not-true (is_some x.closed) (and_parts (x.connection == c) (not (is_some x.closed)) e).1
 
 ends_as_told : (past : List Answer) (w : World) (q s : ℕ) (to : Stamp) → Reached past w → q < length w.subscriptions → is_some (subscription_at w q).closed ≡ false → Unsubscribed q (end_now w q) ≡ Unsubscribed s to → end_at (close_effect w q) s ≡ Some to
 ends_as_told past w q s to r l unclosed e =
@@ -141,7 +142,7 @@ pub answer_ends : (past : List Answer) (w : World) (e : Move) (s : ℕ) (to : St
 answer_ends past w (Commits d sends) s to r n e = absurd (flying_untold w d sends (told_of _ _ e tt))
 answer_ends past w (Subscribes d u) s to r n e = cc
 answer_ends past w (Unsubscribes d q) s to r n e =
-    let k = and_parts (ltb q (length w.subscriptions)) (is_live d (subscription_at w q)) (false_not _ (checked w (Unsubscribes d q) n).1.1.1.0) in
+    let k = and_parts (ltb q (length w.subscriptions)) (is_live d (subscription_at w q)) (not-false _ (checked w (Unsubscribes d q) n).1.1.1.0) in
     ends_as_told past w q s to r (ltb-true q (length w.subscriptions) k.0) (live_open d (subscription_at w q) k.1) e
 answer_ends past w (Leaves d) s to r n e = leave_ends past w d s to r (oldest_live d 0 w.subscriptions) refl e
 answer_ends past w (Proposes d u memory) s to r n e = absurd (propose_untold w d u (proposal_fault w d u memory) (told_of _ _ e tt))
@@ -156,17 +157,9 @@ ends_now past w e s to r =
 
 -- ---- a run
 
--- a number is below another, or it isn't
-pub within : (m n : ℕ) → (m < n) ⊎ (n ≤ m)
-within m n = elim (cases_order m n) [
-  | inl d ↦ inr (omega arith)
-  | inr (inl l) ↦ inl l
-  | inr (inr l) ↦ inr (omega arith)
-]
-
 -- only a subscription has an end
 pub end_there : (past : List Answer) (w : World) (s : ℕ) (end : Stamp) → Reached past w → end_at w s ≡ Some end → s < length w.subscriptions
-end_there past w s end r e = elim (within s (length w.subscriptions)) [
+end_there past w s end r e = elim (cases_lt s (length w.subscriptions)) [
   | inl l ↦ l
   | inr l ↦ none_some end (sym (ap (end_in w.topics s) (beyond w.subscriptions s no_subscription l) ∙ (none_there past w s (record { 0 = 0 }) r l).0) ∙ e)
 ]
@@ -182,7 +175,7 @@ step_known : (capacity : ℕ) (past : List Answer) (w : World) (e : Move) → Re
 step_known capacity past w e r h =
     let k = step_tells past w e r in let v = world_after w e in record {
       same = k.same ∙ h.same;
-      bounded = λ s l. elim (within s (length w.subscriptions)) [
+      bounded = λ s l. elim (cases_lt s (length w.subscriptions)) [
         | inl o ↦ subst (λ n. length (accepted_at v s) ≤ (subscription_at v s).taken + n) (sym k.same) ((k.each s o).bound (h.bounded s o))
         | inr o ↦ subst (λ (z : List Item). length z ≤ (subscription_at v s).taken + v.capacity) (sym (k.fresh s o l).1) (omega arith)
       ];

@@ -3,7 +3,7 @@ use Rattle.std.specs.Option.{option_or}
 use Rattle.std.specs.Option.{option_map}
 use Rattle.std.proofs.Common.{◌≡◌, ◌≢◌, ℕ, ◌+◌, ◌<◌, ◌==◌, max, Bool, true, false, cond, ◌⊎◌, inl, inr, List, [], ◌∷◌, ◌++◌, map, length, set, Option, Some, None, refl, sym, ap, subst, ◌∙◌, ltb}
 use Rattle.std.specs.Option.{is_some}
-use Rattle.std.proofs.lemmas.Bool.{true≢false, false≢true}
+use Rattle.std.proofs.lemmas.Bool.{true≢false, not-false}
 use Rattle.mcast_txn.proofs.Orders.{same_topics}
 use Rattle.mcast_txn.specs.Transaction.{topics_of}
 use Rattle.mcast_txn.specs.Lists.{In}
@@ -24,16 +24,17 @@ use Rattle.mcast_group.proofs.Parts.{found_part, some_same, none_some, after_rel
 use Rattle.mcast_group.proofs.Queues.{delivered_number}
 use Rattle.delivery.specs.Machine.Objections.{Objection}
 use Rattle.delivery.specs.Machine.World.{World, Leftover, topic_at, speaker, subscription_at, entry_at, start, speaker_number}
-use Rattle.delivery.specs.Machine.Moves.{Move, Answer, world_after, answer_to, move_refusal, objections, topic_objection, move_effect, move_answer, undecided_at, find_leftover, find_verdict, oldest_live, commit_effect, commit_answer, proposal_fault, propose_effect, propose_answer, cancel_effect, cancel_objection, cancel_objection_of, cancel_answer, learn_effect, learn_objection, learn_objection_of, release_answer, queue_has_room, take_effect, take_answer, leave_effect, leave_answer, close_effect_of}
+use Rattle.delivery.specs.Machine.Moves.{Move, Answer, world_after, answer_to, move_refusal, move_refusals, topic_objection, move_effect, move_answer, undecided_at, find_leftover, find_verdict, oldest_live, commit_effect, commit_answer, proposal_fault, propose_effect, propose_answer, cancel_effect, cancel_objection, cancel_objection_of, cancel_answer, learn_effect, learn_objection, learn_objection_of, release_answer, queue_has_room, take_effect, take_answer, leave_effect, leave_answer, close_effect_of}
 use Rattle.delivery.specs.Machine.Moves.Move.{AddsTopic, Opens, Connects, Commits, Subscribes, Unsubscribes, Leaves, Proposes, Decides, Withdraws, Cancels, Learns, Releases, Turns, Takes}
 use Rattle.delivery.specs.Machine.Moves.Answer.{Refused, Ticket}
 use Rattle.delivery.specs.Machine.Runs.{answers_from}
 use Rattle.delivery.specs.Theorem.Laws
-use Rattle.delivery.specs.Theorem.Laws.{Run, answers_of, final_world, move_topic, live_topic, is_odd, IsGiven}
-use Rattle.delivery.proofs.Machine.Invariant.{topic_in, Inv, Holds, Committed}
+use Rattle.delivery.specs.Theorem.Laws.{answers_of, final_world, move_topic, live_topic, is_odd, IsGiven}
+use Rattle.delivery.proofs.Machine.Effects.{made_world}
+use Rattle.delivery.proofs.Machine.Invariant.{topic_in}
 use Rattle.delivery.proofs.Machine.SenderSteps.{leftover_found}
 use Rattle.delivery.proofs.Machine.SubscriptionSteps.{at_old}
-use Rattle.delivery.proofs.Machine.InvariantIsKept.{Reached, tickets, by_refusal, checked, asks_of, Asks, step_reached, false_not}
+use Rattle.delivery.proofs.Machine.InvariantIsKept.{Reached, tickets, by_refusal, checked, asks_of, Asks, step_reached}
 use Rattle.delivery.proofs.Theorem.AcceptedIsDue.{reached, start_reached}
 use Rattle.delivery.proofs.Machine.VerdictsFit.{learn_fault_is}
 
@@ -193,7 +194,7 @@ usual_first : (cs : List (Bool × Objection)) (why : Objection) → AllUsual cs 
 usual_first [] why h e = none_some why e
 usual_first (c ∷ cs) why h e = usual_case c.0 c.1 why (first_refusal cs) h.0 (λ k. usual_first cs why h.1 k) e
 
-usual_checks : (w : World) (e : Move) → AllUsual (objections w e)
+usual_checks : (w : World) (e : Move) → AllUsual (move_refusals w e)
 usual_checks w (AddsTopic clock) = tt
 usual_checks w Opens = tt
 usual_checks w (Connects c None) = (refl, (refl, (refl, (refl, tt))))
@@ -249,7 +250,7 @@ else_usual (Some x) b why f g e = f e
 
 refusal_usual : (past : List Answer) (w : World) (e : Move) (why : Objection) → Reached past w → move_refusal w e ≡ Some why → is_odd why ≡ false
 refusal_usual past w e why h =
-    else_usual (first_refusal (objections w e)) (topic_objection w e) why (usual_first (objections w e) why (usual_checks w e)) (topic_usual past w e why h)
+    else_usual (first_refusal (move_refusals w e)) (topic_objection w e) why (usual_first (move_refusals w e) why (usual_checks w e)) (topic_usual past w e why h)
 
 -- an event that is answered by a refusal was refused for it
 pub outcome_case : (w : World) (e : Move) (why : Objection) (o : Option Objection) → (move_answer w e ≡ Refused why → Prim.⊥) → elim o [ None ↦ move_answer w e | Some other ↦ Refused other ] ≡ Refused why → o ≡ Some why
@@ -284,12 +285,6 @@ given_of : (w : World) (frontier : Stamp) (p : Pending) (number : ℕ) (from : S
 given_of w frontier p number from None accepted e = given_case w frontier p number from accepted (queue_has_room w (record { number = number; from = from; to = None; accepted = accepted })) refl
 given_of w frontier p number from (Some end) accepted e = none_some end (sym e)
 
-happens_when : (w : World) (e : Move) → move_refusal w e ≡ None → world_after w e ≡ move_effect w e
-happens_when w e n = ap (λ (o : Option Objection). pick o) n
-  where
-    pick : Option Objection → World
-    pick o = elim o [ None ↦ move_effect w e | Some why ↦ w ]
-
 stepped_case : (step : Entry → Entry) (b : Bool) (x e : Entry) (o p : Option Entry) → (o ≡ Some e → p ≡ Some (step e)) → cond b (Some x) o ≡ Some e → cond b (Some (step x)) p ≡ Some (step e)
 stepped_case step true x e o p ih k = ap (λ z. Some (step z)) (some_same x e k)
 stepped_case step false x e o p ih k = ih k
@@ -305,9 +300,9 @@ find_stepped n step number (x ∷ es) e k =
 pub lags_where_full : Laws.LagsWhereFull
 lags_where_full w t p number before n due found unended =
     let x = topic_at w t in let later = entry_after (queue_has_room w) x.frontier (item_of p) before in
-    let room = Rattle.std.proofs.lemmas.Bool.ltb-true t.0 (length w.topics) (false_not (ltb t.0 (length w.topics)) (checked w (Releases t) n).0) in (
+    let room = Rattle.std.proofs.lemmas.Bool.ltb-true t.0 (length w.topics) (not-false (ltb t.0 (length w.topics)) (checked w (Releases t) n).0) in (
       later,
-      subst (λ (v : World). find_entry number (topic_at v t).subscriptions ≡ Some later) (sym (happens_when w (Releases t) n))
+      subst (λ (v : World). find_entry number (topic_at v t).subscriptions ≡ Some later) (sym (made_world w (Releases t) n))
           (at_set_within (λ (z : TopicState). find_entry number z.subscriptions ≡ Some later) w.topics t.0 t.0 (after_release (queue_has_room w) x) (new_topic t 0 0) room
           (λ k. subst (λ (o : Option Pending). find_entry number (after_release_if (queue_has_room w) x o).subscriptions ≡ Some later) (sym due)
           (find_stepped number (entry_after (queue_has_room w) x.frontier (item_of p)) (delivered_number (queue_has_room w) x.frontier (item_of p)) x.subscriptions before found))

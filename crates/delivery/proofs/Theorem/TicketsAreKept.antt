@@ -1,24 +1,22 @@
 -- Where each ticket is: its transaction is undecided, or committed, or it is left over from a withdrawal, or was cancelled.
 use Rattle.std.proofs.Common.{◌≡◌, ◌≢◌, ℕ, ◌+◌, ◌<◌, ◌==◌, Bool, true, false, cond, ◌⊎◌, inl, inr, List, [], ◌∷◌, ◌++◌, length, map, set, Option, Some, None, refl, sym, ap, subst, ◌∙◌, arith}
 use Rattle.std.specs.Option.{is_some}
-use Rattle.std.proofs.lemmas.Bool.{true≢false, cases_order, or_parts}
+use Rattle.std.proofs.lemmas.Bool.{true≢false, cases_order, or_parts, not-false}
 use Rattle.mcast_txn.specs.Stamp.{greatest}
 use Rattle.mcast_txn.specs.Transaction.{topics_of}
 use Rattle.mcast_txn.specs.Agreed.{Transaction, CommitRow}
 use Rattle.mcast_txn.specs.Lists.{In}
 use Rattle.mcast_txn.specs.TopicSet.{names}
-use Rattle.mcast_txn.specs.Ballot.{Decision}
 use Rattle.mcast_txn.specs.declared.id.Topic.{Topic}
-use Rattle.mcast_txn.specs.declared.id.TxnId.{TxnId}
 use Rattle.mcast_txn.specs.declared.draft.sent_message.SentMessage.{SentMessage}
 use Rattle.mcast_txn.specs.declared.stamp.Stamp.{Stamp}
-use Rattle.mcast_txn.proofs.Members.{In-push, In-append_left, In-map, at_set, at_set_within, push_one}
+use Rattle.mcast_txn.proofs.Members.{In-push, In-append_left, In-append_right, In-map, at_set, at_set_within, push_one}
 use Rattle.mcast_group.specs.declared.fault.ProposeFault.{ProposeFault}
 use Rattle.mcast_txn.specs.Span.{Item}
 use Rattle.mcast_group.specs.Machine.{Pending, Entry, due_part}
 use Rattle.mcast_group.proofs.Parts.{some_same}
 use Rattle.delivery.specs.Machine.World.{World, Undecided, Leftover, SenderState, new_sender, speaker, entry_at, topic_at, start, speaker_number}
-use Rattle.delivery.specs.Machine.Moves.{Move, Answer, world_after, answer_to, move_refusal, move_effect, move_answer, undecided_at, find_leftover, drop_leftover, leftover, find_verdict, oldest_live, insert_ticket, next_txn, next_ticket, commit_effect, commit_answer, proposal_fault, propose_effect, propose_answer, decide_effect, withdraw_effect, cancel_effect, cancel_answer, learn_effect, release_answer, take_effect, take_answer, leave_effect, leave_answer, close_effect_of, connect_effect}
+use Rattle.delivery.specs.Machine.Moves.{Move, Answer, world_after, answer_to, move_refusal, move_effect, move_answer, undecided_at, find_leftover, drop_leftover, leftover, find_verdict, oldest_live, insert_ticket, next_txn, next_ticket, commit_effect, commit_answer, proposal_fault, propose_effect, propose_answer, decide_effect, withdraw_effect, cancel_effect, cancel_answer, release_answer, take_effect, take_answer, leave_effect, leave_answer, close_effect_of, connect_effect}
 use Rattle.delivery.specs.Machine.Moves.Move.{Connects, Commits, Unsubscribes, Leaves, Proposes, Decides, Withdraws, Cancels, Learns, Releases, Takes}
 use Rattle.delivery.specs.Machine.Moves.Answer.{Refused, Done, Begun, Ticket, Failed, Decided, Withdrawn, Cancelled}
 use Rattle.delivery.specs.Machine.Runs.{txn_of_id, run, answers_from}
@@ -27,7 +25,7 @@ use Rattle.delivery.proofs.Machine.Invariant.{row, sender_in}
 use Rattle.delivery.proofs.Machine.ProposeStep.{within_senders, cons_one, cons_two, not_given}
 use Rattle.delivery.proofs.Machine.SenderSteps.{TicketOf, complete_at, leftover_found}
 use Rattle.delivery.proofs.Machine.SubscriptionSteps.{at_push}
-use Rattle.delivery.proofs.Machine.InvariantIsKept.{Reached, tickets, by_refusal, checked, false_not, in_flight, Asks, asks_of, step_reached}
+use Rattle.delivery.proofs.Machine.InvariantIsKept.{Reached, tickets, by_refusal, checked, in_flight, Asks, asks_of, step_reached, learned_same}
 use Rattle.delivery.proofs.Theorem.AcceptedIsDue.{start_reached}
 
 -- ---- where a ticket is
@@ -193,14 +191,10 @@ decided_accounted past w c r n h =
       one = h.one;
       named = h.named;
       complete = push_one (λ (q : CommitRow). (t : Topic) → names t (topics_of q.txn.sends) ≡ true → TicketOf (tickets past) q.txn t) w.commits new h.complete
-          (λ t m. complete_at (tickets past) w s f g (false_not _ p.1.1.1.1.0) t m);
+          (λ t m. complete_at (tickets past) w s f g (not-false _ p.1.1.1.1.0) t m);
     }
 
 -- ---- a withdrawal
-
-In-append_right : {X : Type 0} (x : X) (xs ys : List X) → In x ys → In x (xs ++ ys)
-In-append_right x [] ys i = i
-In-append_right x (y ∷ xs) ys i = inr (In-append_right x xs ys i)
 
 withdrawn_accounted : (past : List Answer) (w : World) (c : ℕ) → Reached past w → move_refusal w (Withdraws c) ≡ None → Accounted past w.senders w.commits → Accounted (move_answer w (Withdraws c) ∷ past) (withdraw_effect w c).senders (withdraw_effect w c).commits
 withdrawn_accounted past w c r n h =
@@ -260,10 +254,6 @@ closed_senders : (w : World) (s : ℕ) (o : Option Entry) → ((close_effect_of 
 closed_senders w s None = (refl, refl)
 closed_senders w s (Some e) = (refl, refl)
 
-learned_senders : (w : World) (t : Topic) (id : TxnId) (o : Option Decision) → ((learn_effect w t id o).senders ≡ w.senders) × ((learn_effect w t id o).commits ≡ w.commits)
-learned_senders w t id None = (refl, refl)
-learned_senders w t id (Some v) = (refl, refl)
-
 -- an event that changes no sender and decides nothing
 same_accounted : (past : List Answer) (o : Answer) (w v : World) → tickets (o ∷ past) ≡ tickets past → (v.senders ≡ w.senders) × (v.commits ≡ w.commits) → Accounted past w.senders w.commits → Accounted (o ∷ past) v.senders v.commits
 same_accounted past o w v e same h =
@@ -312,7 +302,7 @@ happens_accounted past w (Proposes c t memory) r h n = proposed_accounted past w
 happens_accounted past w (Decides c) r h n = decided_accounted past w c r n h
 happens_accounted past w (Withdraws c) r h n = withdrawn_accounted past w c r n h
 happens_accounted past w (Cancels c t) r h n = cancelled_accounted past w c t (find_leftover t (speaker w c).leftovers) refl h
-happens_accounted past w (Learns t id) r h n = same_accounted past _ w (move_effect w (Learns t id)) refl (learned_senders w t id (find_verdict id w.verdicts)) h
+happens_accounted past w (Learns t id) r h n = same_accounted past _ w (move_effect w (Learns t id)) refl (learned_same w t id (find_verdict id w.verdicts)) h
 happens_accounted past w (Releases t) r h n = released_accounted past w t (due_part (topic_at w t)) h
 happens_accounted past w (Takes s) r h n = handed_accounted past w s _ h
 happens_accounted past w _ r h n = note past _ w.senders w.commits refl h

@@ -11,7 +11,7 @@ use Rattle.mcast_txn.specs.declared.id.Topic.{Topic}
 use Rattle.mcast_txn.specs.declared.id.TxnId.{TxnId}
 use Rattle.mcast_txn.specs.declared.stamp.Stamp.{Stamp}
 use Rattle.mcast_txn.proofs.Orders.{id_same, id_itself, le_lt}
-use Rattle.mcast_txn.proofs.Members.{In-push_cases}
+use Rattle.mcast_txn.proofs.Members.{In-push_cases, not_head}
 use Rattle.mcast_txn.specs.Span.{LogRow}
 use Rattle.mcast_group.specs.Machine.{Pending, key}
 use Rattle.mcast_group.proofs.Parts.{Waits}
@@ -29,7 +29,7 @@ use Rattle.delivery.proofs.Machine.InvariantIsKept.{tickets}
 use Rattle.delivery.proofs.Theorem.AcceptedIsDue.{reached}
 use Rattle.delivery.proofs.Machine.AnswerLemmas.{made_id, In-ticket}
 use Rattle.delivery.proofs.Theorem.SeqsCount.{seqs_count}
-use Rattle.delivery.proofs.Machine.MadeOnce.{made_is, not_head}
+use Rattle.delivery.proofs.Machine.MadeOnce.{made_is}
 use Rattle.delivery.proofs.Theorem.SettledLeavesNoneOut.{settling_run}
 use Rattle.delivery.proofs.Theorem.NumbersRise.{number_le, rising_run}
 use Rattle.delivery.proofs.Theorem.TicketsAreKept.{IsSomewhere, accounted}

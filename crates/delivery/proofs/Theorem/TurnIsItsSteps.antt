@@ -1,9 +1,9 @@
 -- A turn is its learns and its releases, one by one, and what its topic's log gets of it.
 use Rattle.std.specs.Option.{option_or}
 use Rattle.std.specs.Option.{option_map}
-use Rattle.std.proofs.Common.{◌≡◌, ℕ, zero, suc, ◌-◌, ◌<◌, Bool, true, not, inl, inr, List, [], ◌∷◌, ◌++◌, map, length, set, Option, Some, None, refl, sym, ap, ◌∙◌, arith}
+use Rattle.std.proofs.Common.{◌≡◌, ℕ, zero, suc, ◌-◌, ◌<◌, Bool, true, not, inl, inr, List, [], ◌∷◌, ◌++◌, map, length, set, Option, Some, None, refl, sym, ap, ◌∙◌, arith, append_assoc}
 use Rattle.std.specs.Option.{is_some}
-use Rattle.std.proofs.lemmas.Bool.{lt-ltb, le-ltb, ltb-true}
+use Rattle.std.proofs.lemmas.Bool.{lt-ltb, le-ltb, ltb-true, not-false, cases_lt}
 use Rattle.std.proofs.lemmas.List.{length-set, get_or_past, get_or-set_same, set-get_or, set-set}
 use Rattle.mcast_txn.specs.Ballot.{Decision}
 use Rattle.mcast_txn.specs.declared.id.Topic.{Topic}
@@ -13,6 +13,7 @@ use Rattle.mcast_txn.specs.Checks.{first_refusal}
 use Rattle.mcast_txn.specs.Span.{LogRow}
 use Rattle.mcast_group.specs.Machine.{TopicState, Pending, Entry, row_of, new_topic, learn_fault, after_learn, with_stamp, after_try, after_tries, due_part, after_release, after_releases, after_turn, decided_stamp}
 use Rattle.mcast_group.proofs.Parts.{map_length, after_release_if}
+use Rattle.mcast_group.proofs.Learning.{tried_all_held}
 use Rattle.delivery.specs.Machine.Objections.{Objection}
 use Rattle.delivery.specs.Machine.World.{World, topic_at, with_topic}
 use Rattle.delivery.specs.Machine.Observed.{log_at}
@@ -21,9 +22,7 @@ use Rattle.delivery.specs.Machine.Moves.Move.{Learns, Releases, Turns}
 use Rattle.delivery.specs.Machine.Moves.Answer.{Released, Turned}
 use Rattle.delivery.specs.Machine.Runs.{run}
 use Rattle.delivery.specs.Theorem.Laws
-use Rattle.delivery.proofs.Theorem.PlainDue.{append_again}
-use Rattle.delivery.proofs.Machine.InvariantIsKept.{by_refusal, checked, false_not}
-use Rattle.delivery.proofs.Theorem.SpansAsAnswered.{within}
+use Rattle.delivery.proofs.Machine.InvariantIsKept.{by_refusal, checked}
 use Rattle.delivery.proofs.Core.ByRun.{run_append}
 
 -- the world after a step: the new one, or the old one where it is refused
@@ -119,7 +118,7 @@ turn_when w t b e = ap (λ (z : Bool). stepped w (move_effect w (Turns t)) (opti
 
 -- a turn is a learn for each pending part, and then as many releases
 pub turn_is_its_steps : Laws.TurnIsItsSteps
-turn_is_its_steps w t = elim (within t.0 (length w.topics)) [
+turn_is_its_steps w t = elim (cases_lt t.0 (length w.topics)) [
   | inl l ↦ turn_when w t true (lt-ltb t.0 (length w.topics) l) ∙ turn_within w t l
   | inr l ↦ turn_when w t _ (le-ltb t.0 (length w.topics) l)
       ∙ ap (λ (x : TopicState). run (steps_of t x.pending) w) (sym (get_or_past w.topics t.0 (new_topic t 0 0) l))
@@ -142,7 +141,7 @@ Longer-same x y e = record { rows = []; is = e ∙ append_nothing x.held }
 Longer-then : (x y z : TopicState) → Longer x y → Longer y z → Longer x z
 Longer-then x y z a b = record {
   rows = a.rows ++ b.rows;
-  is = b.is ∙ (ap (λ (rows : List LogRow). rows ++ b.rows) a.is ∙ append_again x.held a.rows b.rows);
+  is = b.is ∙ (ap (λ (rows : List LogRow). rows ++ b.rows) a.is ∙ append_assoc x.held a.rows b.rows);
 }
 
 released_longer : (accepts : Entry → Bool) (x : TopicState) (o : Option Pending) → Longer x (after_release_if accepts x o)
@@ -154,22 +153,10 @@ times_longer accepts zero x = Longer-same x x refl
 times_longer accepts (suc k) x =
     let y = after_release accepts x in Longer-then x y (after_releases accepts k y) (released_longer accepts x (due_part x)) (times_longer accepts k y)
 
-tried_held : (id : TxnId) (o : Option Decision) (x : TopicState) → (after_try id o x).held ≡ x.held
-tried_held id None x = refl
-tried_held id (Some v) x = by (learn_fault id v x)
-  where
-    by : (o : Option LearnFault) → let y : TopicState = elim o [ None ↦ after_learn id (decided_stamp v) x | Some fault ↦ x ] in y.held ≡ x.held
-    by None = refl
-    by (Some fault) = refl
-
-all_held : (find : TxnId → Option Decision) (ps : List Pending) (x : TopicState) → (after_tries find ps x).held ≡ x.held
-all_held find [] x = refl
-all_held find (p ∷ ps) x = all_held find ps (after_try p.part.id (find p.part.id) x) ∙ tried_held p.part.id (find p.part.id) x
-
 turned_longer : (accepts : Entry → Bool) (find : TxnId → Option Decision) (x : TopicState) → Longer x (after_turn accepts find x)
 turned_longer accepts find x =
     let y = after_tries find x.pending x in
-    Longer-then x y (after_turn accepts find x) (Longer-same x y (all_held find x.pending x)) (times_longer accepts (length y.pending) y)
+    Longer-then x y (after_turn accepts find x) (Longer-same x y (tried_all_held find x.pending x)) (times_longer accepts (length y.pending) y)
 
 more_rows : (xs ys : List LogRow) → length (xs ++ ys) - length xs ≡ length ys
 more_rows [] ys = omega arith
@@ -193,7 +180,7 @@ pub released_is_logged : Laws.ReleasedIsLogged
 released_is_logged w t u id =
     by_refusal (λ v o. o ≡ Released u id → (u ≡ t) × (row : LogRow) × (row.id ≡ id) × (log_at v t ≡ log_at w t ++ row ∷ [])) w (Releases t)
     (λ why e. cc)
-    (λ n e. released_case w t u id (due_part (topic_at w t)) (false_not (is_topic w t) (checked w (Releases t) n).0) e)
+    (λ n e. released_case w t u id (due_part (topic_at w t)) (not-false (is_topic w t) (checked w (Releases t) n).0) e)
 
 turned_here : (w : World) (t u : Topic) (count : ℕ) → is_topic w t ≡ true → move_answer w (Turns t) ≡ Turned u count → (u ≡ t) × (rows : List LogRow) × (length rows ≡ count) × (log_at (move_effect w (Turns t)) t ≡ log_at w t ++ rows)
 turned_here w t u count room e =
@@ -206,4 +193,4 @@ pub turned_is_logged : Laws.TurnedIsLogged
 turned_is_logged w t u count =
     by_refusal (λ v o. o ≡ Turned u count → (u ≡ t) × (rows : List LogRow) × (length rows ≡ count) × (log_at v t ≡ log_at w t ++ rows)) w (Turns t)
     (λ why e. cc)
-    (λ n e. turned_here w t u count (false_not (is_topic w t) (checked w (Turns t) n).0) e)
+    (λ n e. turned_here w t u count (not-false (is_topic w t) (checked w (Turns t) n).0) e)

@@ -1,18 +1,16 @@
 -- Worked traces: of transactions that cross at two topics, and of one that crosses another beside a subscription.
-use Rattle.std.proofs.Common.{inl, inr, refl, subst, arith}
+use Rattle.std.proofs.Common.{inl, inr, refl, arith}
 use Rattle.std.specs.Prelude.{◌≡◌, ℕ, zero, suc, ◌<◌, true, List, [], ◌∷◌, codes, None}
-use Rattle.std.specs.List.{list_any}
 use Rattle.mcast_txn.specs.declared.id.Topic.{Topic}
 use Rattle.mcast_txn.specs.Agreed.{Transaction}
 use Rattle.mcast_txn.specs.Lists.{In}
 use Rattle.mcast_txn.specs.Span.{LogRow}
-use Rattle.mcast_txn.specs.Stamp.{same_stamp, stamp_lt}
 use Rattle.trace_audit.specs.Explained.{IsExplainedBy}
 use Rattle.trace_audit.specs.Faults.{audit_fault, is_whole}
-use Rattle.trace_audit.specs.Inner.Sorting.{IsSortingOf}
-use Rattle.trace_audit.specs.Logs.{LogLine}
-use Rattle.trace_audit.specs.Trace.{TraceData, rows_of}
-use Rattle.trace_audit.proofs.Refuting.{explains, complete}
+use Rattle.trace_audit.specs.Logs.{TopicRow}
+use Rattle.trace_audit.specs.Trace.{TraceData}
+use Rattle.trace_audit.proofs.Refuting.{complete}
+use Rattle.trace_audit.proofs.Examples.{crossing_is_explained}
 use Rattle.delivery.specs.declared.event.Event.{Event}
 use Rattle.delivery.specs.Theorem.Settled.{IsSettled, IsResolved}
 use Rattle.delivery.specs.Machine.Moves.{Answer}
@@ -25,8 +23,8 @@ use Rattle.delivery.proofs.Core.Rows.{both, crossing}
 use Rattle.delivery.proofs.Traces.Explained.{logged_rows}
 
 -- a row of the log of topic t
-abbrev line : ℕ → LogRow → LogLine
-line t row = record { topic = topic t; row = row }
+abbrev logged : ℕ → LogRow → TopicRow
+logged t row = record { topic = topic t; row = row }
 
 -- ---- two connections commit to A and B, and the topics are asked in two orders
 
@@ -48,7 +46,7 @@ abbrev second : LogRow
 second = log_row 0 1 2 1 (0 ∷ 1 ∷ [])
 
 abbrev trace : TraceData
-trace = record { logs = line 0 first ∷ line 0 second ∷ line 1 first ∷ line 1 second ∷ []; spans = []; queues = [] }
+trace = record { logs = logged 0 first ∷ logged 0 second ∷ logged 1 first ∷ logged 1 second ∷ []; spans = []; queues = [] }
 
 crossed_trace : trace_of (report_of crossed) ≡ trace
 crossed_trace = refl
@@ -103,33 +101,8 @@ settled (suc (suc n)) l = absurd (omega arith)
 crossed_settled : AllSettled 2 told
 crossed_settled t l = settled t.0 l
 
-at_first : (q : LogRow) → first ≡ q → list_any (λ (own : LogRow). same_stamp own.stamp q.stamp) (first ∷ second ∷ []) ≡ true
-at_first q e = subst (λ (z : LogRow). list_any (λ (own : LogRow). same_stamp own.stamp z.stamp) (first ∷ second ∷ []) ≡ true) e refl
-
-at_second : (q : LogRow) → second ≡ q → list_any (λ (own : LogRow). same_stamp own.stamp q.stamp) (first ∷ second ∷ []) ≡ true
-at_second q e = subst (λ (z : LogRow). list_any (λ (own : LogRow). same_stamp own.stamp z.stamp) (first ∷ second ∷ []) ≡ true) e refl
-
-has_stamp : (q : LogRow) → In q (rows_of trace.logs) → list_any (λ (own : LogRow). same_stamp own.stamp q.stamp) (first ∷ second ∷ []) ≡ true
-has_stamp q (inl e) = at_first q e
-has_stamp q (inr (inl e)) = at_second q e
-has_stamp q (inr (inr (inl e))) = at_first q e
-has_stamp q (inr (inr (inr (inl e)))) = at_second q e
-has_stamp q (inr (inr (inr (inr k)))) = absurd k
-
-second_above : (y : LogRow) → In y (second ∷ []) → stamp_lt first.stamp y.stamp ≡ true
-second_above y (inl e) = subst (λ (z : LogRow). stamp_lt first.stamp z.stamp ≡ true) e refl
-second_above y (inr k) = absurd k
-
-from_logs : (q : LogRow) → In q (first ∷ second ∷ []) → In q (rows_of trace.logs)
-from_logs q (inl e) = inl e
-from_logs q (inr (inl e)) = inr (inl e)
-from_logs q (inr (inr k)) = absurd k
-
-sorted : IsSortingOf (first ∷ second ∷ []) (rows_of trace.logs)
-sorted = record { rises = (second_above, ((λ y i. absurd i), tt)); of_all = from_logs; stamped = has_stamp }
-
 explained : IsExplainedBy (first ∷ second ∷ []) trace
-explained = explains trace trace.logs (first ∷ second ∷ []) refl refl refl sorted
+explained = crossing_is_explained
 
 -- the trace is explained by its two rows, and complete
 crossed_explained : IsExplained 2 told (trace_of (report_of crossed))
@@ -138,8 +111,8 @@ crossed_explained = record { rows = first ∷ second ∷ []; explained = explain
 -- ---- x to A and B, and y to B and C, beside a subscription to B
 
 beside_trace : trace_of (report_of crossing) ≡ record {
-  logs = line 0 (log_row 0 1 10 0 (0 ∷ 1 ∷ [])) ∷ line 1 (log_row 0 1 10 0 (0 ∷ 1 ∷ [])) ∷ line 1 (log_row 0 2 11 2 (1 ∷ 2 ∷ []))
-      ∷ line 2 (log_row 0 2 11 2 (1 ∷ 2 ∷ [])) ∷ [];
+  logs = logged 0 (log_row 0 1 10 0 (0 ∷ 1 ∷ [])) ∷ logged 1 (log_row 0 1 10 0 (0 ∷ 1 ∷ [])) ∷ logged 1 (log_row 0 2 11 2 (1 ∷ 2 ∷ []))
+      ∷ logged 2 (log_row 0 2 11 2 (1 ∷ 2 ∷ [])) ∷ [];
   spans = record { sub = 0; topic = topic 1; from = stamp 0 0; to = None } ∷ [];
   queues = record { sub = 0; id = id 0 1; stamp = stamp 10 0 } ∷ record { sub = 0; id = id 0 2; stamp = stamp 11 2 } ∷ [];
 }

@@ -1,7 +1,7 @@
 -- What is delivered explains its trace.
 use Rattle.std.proofs.Common.{◌≡◌, ◌≢◌, ℕ, ◌<◌, ◌&&◌, Bool, true, false, not, ◌⊎◌, inl, inr, List, [], ◌∷◌, map, take, length, Option, Some, refl, sym, ap, subst, ◌∙◌}
 use Rattle.std.specs.List.{filter, list_any}
-use Rattle.std.proofs.lemmas.Bool.{and_parts, true≢false}
+use Rattle.std.proofs.lemmas.Bool.{and_parts, true≢false, cases_lt}
 use Rattle.std.proofs.lemmas.List.{get_or_past}
 use Rattle.mcast_txn.specs.declared.id.Topic.{Topic}
 use Rattle.mcast_txn.specs.declared.stamp.Stamp.{Stamp}
@@ -12,11 +12,11 @@ use Rattle.mcast_txn.specs.Span.{LogRow, row_id, row_stamp, in_span, last_stamp,
 use Rattle.mcast_txn.specs.Stamp.{stamp_lt, zero_stamp}
 use Rattle.mcast_txn.specs.TopicSet.{names}
 use Rattle.mcast_txn.specs.Transaction.{topics_of}
-use Rattle.mcast_txn.proofs.Members.{In-map, In-map_cases, In-filter, In-filter_cases, filter_same, filter_none, any_found, any_from}
+use Rattle.mcast_txn.proofs.Members.{In-map, In-map_cases, In-filter, In-filter_cases, filter_same, filter_none, filter_twice, any_found, any_from, In-take}
 use Rattle.mcast_txn.proofs.Orders.{id_equal, id_itself, le_lt, zero_least}
 use Rattle.mcast_txn.proofs.Sorting.{In-sorted_cases, Rises-filter}
 use Rattle.trace_audit.specs.Explained.{rows_at, IsExplainedBy, IsCompleteBy}
-use Rattle.trace_audit.specs.Logs.{LogLine}
+use Rattle.trace_audit.specs.Logs.{TopicRow}
 use Rattle.trace_audit.specs.Trace.{rows_of, queue_of, marks_in}
 use Rattle.delivery.specs.Theorem.Due.{log_row, item_at, is_due}
 use Rattle.delivery.specs.Machine.Moves.{Answer}
@@ -25,9 +25,8 @@ use Rattle.delivery.specs.Core.Answered.{DeliversAnswers}
 use Rattle.delivery.specs.Core.Reports.{Report, log_in, span_of}
 use Rattle.delivery.proofs.Core.QueueOfReport.{queue_in, queue_there}
 use Rattle.delivery.specs.Traces.{traced_span, trace_of, AllSettled}
-use Rattle.delivery.proofs.Theorem.SpansAsAnswered.{within}
-use Rattle.delivery.proofs.Traces.Lists.{filter_twice, filter_mapped, In-take}
-use Rattle.delivery.proofs.Traces.Lines.{item_row, log_is, row_in_log, row_of_log, queue_is, spanned}
+use Rattle.delivery.proofs.Traces.Lists.{filter_mapped}
+use Rattle.delivery.proofs.Traces.TracedRows.{item_row, log_is, row_in_log, row_of_log, queue_is, spanned}
 use Rattle.delivery.proofs.Traces.Sequence.{agreed_rises, one_of_id, order_filtered, order_logged, taken_up_to}
 
 -- the agreed sequence, as rows of logs
@@ -39,8 +38,8 @@ abbrev pub at_topic : Topic → LogRow → Bool
 at_topic t row = names t row.topics
 
 -- the transaction has a row in a log
-abbrev in_logs : List LogLine → LogRow → Bool
-in_logs logs row = list_any (λ (line : LogLine). same_id line.row.id row.id) logs
+abbrev in_logs : List TopicRow → LogRow → Bool
+in_logs logs row = list_any (λ (logged : TopicRow). same_id logged.row.id row.id) logs
 
 -- the rows of the agreed sequence that are in some log
 abbrev pub logged_rows : List Answer → Report → List LogRow
@@ -59,7 +58,7 @@ none_taken (x ∷ xs) = refl
 
 -- so is each log of a report that is delivered
 pub fronted : {capacity : ℕ} (account : List Answer) (r : Report) → DeliversAnswers capacity account r → (t : Topic) → Fronted account t (log_in r t)
-fronted account r d t = elim (within t.0 (length r.logs)) [
+fronted account r d t = elim (cases_lt t.0 (length r.logs)) [
   | inl l ↦ record {
     count = released_at t account;
     is = d.logs t l ∙ ap (take (released_at t account)) (sym (filter_mapped (at_topic t) log_row (agreed (commits_of account))));
@@ -92,8 +91,8 @@ cut account r d t some =
 logged_itself : {capacity : ℕ} (account : List Answer) (r : Report) (d : DeliversAnswers capacity account r) (row : LogRow) → In row (sequence account)
     → in_logs (trace_of r).logs row ≡ true → In row (rows_of (trace_of r).logs)
 logged_itself account r d row k e =
-    let f = any_found (λ (line : LogLine). same_id line.row.id row.id) (trace_of r).logs e in
-    let there = In-map (λ (line : LogLine). line.row) f.it (trace_of r).logs f.stands in
+    let f = any_found (λ (logged : TopicRow). same_id logged.row.id row.id) (trace_of r).logs e in
+    let there = In-map (λ (logged : TopicRow). logged.row) f.it (trace_of r).logs f.stands in
     let a = In-map_cases log_row f.it.row (agreed (commits_of account)) (in_sequence account r d f.it.row there) in
     let b = In-map_cases log_row row (agreed (commits_of account)) k in
     let ids = ap row_id a.is ∙ (id_equal f.it.row.id row.id f.passes ∙ sym (ap row_id b.is)) in
@@ -101,10 +100,10 @@ logged_itself account r d row k e =
     subst (λ z. In z (rows_of (trace_of r).logs)) (sym a.is ∙ (ap log_row same ∙ b.is)) there
 
 -- a row of a log passes
-logged_passes : (logs : List LogLine) (row : LogRow) → In row (rows_of logs) → in_logs logs row ≡ true
+logged_passes : (logs : List TopicRow) (row : LogRow) → In row (rows_of logs) → in_logs logs row ≡ true
 logged_passes logs row k =
-    let m = In-map_cases (λ (line : LogLine). line.row) row logs k in
-    any_from (λ (line : LogLine). same_id line.row.id row.id) m.from logs m.stands
+    let m = In-map_cases (λ (logged : TopicRow). logged.row) row logs k in
+    any_from (λ (logged : TopicRow). same_id logged.row.id row.id) m.from logs m.stands
     (subst (λ (z : LogRow). same_id m.from.row.id z.id ≡ true) m.is (id_itself m.from.row.id))
 
 both_same : (a b : Bool) → (b ≡ true → a ≡ true) → b ≡ (a && b)
@@ -198,11 +197,11 @@ explained account r d = record {
   all = λ row k. In-filter (in_logs logs) row (sequence account) (in_sequence account r d row k) (logged_passes logs row k);
   senders = order_filtered row_id (in_logs logs) (sequence account) (order_logged (agreed (commits_of account)) d.fifo_order);
   logs = λ t some. subst (λ z. z ≡ rows_at t z (logged_rows account r)) (sym (log_is r t)) (kept_cut account r d t (λ none. some (log_is r t ∙ none)));
-  queues = λ line k. (let h = spanned r line k in
-      queue_cut account r d line.sub h.within ∙ ap (λ z. marks_in z logs) (sym h.is));
+  queues = λ span k. (let h = spanned r span k in
+      queue_cut account r d span.sub h.within ∙ ap (λ z. marks_in z logs) (sym h.is));
 }
   where
-    logs : List LogLine
+    logs : List TopicRow
     logs = (trace_of r).logs
 
 -- where commits name topics of the report alone, and each is settled, the trace is complete

@@ -1,29 +1,11 @@
 -- Lists that are filtered, numbered and taken.
-use Rattle.std.proofs.Common.{◌≡◌, ℕ, zero, suc, ◌+◌, ◌<◌, ◌==◌, ◌&&◌, Bool, true, false, inl, inr, List, [], ◌∷◌, ◌++◌, map, take, get_or, refl, sym, ap, ◌∙◌, append-nil, arith}
+use Rattle.std.proofs.Common.{◌≡◌, ℕ, zero, suc, ◌+◌, ◌<◌, ◌==◌, Bool, true, false, List, [], ◌∷◌, ◌++◌, map, get_or, refl, sym, ap, ◌∙◌, append-nil, arith}
 use Rattle.std.specs.List.{filter, flat_map, enumerate_from}
 use Rattle.std.proofs.lemmas.Bool.{eq-eqb}
 use Rattle.std.proofs.lemmas.Bool.Decides.{nat_tests}
 use Rattle.std.proofs.lemmas.List.Elements.{filter-append}
 use Rattle.mcast_txn.specs.Lists.{In}
-use Rattle.mcast_txn.proofs.Members.{filter_none}
-
--- where each item passes, the filtered list is the list
-pub filter_all : {X : Type 0} (p : X → Bool) (xs : List X) → ((x : X) → In x xs → p x ≡ true) → filter p xs ≡ xs
-filter_all p [] h = refl
-filter_all p (x ∷ xs) h =
-    let e = h x (inl refl) in
-    let ih = filter_all p xs (λ y k. h y (inr k)) in rw (e, ih) refl
-
-twice_case : {X : Type 0} (p q : X → Bool) (x : X) (xs : List X) (a b : Bool) → q x ≡ a → p x ≡ b
-    → filter p (filter q xs) ≡ filter (λ y. q y && p y) xs → filter p (filter q (x ∷ xs)) ≡ filter (λ y. q y && p y) (x ∷ xs)
-twice_case p q x xs true true e k ih = rw (e, k, ih) refl
-twice_case p q x xs true false e k ih = rw (e, k, ih) refl
-twice_case p q x xs false b e k ih = rw (e, ih) refl
-
--- what passes two filters passes one of both tests
-pub filter_twice : {X : Type 0} (p q : X → Bool) (xs : List X) → filter p (filter q xs) ≡ filter (λ x. q x && p x) xs
-filter_twice p q [] = refl
-filter_twice p q (x ∷ xs) = twice_case p q x xs (q x) (p x) refl refl (filter_twice p q xs)
+use Rattle.mcast_txn.proofs.Members.{filter_all, filter_none}
 
 map_case : {X Y : Type 0} (p : Y → Bool) (f : X → Y) (x : X) (xs : List X) (b : Bool) → p (f x) ≡ b
     → filter p (map f xs) ≡ map f (filter (λ y. p (f y)) xs) → filter p (map f (x ∷ xs)) ≡ map f (filter (λ y. p (f y)) (x ∷ xs))
@@ -34,14 +16,6 @@ map_case p f x xs false e ih = rw (e, ih) refl
 pub filter_mapped : {X Y : Type 0} (p : Y → Bool) (f : X → Y) (xs : List X) → filter p (map f xs) ≡ map f (filter (λ x. p (f x)) xs)
 filter_mapped p f [] = refl
 filter_mapped p f (x ∷ xs) = map_case p f x xs (p (f x)) refl (filter_mapped p f xs)
-
--- what is among the first of a list is in it
-pub In-take : {X : Type 0} (x : X) (n : ℕ) (xs : List X) → In x (take n xs) → In x xs
-In-take x zero [] h = absurd h
-In-take x zero (y ∷ xs) h = absurd h
-In-take x (suc n) [] h = absurd h
-In-take x (suc n) (y ∷ xs) (inl e) = inl e
-In-take x (suc n) (y ∷ xs) (inr h) = inr (In-take x n xs h)
 
 -- ---- numbered lists
 

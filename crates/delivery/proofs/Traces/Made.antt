@@ -14,7 +14,7 @@ use Rattle.mcast_txn.specs.Span.{Item, LogRow}
 use Rattle.mcast_group.specs.Group.{GroupState}
 use Rattle.trace_audit.specs.declared.row.QueueRow.{QueueRow}
 use Rattle.trace_audit.specs.declared.row.SpanRow.{SpanRow}
-use Rattle.trace_audit.specs.Logs.{LogLine}
+use Rattle.trace_audit.specs.Logs.{TopicRow}
 use Rattle.trace_audit.specs.Trace.{TraceData, fits, has_span}
 use Rattle.delivery.specs.Core.Reports.{QueueReport}
 use Rattle.delivery.specs.Traces.{traced_log, traced_span, traced_queue}
@@ -25,8 +25,8 @@ abbrev pub queue_row : ℕ → Item → QueueRow
 queue_row s item = record { sub = s; id = item.id; stamp = item.stamp }
 
 -- the spans of subscriptions, where the first has number i
-abbrev pub span_lines : ℕ → List QueueReport → List SpanRow
-span_lines i qs = map (λ p. traced_span p.0 p.1) (enumerate_from i qs)
+abbrev pub spans_from : ℕ → List QueueReport → List SpanRow
+spans_from i qs = map (λ p. traced_span p.0 p.1) (enumerate_from i qs)
 
 -- ---- lists
 
@@ -40,7 +40,8 @@ taken_one xs n x is =
 pub map_one : {X Y : Type 0} (f : X → Y) (xs : List X) (n : ℕ) (x : X) → slice_get xs n ≡ Some x → map f (take (n + 1) xs) ≡ map f (take n xs) ++ f x ∷ []
 map_one f xs n x is = ap (map f) (taken_one xs n x is) ∙ map-append f (take n xs) (x ∷ [])
 
-number_last : {X : Type 0} (i : ℕ) (xs : List X) (x : X) → enumerate_from i (xs ++ x ∷ []) ≡ enumerate_from i xs ++ (i + length xs, x) ∷ []
+-- the last of a list has the last number
+pub number_last : {X : Type 0} (i : ℕ) (xs : List X) (x : X) → enumerate_from i (xs ++ x ∷ []) ≡ enumerate_from i xs ++ (i + length xs, x) ∷ []
 number_last i [] x = ap (λ n. (n, x) ∷ []) (omega arith)
 number_last i (y ∷ xs) x =
     let many : i + 1 + length xs ≡ i + length (y ∷ xs) = omega arith in
@@ -86,28 +87,28 @@ passes_made p f i (y ∷ xs) (suc n) x all is =
     subst (λ m. list_all p (f m x) ≡ true) later (passes_made p f (i + 1) xs n x parts.1 is)
 
 -- where a topic's log fits, so does each row of it
-pub line_fits : (t : Topic) (rows : List LogRow) (n : ℕ) (row : LogRow) → list_all (λ (line : LogLine). fits line) (traced_log t.0 rows) ≡ true
+pub logged_fits : (t : Topic) (rows : List LogRow) (n : ℕ) (row : LogRow) → list_all (λ (logged : TopicRow). fits logged) (traced_log t.0 rows) ≡ true
     → slice_get rows n ≡ Some row → fits (record { topic = t; row = row }) ≡ true
-line_fits t rows n row all is =
-    let line : LogRow → LogLine = λ r. record { topic = t; row = r } in
-    passes_at (λ (z : LogLine). fits z) (traced_log t.0 rows) n (line row) all (slice_get-map line rows n ∙ ap (option_map line) is)
+logged_fits t rows n row all is =
+    let logged : LogRow → TopicRow = λ r. record { topic = t; row = r } in
+    passes_at (λ (z : TopicRow). fits z) (traced_log t.0 rows) n (logged row) all (slice_get-map logged rows n ∙ ap (option_map logged) is)
 
 -- ---- traces
 
 -- the trace with more rows of logs
-abbrev pub with_logs : TraceData → List LogLine → TraceData
+abbrev pub with_logs : TraceData → List TopicRow → TraceData
 with_logs old rows = record old { logs = old.logs ++ rows }
 
 -- a topic's log grows by a row
-pub log_grows : (old mid new : TraceData) (t : Topic) (rows : List LogRow) (n : ℕ) (row : LogRow) (line : LogLine) → slice_get rows n ≡ Some row
-    → mid ≡ with_logs old (traced_log t.0 (take n rows)) → line ≡ record { topic = t; row = row } → new ≡ with_logs mid (line ∷ [])
+pub log_grows : (old mid new : TraceData) (t : Topic) (rows : List LogRow) (n : ℕ) (row : LogRow) (logged : TopicRow) → slice_get rows n ≡ Some row
+    → mid ≡ with_logs old (traced_log t.0 (take n rows)) → logged ≡ record { topic = t; row = row } → new ≡ with_logs mid (logged ∷ [])
     → new ≡ with_logs old (traced_log t.0 (take (n + 1) rows))
-log_grows old mid new t rows n row line is so_far made grown =
+log_grows old mid new t rows n row logged is so_far made grown =
     let whole : traced_log t.0 (take (n + 1) rows) ≡ traced_log t.0 (take n rows) ++ record { topic = t; row = row } ∷ [] = map_one _ rows n row is in
     grown
-    ∙ (ap (λ (z : LogLine). with_logs mid (z ∷ [])) made
+    ∙ (ap (λ (z : TopicRow). with_logs mid (z ∷ [])) made
     ∙ (ap (λ (z : TraceData). with_logs z (record { topic = t; row = row } ∷ [])) so_far
-    ∙ ap (λ (z : List LogLine). record old { logs = z }) (append_assoc old.logs (traced_log t.0 (take n rows)) (record { topic = t; row = row } ∷ [])
+    ∙ ap (λ (z : List TopicRow). record old { logs = z }) (append_assoc old.logs (traced_log t.0 (take n rows)) (record { topic = t; row = row } ∷ [])
     ∙ ap (λ z. old.logs ++ z) (sym whole))))
 
 -- the logs grow by a topic's
@@ -117,7 +118,7 @@ pub logs_grow : (old mid new : TraceData) (logs : List (List LogRow)) (n : ℕ) 
 logs_grow old mid new logs n rows is so_far grown =
     grown
     ∙ (ap (λ (z : TraceData). with_logs z (traced_log n rows)) so_far
-    ∙ ap (λ (z : List LogLine). record old { logs = z }) (append_assoc old.logs (made_of traced_log 0 (take n logs)) (traced_log n rows)
+    ∙ ap (λ (z : List TopicRow). record old { logs = z }) (append_assoc old.logs (made_of traced_log 0 (take n logs)) (traced_log n rows)
     ∙ ap (λ z. old.logs ++ z) (sym (made_one traced_log logs n rows is))))
 
 -- the trace with more rows of queues
@@ -125,10 +126,10 @@ abbrev pub with_queues : TraceData → List QueueRow → TraceData
 with_queues old rows = record old { queues = old.queues ++ rows }
 
 -- a subscription's queue grows by an item
-pub queue_grows : (old mid new : TraceData) (s : ℕ) (items : List Item) (n : ℕ) (item : Item) (line : QueueRow) → slice_get items n ≡ Some item
-    → mid ≡ with_queues old (map (queue_row s) (take n items)) → line ≡ queue_row s item → new ≡ with_queues mid (line ∷ [])
+pub queue_grows : (old mid new : TraceData) (s : ℕ) (items : List Item) (n : ℕ) (item : Item) (queued : QueueRow) → slice_get items n ≡ Some item
+    → mid ≡ with_queues old (map (queue_row s) (take n items)) → queued ≡ queue_row s item → new ≡ with_queues mid (queued ∷ [])
     → new ≡ with_queues old (map (queue_row s) (take (n + 1) items))
-queue_grows old mid new s items n item line is so_far made grown =
+queue_grows old mid new s items n item queued is so_far made grown =
     grown
     ∙ (ap (λ (z : QueueRow). with_queues mid (z ∷ [])) made
     ∙ (ap (λ (z : TraceData). with_queues z (queue_row s item ∷ [])) so_far
@@ -141,11 +142,11 @@ with_subs old spans rows = record old { spans = spans; queues = old.queues ++ ro
 
 -- the trace grows by a subscription
 pub subs_grow : (old mid new : TraceData) (qs : List QueueReport) (n : ℕ) (q : QueueReport) → slice_get qs n ≡ Some q
-    → mid ≡ with_subs old (span_lines 0 (take n qs)) (made_of traced_queue 0 (take n qs))
+    → mid ≡ with_subs old (spans_from 0 (take n qs)) (made_of traced_queue 0 (take n qs))
     → new ≡ record mid { spans = mid.spans ++ traced_span n q ∷ []; queues = mid.queues ++ traced_queue n q }
-    → new ≡ with_subs old (span_lines 0 (take (n + 1) qs)) (made_of traced_queue 0 (take (n + 1) qs))
+    → new ≡ with_subs old (spans_from 0 (take (n + 1) qs)) (made_of traced_queue 0 (take (n + 1) qs))
 subs_grow old mid new qs n q is so_far grown =
-    let spans : span_lines 0 (take (n + 1) qs) ≡ span_lines 0 (take n qs) ++ traced_span n q ∷ [] =
+    let spans : spans_from 0 (take (n + 1) qs) ≡ spans_from 0 (take n qs) ++ traced_span n q ∷ [] =
     ap (map (λ (p : ℕ × QueueReport). traced_span p.0 p.1)) (number_one qs n q is)
     ∙ map-append (λ (p : ℕ × QueueReport). traced_span p.0 p.1) (enumerate_from 0 (take n qs)) ((n, q) ∷ []) in
     let rows : old.queues ++ made_of traced_queue 0 (take (n + 1) qs) ≡ (old.queues ++ made_of traced_queue 0 (take n qs)) ++ traced_queue n q =
@@ -157,14 +158,14 @@ subs_grow old mid new qs n q is so_far grown =
 
 -- ---- spans
 
-no_span : (i n : ℕ) (qs : List QueueReport) → i + length qs ≤ n → has_span n (span_lines i qs) ≡ false
+no_span : (i n : ℕ) (qs : List QueueReport) → i + length qs ≤ n → has_span n (spans_from i qs) ≡ false
 no_span i n [] l = refl
 no_span i n (q ∷ qs) l =
     let other : (i == n) ≡ false = grind (arith, nat_tests) in
-    ap (λ b. b || has_span n (span_lines (i + 1) qs)) other ∙ no_span (i + 1) n qs (omega (arith, l))
+    ap (λ b. b || has_span n (spans_from (i + 1) qs)) other ∙ no_span (i + 1) n qs (omega (arith, l))
 
 -- the next subscription has no span
-pub next_has_none : (n : ℕ) (qs : List QueueReport) → n < length qs → has_span n (span_lines 0 (take n qs)) ≡ false
+pub next_has_none : (n : ℕ) (qs : List QueueReport) → n < length qs → has_span n (spans_from 0 (take n qs)) ≡ false
 next_has_none n qs l =
     let many : length (take n qs) ≡ n = length-take-le n qs (omega (arith, l)) in no_span 0 n (take n qs) (omega (arith, many))
 

@@ -1,5 +1,5 @@
 -- The trace of what a net holds: its rows fit, and it is traced.
-use Rattle.std.proofs.Common.{◌≡◌, ◌<◌, ◌≤◌, ◌==◌, nat_lt, Bool, true, inl, inr, List, [], ◌∷◌, length, Some, None, refl, sym, ap, subst, ◌∙◌, arith}
+use Rattle.std.proofs.Common.{◌≡◌, ◌<◌, ◌≤◌, ◌==◌, nat_lt, true, List, [], ◌∷◌, length, Some, None, refl, sym, ap, subst, ◌∙◌, arith}
 use Rattle.std.specs.List.{filter, list_all, AllByRecursion}
 use Rattle.std.specs.Prelude.{ℕ, reverse}
 use Rattle.std.proofs.lemmas.Bool.{and_from, eq-eqb, lt-ltb}
@@ -9,10 +9,10 @@ use Rattle.mcast_txn.specs.Agreed.{agreed}
 use Rattle.mcast_txn.specs.Lists.{In, RisesBy}
 use Rattle.mcast_txn.specs.Span.{LogRow}
 use Rattle.mcast_txn.specs.TopicSet.{names}
-use Rattle.mcast_txn.proofs.Members.{In-map, In-map_cases, In-filter, In-filter_cases}
+use Rattle.mcast_txn.proofs.Members.{In-map, In-map_cases, In-filter, In-filter_cases, In-take, all_from}
 use Rattle.mcast_txn.proofs.TopicLemmas.{topics_rise}
 use Rattle.mcast_group.specs.Group.{GroupState}
-use Rattle.trace_audit.specs.Logs.{LogLine}
+use Rattle.trace_audit.specs.Logs.{TopicRow}
 use Rattle.trace_audit.specs.Trace.{fits, rise_after}
 use Rattle.stomp_session.specs.Names.{max_topics}
 use Rattle.delivery.specs.Nets.{KeptRun}
@@ -33,8 +33,7 @@ use Rattle.delivery.specs.Traces.{trace_of, IsTraced}
 use Rattle.delivery.proofs.Core.DeliversOfRun.{delivers}
 use Rattle.delivery.proofs.Views.Runs.KeptRuns.{is_delivered, has_report}
 use Rattle.delivery.proofs.Views.Runs.ReportOfView.{reported}
-use Rattle.delivery.proofs.Traces.Lists.{In-take}
-use Rattle.delivery.proofs.Traces.Lines.{log_is}
+use Rattle.delivery.proofs.Traces.TracedRows.{log_is}
 use Rattle.delivery.proofs.Traces.Explained.{sequence, at_topic, fronted}
 use Rattle.delivery.proofs.Traces.OfRuns.{logs_length, traced}
 
@@ -44,23 +43,20 @@ rises_after : (u : Topic) (ts : List Topic) → AllByRecursion (λ (t : Topic). 
 rises_after u [] above rises = refl
 rises_after u (t ∷ ts) above rises = and_from (nat_lt u.0 t.0) (rise_after (Some t) ts) (lt-ltb u.0 t.0 above.0) (rises_after t ts rises.0 rises.1)
 
-rise_first : (ts : List Topic) → RisesBy (λ (t : Topic). t.0) ts → rise_after None ts ≡ true
+-- topics that rise pass the test
+pub rise_first : (ts : List Topic) → RisesBy (λ (t : Topic). t.0) ts → rise_after None ts ≡ true
 rise_first [] rises = refl
 rise_first (t ∷ ts) rises = rises_after t ts rises.0 rises.1
 
-pub all_pass : {X : Type 0} (p : X → Bool) (xs : List X) → ((x : X) → In x xs → p x ≡ true) → list_all p xs ≡ true
-all_pass p [] h = refl
-all_pass p (x ∷ xs) h = and_from (p x) (list_all p xs) (h x (inl refl)) (all_pass p xs (λ y k. h y (inr k)))
-
-pub row_fits : {capacity : ℕ} (account : List Answer) (r : Report) → DeliversAnswers capacity account r → (line : LogLine) → In line (trace_of r).logs → fits line ≡ true
-row_fits account r d line k =
-    let t = line.topic in
+pub row_fits : {capacity : ℕ} (account : List Answer) (r : Report) → DeliversAnswers capacity account r → (logged : TopicRow) → In logged (trace_of r).logs → fits logged ≡ true
+row_fits account r d logged k =
+    let t = logged.topic in
     let f = fronted account r d t in
     let named = filter (at_topic t) (sequence account) in
-    let in_log = In-map (λ (z : LogLine). z.row) line _ (In-filter (λ (z : LogLine). z.topic.0 == t.0) line (trace_of r).logs k (eq-eqb t.0 t.0 refl)) in
-    let i = In-filter_cases (at_topic t) line.row (sequence account) (In-take line.row f.count named (subst (λ z. In line.row z) (log_is r t ∙ f.is) in_log)) in
-    let m = In-map_cases log_row line.row (agreed (commits_of account)) i.stands in
-    and_from (rise_after None line.row.topics) (names t line.row.topics)
+    let in_log = In-map (λ (z : TopicRow). z.row) logged _ (In-filter (λ (z : TopicRow). z.topic.0 == t.0) logged (trace_of r).logs k (eq-eqb t.0 t.0 refl)) in
+    let i = In-filter_cases (at_topic t) logged.row (sequence account) (In-take logged.row f.count named (subst (λ z. In logged.row z) (log_is r t ∙ f.is) in_log)) in
+    let m = In-map_cases log_row logged.row (agreed (commits_of account)) i.stands in
+    and_from (rise_after None logged.row.topics) (names t logged.row.topics)
     (subst (λ (z : LogRow). rise_after None z.topics ≡ true) m.is (rise_first (log_row m.from).topics (topics_rise m.from.txn.sends)))
     i.passes
 
@@ -68,13 +64,13 @@ row_fits account r d line k =
 
 -- each row of its logs fits
 pub held_fits : (net : KeptRun) (held : View) → KeepsRun net.topics net.capacity net.kept held
-    → list_all (λ (line : LogLine). fits line) (trace_of (report_in held)).logs ≡ true
+    → list_all (λ (logged : TopicRow). fits logged) (trace_of (report_in held)).logs ≡ true
 held_fits net held keeps =
     let d = delivers net.topics net.capacity keeps.steps keeps.is_run in
     let k = core_of net.topics net.capacity keeps.steps in
     let is : report_in held ≡ report_of k = ap report_in keeps.view ∙ reported k in
-    subst (λ (r : Report). list_all (λ (line : LogLine). fits line) (trace_of r).logs ≡ true) (sym is)
-    (all_pass (λ (line : LogLine). fits line) (trace_of (report_of k)).logs (row_fits (account_of net.topics.names keeps.steps) (report_of k) d))
+    subst (λ (r : Report). list_all (λ (logged : TopicRow). fits logged) (trace_of r).logs ≡ true) (sym is)
+    (all_from (λ (logged : TopicRow). fits logged) (trace_of (report_of k)).logs (row_fits (account_of net.topics.names keeps.steps) (report_of k) d))
 
 -- it has no more groups than a core may have topics
 pub held_few : (net : KeptRun) (held : View) → KeepsRun net.topics net.capacity net.kept held → length held.groups ≤ max_topics

@@ -1,5 +1,6 @@
 -- The trace of every run of the core.
 use Rattle.std.proofs.Common.{◌≡◌, ℕ, ◌<◌, true, inl, inr, List, length, refl, sym, ap, subst, ◌∙◌}
+use Rattle.std.proofs.lemmas.Bool.{cases_lt}
 use Rattle.mcast_txn.specs.declared.id.Topic.{Topic}
 use Rattle.mcast_txn.specs.Agreed.{CommitRow}
 use Rattle.mcast_txn.specs.Lists.{In}
@@ -22,7 +23,6 @@ use Rattle.trace_audit.proofs.OneList.{one_list}
 use Rattle.trace_audit.specs.Explained.{IsCompleteBy}
 use Rattle.delivery.proofs.Machine.Invariant.{topic_in}
 use Rattle.delivery.proofs.Theorem.AcceptedIsDue.{reached}
-use Rattle.delivery.proofs.Theorem.SpansAsAnswered.{within}
 use Rattle.delivery.proofs.Core.Said.{commits_said}
 use Rattle.delivery.proofs.Core.AccountOfRun.{run_of, core_is, account_is}
 use Rattle.delivery.proofs.Core.Counts.{counted}
@@ -33,7 +33,7 @@ use Rattle.delivery.proofs.Machine.SubscriptionSteps.{beyond}
 -- a committed transaction names topics of the run alone
 named_there : (r : Run) (row : CommitRow) (t : Topic) → In row (commits_of (answers_of r)) → names t (topics_of row.txn.sends) ≡ true
     → t.0 < length (final_world r).topics
-named_there r row t k named = elim (within t.0 (length (final_world r).topics)) [
+named_there r row t k named = elim (cases_lt t.0 (length (final_world r).topics)) [
   | inl l ↦ l
   | inr l ↦
       let h = reached r in

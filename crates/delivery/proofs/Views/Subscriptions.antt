@@ -6,5 +6,5 @@ pub mod OthersBeginNone
 pub mod PlainMovesKeepAll
 pub mod QueueOfSubscription
 pub mod OpenIsLive
-pub mod RoomsOfEntries
+pub mod GaugesOfEntries
 pub mod TurnAsksOwnEntries

@@ -114,7 +114,7 @@ abbrev pub idle_gate : SenderView → Option GateState
 idle_gate x = elim x.sending [
   | Sending.Idle gate ↦ Some gate
   | Sending.Resting ↦ None
-  | Sending.Flying flight row ↦ None
+  | Sending.Flying flight topics ↦ None
   | Sending.Marked gate tickets fault ↦ None
 ]
 

@@ -16,7 +16,7 @@ pub record PromisedRows : Type 0 where
 abbrev pub tickets_to_keep : Sending → ℕ
 tickets_to_keep (Sending.Idle gate) = 0
 tickets_to_keep Sending.Resting = 0
-tickets_to_keep (Sending.Flying flight row) = length flight.tickets
+tickets_to_keep (Sending.Flying flight topics) = length flight.tickets
 tickets_to_keep (Sending.Marked gate tickets fault) = length tickets
 
 -- each of these parts is that of its topic
@@ -27,7 +27,7 @@ AreOwn parts = (t : Topic) (p : TopicPart) → held_at t parts ≡ Some p → p.
 abbrev pub HasOwnParts : Sending → Type 0
 HasOwnParts (Sending.Idle gate) = Unit {0}
 HasOwnParts Sending.Resting = Unit {0}
-HasOwnParts (Sending.Flying flight row) = AreOwn flight.parts
+HasOwnParts (Sending.Flying flight topics) = AreOwn flight.parts
 HasOwnParts (Sending.Marked gate tickets fault) = Unit {0}
 
 -- a sender that has this many tickets to cancel has room for those that may come, and parts of its own
@@ -39,7 +39,7 @@ pub record KeepsRoom (sending : Sending) (leftovers capacity : ℕ) : Type 0 whe
 abbrev pub is_flying : Sending → Bool
 is_flying (Sending.Idle gate) = false
 is_flying Sending.Resting = false
-is_flying (Sending.Flying flight row) = true
+is_flying (Sending.Flying flight topics) = true
 is_flying (Sending.Marked gate tickets fault) = false
 
 -- how many of these senders have a transaction on its way

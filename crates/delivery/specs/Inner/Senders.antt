@@ -69,16 +69,15 @@ no_gate = record { sender = record { 0 = 0 }; seq = 0; floor = zero_stamp }
 abbrev pub gate_of : Sending → GateState
 gate_of (Sending.Idle gate) = gate
 gate_of Sending.Resting = no_gate
-gate_of (Sending.Flying flight row) = gate_after flight flight.floor
+gate_of (Sending.Flying flight topics) = gate_after flight flight.floor
 gate_of (Sending.Marked gate tickets fault) = gate
 
 -- a transaction of these SENDs is on its way, if the gate was there
 abbrev pub launched_sending : List SentMessage → Sending → Sending
 launched_sending sends (Sending.Idle gate) =
-    Sending.Flying (flight_of gate sends)
-    (record { id = next_id gate; topics = topics_of sends; stamp = zero_stamp })
+    Sending.Flying (flight_of gate sends) (topics_of sends)
 launched_sending sends Sending.Resting = Sending.Resting
-launched_sending sends (Sending.Flying flight row) = Sending.Flying flight row
+launched_sending sends (Sending.Flying flight topics) = Sending.Flying flight topics
 launched_sending sends (Sending.Marked gate tickets fault) = Sending.Marked gate tickets fault
 
 -- the same of its sender
@@ -119,7 +118,7 @@ asked_view receipt c v =
 abbrev pub decide_refusal : Sending → Option Refusal
 decide_refusal (Sending.Idle gate) = Some refusal.NoFlight
 decide_refusal Sending.Resting = Some refusal.NoFlight
-decide_refusal (Sending.Flying flight row) =
+decide_refusal (Sending.Flying flight topics) =
     if list_any (λ s. is_none s.1) flight.tickets then Some refusal.Incomplete else None
 decide_refusal (Sending.Marked gate tickets fault) = Some refusal.Marked
 
@@ -131,7 +130,7 @@ no_decision = record { id = record { sender = record { 0 = 0 }; seq = 0 }; rows 
 abbrev pub decision_of : Sending → Decision
 decision_of (Sending.Idle gate) = no_decision
 decision_of Sending.Resting = no_decision
-decision_of (Sending.Flying flight row) =
+decision_of (Sending.Flying flight topics) =
     record { id = flight.id; rows = ticket_rows flight.tickets }
 decision_of (Sending.Marked gate tickets fault) = no_decision
 
@@ -143,15 +142,15 @@ no_row = record { id = no_decision.id; topics = []; stamp = zero_stamp }
 abbrev pub decided_row : Sending → LogRow
 decided_row (Sending.Idle gate) = no_row
 decided_row Sending.Resting = no_row
-decided_row (Sending.Flying flight row) =
-    record row { stamp = greatest (ticket_rows flight.tickets) }
+decided_row (Sending.Flying flight topics) =
+    record { id = flight.id; topics = topics; stamp = greatest (ticket_rows flight.tickets) }
 decided_row (Sending.Marked gate tickets fault) = no_row
 
 -- the stamp is the sender's new floor
 abbrev pub decided_sending : Sending → Sending
 decided_sending (Sending.Idle gate) = Sending.Idle gate
 decided_sending Sending.Resting = Sending.Resting
-decided_sending (Sending.Flying flight row) =
+decided_sending (Sending.Flying flight topics) =
     Sending.Idle (gate_after flight (greatest (ticket_rows flight.tickets)))
 decided_sending (Sending.Marked gate tickets fault) = Sending.Marked gate tickets fault
 
@@ -213,7 +212,7 @@ is_slot t slots = names t (map (λ s. s.0) slots)
 abbrev pub part_refusal : Topic → Sending → Option Refusal
 part_refusal t (Sending.Idle gate) = Some refusal.NoFlight
 part_refusal t Sending.Resting = Some refusal.NoFlight
-part_refusal t (Sending.Flying flight row) =
+part_refusal t (Sending.Flying flight topics) =
     if is_slot t flight.tickets
     then (if is_some (held_at t flight.parts) then None else Some refusal.Twice)
     else Some refusal.NotNamed
@@ -223,17 +222,17 @@ part_refusal t (Sending.Marked gate tickets fault) = Some refusal.Marked
 abbrev pub part_in : Topic → Sending → Option TopicPart
 part_in t (Sending.Idle gate) = None
 part_in t Sending.Resting = None
-part_in t (Sending.Flying flight row) = held_at t flight.parts
+part_in t (Sending.Flying flight topics) = held_at t flight.parts
 part_in t (Sending.Marked gate tickets fault) = None
 
 -- the part at t is taken out
 abbrev pub taken_sending : Topic → Sending → Sending
 taken_sending t (Sending.Idle gate) = Sending.Idle gate
 taken_sending t Sending.Resting = Sending.Resting
-taken_sending t (Sending.Flying flight row) =
+taken_sending t (Sending.Flying flight topics) =
     if is_slot t flight.tickets
-    then Sending.Flying (record flight { parts = with_slot t None flight.parts }) row
-    else Sending.Flying flight row
+    then Sending.Flying (record flight { parts = with_slot t None flight.parts }) topics
+    else Sending.Flying flight topics
 taken_sending t (Sending.Marked gate tickets fault) = Sending.Marked gate tickets fault
 
 -- the same of its sender
@@ -244,7 +243,7 @@ taken_sender t x = record x { sending = taken_sending t x.sending }
 abbrev pub flight_refusal : Sending → Option Refusal
 flight_refusal (Sending.Idle gate) = Some refusal.NoFlight
 flight_refusal Sending.Resting = Some refusal.NoFlight
-flight_refusal (Sending.Flying flight row) = None
+flight_refusal (Sending.Flying flight topics) = None
 flight_refusal (Sending.Marked gate tickets fault) = Some refusal.Marked
 
 -- there is a group of this topic
@@ -282,19 +281,19 @@ ticket_in t s part v = record {
 abbrev pub takes_ticket : Ticket → Sending → Bool
 takes_ticket ticket (Sending.Idle gate) = false
 takes_ticket ticket Sending.Resting = false
-takes_ticket ticket (Sending.Flying flight row) = is_ok (flight_answer flight ticket)
+takes_ticket ticket (Sending.Flying flight topics) = is_ok (flight_answer flight ticket)
 takes_ticket ticket (Sending.Marked gate tickets fault) = false
 
 -- the ticket is put, where the transaction takes it
 abbrev pub put_sending : Ticket → Sending → Sending
 put_sending ticket (Sending.Idle gate) = Sending.Idle gate
 put_sending ticket Sending.Resting = Sending.Resting
-put_sending ticket (Sending.Flying flight row) =
+put_sending ticket (Sending.Flying flight topics) =
     if is_ok (flight_answer flight ticket)
     then
     Sending.Flying
-    (record flight { tickets = with_slot ticket.topic (Some ticket.n) flight.tickets }) row
-    else Sending.Flying flight row
+    (record flight { tickets = with_slot ticket.topic (Some ticket.n) flight.tickets }) topics
+    else Sending.Flying flight topics
 put_sending ticket (Sending.Marked gate tickets fault) = Sending.Marked gate tickets fault
 
 -- the same of its sender
@@ -305,7 +304,7 @@ put_sender ticket x = record x { sending = put_sending ticket x.sending }
 abbrev pub failed_sending : ProposeFault → Sending → Sending
 failed_sending fault (Sending.Idle gate) = Sending.Idle gate
 failed_sending fault Sending.Resting = Sending.Resting
-failed_sending fault (Sending.Flying flight row) =
+failed_sending fault (Sending.Flying flight topics) =
     Sending.Marked (gate_after flight flight.floor) (tickets_put (ballot_of flight)) fault
 failed_sending fault (Sending.Marked gate tickets why) = Sending.Marked gate tickets why
 
@@ -346,14 +345,14 @@ IsProposed t s part (Err fault) v new =
 abbrev pub withdraw_refusal : Sending → Option Refusal
 withdraw_refusal (Sending.Idle gate) = Some refusal.NoFlight
 withdraw_refusal Sending.Resting = Some refusal.NoFlight
-withdraw_refusal (Sending.Flying flight row) = Some refusal.NotMarked
+withdraw_refusal (Sending.Flying flight topics) = Some refusal.NotMarked
 withdraw_refusal (Sending.Marked gate tickets fault) = None
 
 -- why a topic refused it
 abbrev pub failure_of : Sending → Option ProposeFault
 failure_of (Sending.Idle gate) = None
 failure_of Sending.Resting = None
-failure_of (Sending.Flying flight row) = None
+failure_of (Sending.Flying flight topics) = None
 failure_of (Sending.Marked gate tickets fault) = Some fault
 
 -- its tickets are to be cancelled
@@ -361,7 +360,7 @@ abbrev pub withdrawn_sender : SenderView → SenderView
 withdrawn_sender x = elim x.sending [
   | Sending.Idle gate ↦ x
   | Sending.Resting ↦ x
-  | Sending.Flying flight row ↦ x
+  | Sending.Flying flight topics ↦ x
   | Sending.Marked gate tickets fault ↦ record {
     sending = Sending.Idle gate;
     leftovers = x.leftovers ++ tickets;
@@ -415,7 +414,7 @@ no_ticket = record { id = no_decision.id; topic = record { 0 = 0 }; n = 0 }
 abbrev pub leftover_at : Topic → SenderView → Option ℕ
 leftover_at t x = position (λ k. k.topic.0 == t.0) x.leftovers
 
--- the ticket at this place
+-- the ticket at this index
 abbrev pub leftover_in : SenderView → ℕ → Ticket
 leftover_in x i = get_or x.leftovers i no_ticket
 
@@ -424,7 +423,7 @@ abbrev pub cancel_refusal_in : Topic → ℕ → View → Option Refusal
 cancel_refusal_in t s v =
     if is_group t v.groups && is_some (leftover_at t (sender_in v s)) then None else Some refusal.NotNamed
 
--- with the part taken out of its topic, and the ticket at this place dropped
+-- with the part taken out of its topic, and the ticket at this index dropped
 abbrev pub leftover_view : Topic → ℕ → View → Option ℕ → View
 leftover_view t s v None = v
 leftover_view t s v (Some i) =

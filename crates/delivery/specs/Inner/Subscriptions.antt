@@ -6,8 +6,8 @@ use Rattle.std.specs.Str.{bytes_eq}
 use Rattle.mcast_txn.specs.declared.id.Topic.{Topic}
 use Rattle.mcast_txn.specs.declared.stamp.Stamp.{Stamp}
 use Rattle.mcast_txn.specs.Stamp.{zero_stamp}
-use Rattle.sub_queue.specs.Shown.{Room, known_taken}
-use Rattle.mcast_group.specs.Group.{GroupState, room_at, group_after_subscribe, group_after_unsubscribe}
+use Rattle.sub_queue.specs.Shown.{Gauge, known_taken}
+use Rattle.mcast_group.specs.Group.{GroupState, gauge_at, group_after_subscribe, group_after_unsubscribe}
 use Rattle.mcast_group.specs.Machine.{Entry, find_entry, end_of}
 use Rattle.delivery.specs.Inner.View.{View, EndpointView, SubView, LeftView, left_view, no_endpoint, group_in}
 
@@ -17,17 +17,17 @@ no_sub = record { connection = 0; id = []; topic = record { 0 = 0 }; from = zero
 
 -- ---- an end
 
--- what this entry with this room leaves, at a topic of this frontier
-abbrev pub left_with : Stamp → Option Entry → Option Room → Option LeftView
-left_with frontier None room = None
+-- what this entry with this gauge leaves, at a topic of this frontier
+abbrev pub left_with : Stamp → Option Entry → Option Gauge → Option LeftView
+left_with frontier None gauge = None
 left_with frontier (Some e) None = None
-left_with frontier (Some e) (Some room) = Some (left_view (known_taken room.taken) (end_of frontier e))
+left_with frontier (Some e) (Some gauge) = Some (left_view (known_taken gauge.taken) (end_of frontier e))
 
 -- what the subscription of this number leaves at its group, if it has an entry there
 abbrev pub left_in : ℕ → GroupState → Option LeftView
 left_in s g =
     left_with g.topic.frontier (find_entry s g.topic.subscriptions)
-    (room_at s g.topic.subscriptions g.rooms)
+    (gauge_at s g.topic.subscriptions g.gauges)
 
 -- the same, of a subscription that is held
 abbrev pub left_at : ℕ → View → Option LeftView
@@ -70,14 +70,14 @@ closed_view s v = closed_if_left s (left_at s v) v
 abbrev pub longer_endpoint : ℕ → EndpointView → EndpointView
 longer_endpoint s endpoint = record endpoint { live = endpoint.live ++ s ∷ [] }
 
--- the room of a new queue
-abbrev pub new_room : ℕ → Room
-new_room capacity = record { capacity = capacity; taken = Some 0 }
+-- the gauge of a new queue
+abbrev pub new_gauge : ℕ → Gauge
+new_gauge capacity = record { capacity = capacity; taken = Some 0 }
 
 -- a new subscription of connection c with this id to t
 abbrev pub subscribed_view : ℕ → List ℕ → Topic → View → View
 subscribed_view c id t v = record v {
-  groups = set v.groups t.0 (group_after_subscribe (length v.subs) (new_room v.capacity) (group_in v t));
+  groups = set v.groups t.0 (group_after_subscribe (length v.subs) (new_gauge v.capacity) (group_in v t));
   endpoints = set v.endpoints c (longer_endpoint (length v.subs) (get_or v.endpoints c no_endpoint));
   subs = v.subs
       ++ record {

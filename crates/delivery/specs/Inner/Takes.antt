@@ -35,7 +35,7 @@ sub_held v s = get_or v.subs s no_sub
 -- the next item of what a queue shows
 abbrev pub next_shown : Option Shown → Option Item
 next_shown None = None
-next_shown (Some q) = slice_get q.accepted (known_taken q.room.taken)
+next_shown (Some q) = slice_get q.accepted (known_taken q.gauge.taken)
 
 -- the next item of subscription s at its topic's group
 abbrev pub next_of : ℕ → GroupState → Option Item

@@ -15,9 +15,8 @@ use Rattle.mcast_txn.specs.declared.stamp.Stamp.{Stamp}
 use Rattle.mcast_txn.specs.Ballot.{Decision, row_at}
 use Rattle.mcast_txn.specs.Part.{part_at}
 use Rattle.mcast_txn.specs.Span.{LogRow, Item}
-use Rattle.mcast_txn.specs.Stamp.{zero_stamp}
 use Rattle.mcast_txn.specs.Transaction.{topics_of}
-use Rattle.sub_queue.specs.Shown.{Room}
+use Rattle.sub_queue.specs.Shown.{Gauge}
 use Rattle.sub_queue.specs.VecQueue.{VecQueue}
 use Rattle.sender_gate.specs.Gate.{GateState, FlightState}
 use Rattle.mcast_group.specs.declared.cause.Cause.{Cause}
@@ -41,17 +40,17 @@ use Rattle.delivery.specs.Core.State.{Core, log_limit, unread_at}
 
 -- ---- topics
 
--- the room of the queue of subscription s
-abbrev pub queue_room : World → ℕ → Room
-queue_room w s = record { capacity = w.capacity; taken = Some (subscription_at w s).taken }
+-- the gauge of the queue of subscription s
+abbrev pub queue_gauge : World → ℕ → Gauge
+queue_gauge w s = record { capacity = w.capacity; taken = Some (subscription_at w s).taken }
 
 -- a topic's group
 abbrev pub group_view : World → TopicState → GroupState
-group_view w x = record { topic = x; rooms = map (λ e. queue_room w e.number) x.subscriptions }
+group_view w x = record { topic = x; gauges = map (λ e. queue_gauge w e.number) x.subscriptions }
 
 -- the group of a topic without subscriptions
 abbrev pub new_group : TopicState → GroupState
-new_group x = record { topic = x; rooms = [] }
+new_group x = record { topic = x; gauges = [] }
 
 -- what stands for a group that there is none of
 abbrev pub no_group : GroupState
@@ -70,10 +69,6 @@ flight_view floor f = record {
       (topics_of f.txn.sends);
 }
 
--- the row of the commit list that the transaction will be, without its stamp
-abbrev pub blank_row : Undecided → LogRow
-blank_row f = record { id = f.txn.id; topics = topics_of f.txn.sends; stamp = zero_stamp }
-
 -- the gate of a sender whose last transaction is this
 abbrev pub gate_view : Stamp → TxnId → GateState
 gate_view floor id = record { sender = id.sender; seq = id.seq; floor = floor }
@@ -84,7 +79,7 @@ ticket_of id a = record { id = id; topic = a.topic; n = a.n }
 
 -- what an undecided transaction is to its sender: on its way, or marked
 abbrev pub undecided_view : Stamp → Undecided → Option ProposeFault → Sending
-undecided_view floor f None = Sending.Flying (flight_view floor f) (blank_row f)
+undecided_view floor f None = Sending.Flying (flight_view floor f) (topics_of f.txn.sends)
 undecided_view floor f (Some fault) =
     Sending.Marked (gate_view floor f.txn.id) (map (ticket_of f.txn.id) f.given) fault
 
@@ -110,7 +105,7 @@ sender_view s x = record {
 abbrev pub rested_sending : Sending → Sending
 rested_sending (Sending.Idle gate) = Sending.Resting
 rested_sending Sending.Resting = Sending.Resting
-rested_sending (Sending.Flying flight row) = Sending.Flying flight row
+rested_sending (Sending.Flying flight topics) = Sending.Flying flight topics
 rested_sending (Sending.Marked gate tickets fault) = Sending.Marked gate tickets fault
 
 -- the same of the sender
@@ -327,12 +322,12 @@ group_in v t = get_or v.groups t.0 no_group
 abbrev pub is_undecided : Sending → Bool
 is_undecided (Sending.Idle gate) = false
 is_undecided Sending.Resting = false
-is_undecided (Sending.Flying flight row) = true
+is_undecided (Sending.Flying flight topics) = true
 is_undecided (Sending.Marked gate tickets fault) = true
 
 -- a transaction may begin: the gate is there
 abbrev pub is_idle : Sending → Bool
 is_idle (Sending.Idle gate) = true
 is_idle Sending.Resting = false
-is_idle (Sending.Flying flight row) = false
+is_idle (Sending.Flying flight topics) = false
 is_idle (Sending.Marked gate tickets fault) = false

@@ -37,7 +37,7 @@ queued_items (Some q) = q.accepted
 -- the items that were taken of it
 abbrev pub handed_items : Option Shown → List Item
 handed_items None = []
-handed_items (Some q) = take (known_taken q.room.taken) q.accepted
+handed_items (Some q) = take (known_taken q.gauge.taken) q.accepted
 
 -- ---- reports
 

@@ -12,6 +12,7 @@ use Rattle.mcast_txn.specs.Part.{part_at}
 use Rattle.mcast_txn.specs.Transaction.{topics_of}
 use Rattle.mcast_txn.specs.Agreed.{Transaction}
 use Rattle.mcast_txn.specs.Ids.{same_id}
+use Rattle.mcast_txn.specs.Lists.{insert_by_number}
 use Rattle.mcast_txn.specs.TopicSet.{names}
 use Rattle.mcast_txn.specs.Ballot.{Decision}
 use Rattle.mcast_group.specs.declared.fault.ProposeFault.{ProposeFault}
@@ -77,7 +78,7 @@ pub data Answer : Type 0 where
   Turned : (t : Topic) (count : ℕ) → Answer
   Handed : (s : ℕ) (item : Item) → Answer
 
--- ---- tests
+-- ---- refusals
 
 -- there is no such connection, or it is gone
 abbrev pub needs_connection : World → ℕ → List (Bool × Objection)
@@ -99,9 +100,9 @@ needs_idle w c =
 
 -- what stands against going on as this sender: there is none, or another connection speaks for it; nothing
 -- against a new one
-abbrev pub claim_tests : World → Option ℕ → List (Bool × Objection)
-claim_tests w None = []
-claim_tests w (Some s) =
+abbrev pub claim_refusals : World → Option ℕ → List (Bool × Objection)
+claim_refusals w None = []
+claim_refusals w (Some s) =
     (not (nat_lt s (length w.senders)), Objection.NoSender) ∷ (is_in_use w s, Objection.InUse) ∷ []
 
 -- there is a topic of this number
@@ -131,8 +132,7 @@ has_ticket t tickets = list_any (λ a. a.topic.0 == t.0) tickets
 
 -- a ticket among others that rise by topic
 abbrev pub insert_ticket : Stamp → List Stamp → List Stamp
-insert_ticket a [] = a ∷ []
-insert_ticket a (b ∷ bs) = if nat_lt a.topic.0 b.topic.0 then a ∷ b ∷ bs else b ∷ insert_ticket a bs
+insert_ticket = insert_by_number (λ a. a.topic.0)
 
 -- each named topic gave a ticket
 abbrev pub is_complete : Undecided → Bool
@@ -368,17 +368,17 @@ take_answer w s (Some item) = Handed s item
 
 -- ---- the moves
 
--- A move in a world: the tests of it, in their order, each with what stands against the move where it holds;
--- what its topic refuses of it then; and what it does and answers, where nothing stands against it.
+-- A move in a world: its refusals, in their order, each with the condition under which it holds; what its
+-- topic refuses of it then; and what it does and answers, where nothing stands against it.
 pub record MoveRow : Type 0 where
-  pub tests : List (Bool × Objection)
+  pub refusals : List (Bool × Objection)
   pub at_topic : Option Objection
   pub effect : World
   pub answer : Answer
 
 abbrev pub move_row : World → Move → MoveRow
 move_row w (AddsTopic clock) = record {
-  tests = [];
+  refusals = [];
   at_topic = None;
   effect = record w {
     topics = w.topics
@@ -387,7 +387,7 @@ move_row w (AddsTopic clock) = record {
   answer = Done;
 }
 move_row w Opens = record {
-  tests = [];
+  refusals = [];
   at_topic = None;
   effect = record w {
     connections = w.connections ++ record { sender = None; standing = Standing.Open } ∷ [];
@@ -395,14 +395,14 @@ move_row w Opens = record {
   answer = Opened (length w.connections);
 }
 move_row w (Connects c claimed) = record {
-  tests = needs_idle w c
-      ++ (is_some (connection_at w c).sender, Objection.HasSender) ∷ claim_tests w claimed;
+  refusals = needs_idle w c
+      ++ (is_some (connection_at w c).sender, Objection.HasSender) ∷ claim_refusals w claimed;
   at_topic = None;
   effect = connect_effect w c claimed;
   answer = Done;
 }
 move_row w (Commits c sends) = record {
-  tests = needs_idle w c
+  refusals = needs_idle w c
       ++ (not (is_some (connection_at w c).sender), Objection.NoSender)
       ∷ (not (list_all (λ send. is_topic w send.topic) sends), Objection.NotNamed)
       ∷ (nat_lt 0 (length sends) && not (nat_lt (speaker w c).seq last_number), Objection.SeqFull) ∷ [];
@@ -411,38 +411,38 @@ move_row w (Commits c sends) = record {
   answer = commit_answer w c sends;
 }
 move_row w (Subscribes c t) = record {
-  tests = needs_idle w c ++ (not (is_topic w t), Objection.NotNamed) ∷ [];
+  refusals = needs_idle w c ++ (not (is_topic w t), Objection.NotNamed) ∷ [];
   at_topic = None;
   effect = subscribe_effect w c t;
   answer = Subscribed (length w.subscriptions) c t (topic_at w t).frontier;
 }
 move_row w (Unsubscribes c s) = record {
-  tests = needs_idle w c
+  refusals = needs_idle w c
       ++ (not (nat_lt s (length w.subscriptions) && is_live c (subscription_at w s)), Objection.NoSub) ∷ [];
   at_topic = None;
   effect = close_effect w s;
   answer = Unsubscribed s (end_now w s);
 }
 move_row w (Disconnects c) = record {
-  tests = needs_idle w c;
+  refusals = needs_idle w c;
   at_topic = None;
   effect = with_leaving w c;
   answer = Leaving c;
 }
 move_row w (Errs c) = record {
-  tests = needs_idle w c;
+  refusals = needs_idle w c;
   at_topic = None;
   effect = with_leaving w c;
   answer = Error c;
 }
 move_row w (Lost c) = record {
-  tests = needs_open w c;
+  refusals = needs_open w c;
   at_topic = None;
   effect = with_leaving w c;
   answer = Leaving c;
 }
 move_row w (Leaves c) = record {
-  tests = needs_connection w c
+  refusals = needs_connection w c
       ++ (is_reading (connection_at w c).standing, Objection.NotLeaving)
       ∷ (
         not (is_some (oldest_live c 0 w.subscriptions))
@@ -454,7 +454,7 @@ move_row w (Leaves c) = record {
   answer = leave_answer w c (oldest_live c 0 w.subscriptions);
 }
 move_row w (Proposes c t memory) = record {
-  tests = needs_connection w c
+  refusals = needs_connection w c
       ++ (not (is_some (speaker w c).flight), Objection.NoFlight)
       ∷ (is_some (undecided_at w c).mark, Objection.Marked)
       ∷ (not (is_topic w t && names t (topics_of (undecided_at w c).txn.sends)), Objection.NotNamed)
@@ -464,7 +464,7 @@ move_row w (Proposes c t memory) = record {
   answer = propose_answer w c t (proposal_fault w c t memory);
 }
 move_row w (Decides c) = record {
-  tests = needs_connection w c
+  refusals = needs_connection w c
       ++ (not (is_some (speaker w c).flight), Objection.NoFlight)
       ∷ (is_some (undecided_at w c).mark, Objection.Marked)
       ∷ (not (is_complete (undecided_at w c)), Objection.Incomplete) ∷ [];
@@ -473,7 +473,7 @@ move_row w (Decides c) = record {
   answer = Decided (undecided_at w c).txn.id (greatest (undecided_at w c).given);
 }
 move_row w (Withdraws c) = record {
-  tests = needs_connection w c
+  refusals = needs_connection w c
       ++ (not (is_some (speaker w c).flight), Objection.NoFlight)
       ∷ (not (is_some (undecided_at w c).mark), Objection.NotMarked) ∷ [];
   at_topic = None;
@@ -481,19 +481,19 @@ move_row w (Withdraws c) = record {
   answer = Withdrawn (undecided_at w c).txn.id c;
 }
 move_row w (Cancels c t) = record {
-  tests = needs_connection w c ++ (not (is_topic w t), Objection.NotNamed) ∷ [];
+  refusals = needs_connection w c ++ (not (is_topic w t), Objection.NotNamed) ∷ [];
   at_topic = cancel_objection w t (find_leftover t (speaker w c).leftovers);
   effect = cancel_effect w c t (find_leftover t (speaker w c).leftovers);
   answer = cancel_answer t (find_leftover t (speaker w c).leftovers);
 }
 move_row w (Learns t id) = record {
-  tests = (not (is_topic w t), Objection.NotNamed) ∷ [];
+  refusals = (not (is_topic w t), Objection.NotNamed) ∷ [];
   at_topic = learn_objection w t id (find_verdict id w.verdicts);
   effect = learn_effect w t id (find_verdict id w.verdicts);
   answer = Learnt id t;
 }
 move_row w (Releases t) = record {
-  tests = (not (is_topic w t), Objection.NotNamed)
+  refusals = (not (is_topic w t), Objection.NotNamed)
       ∷ (not (is_some (due_part (topic_at w t))), Objection.NothingDue)
       ∷ [];
   at_topic = None;
@@ -501,13 +501,13 @@ move_row w (Releases t) = record {
   answer = release_answer t (due_part (topic_at w t));
 }
 move_row w (Turns t) = record {
-  tests = (not (is_topic w t), Objection.NotNamed) ∷ [];
+  refusals = (not (is_topic w t), Objection.NotNamed) ∷ [];
   at_topic = None;
   effect = with_topic w t (after_turn (queue_has_room w) (verdict_in w) (topic_at w t));
   answer = Turned t (turn_count (queue_has_room w) (verdict_in w) (topic_at w t));
 }
 move_row w (Takes s) = record {
-  tests = (not (nat_lt s (length w.subscriptions)), Objection.NoSub)
+  refusals = (not (nat_lt s (length w.subscriptions)), Objection.NoSub)
       ∷ (
         is_some (subscription_at w s).closed
             || not (is_reading (connection_at w (subscription_at w s).connection).standing),
@@ -523,9 +523,9 @@ move_row w (Takes s) = record {
   answer = take_answer w s (slice_get (accepted_at w s) (subscription_at w s).taken);
 }
 
--- what stands against the move, in this order: where the first holds it is refused
-abbrev pub objections : World → Move → List (Bool × Objection)
-objections w e = (move_row w e).tests
+-- all that the move is refused for, in order, but for what its topic refuses
+abbrev pub move_refusals : World → Move → List (Bool × Objection)
+move_refusals w e = (move_row w e).refusals
 
 -- what the topic refuses of it then
 abbrev pub topic_objection : World → Move → Option Objection
@@ -541,7 +541,7 @@ move_answer w e = (move_row w e).answer
 
 -- why the event has no effect
 abbrev pub move_refusal : World → Move → Option Objection
-move_refusal w e = option_or (first_refusal (objections w e)) (topic_objection w e)
+move_refusal w e = option_or (first_refusal (move_refusals w e)) (topic_objection w e)
 
 -- ---- a step
 

@@ -105,7 +105,7 @@ new_sender = record { seq = 0; floor = zero_stamp; flight = None; leftovers = []
 
 -- the sender of this number; beyond the last, a new one
 abbrev pub sender_at : World → ℕ → SenderState
-sender_at w s = get_or w.senders s new_sender
+sender_at w sender = get_or w.senders sender new_sender
 
 -- what stands for a connection that there never was: it is gone
 abbrev pub nobody : Connection
@@ -126,12 +126,12 @@ speaker w c = sender_at w (speaker_number w c)
 
 -- the connection speaks for this sender, and isn't gone
 abbrev pub speaks_for : ℕ → Connection → Bool
-speaks_for s x = not (is_gone x.standing) && option_map_or (λ n. n == s) x.sender false
+speaks_for sender x = not (is_gone x.standing) && option_map_or (λ n. n == sender) x.sender false
 
 -- The sender is in use: a connection that isn't gone speaks for it. So the sender of a connection that was
 -- lost is in use while that connection is leaving.
 abbrev pub is_in_use : World → ℕ → Bool
-is_in_use w s = list_any (speaks_for s) w.connections
+is_in_use w sender = list_any (speaks_for sender) w.connections
 
 -- what stands for a subscription that there never was
 abbrev pub no_subscription : Subscription
@@ -140,11 +140,11 @@ no_subscription =
 
 -- the subscription of this number; beyond the last, none
 abbrev pub subscription_at : World → ℕ → Subscription
-subscription_at w s = get_or w.subscriptions s no_subscription
+subscription_at w sub = get_or w.subscriptions sub no_subscription
 
 -- the subscription's entry at its topic, while it isn't closed
 abbrev pub entry_at : World → ℕ → Option Entry
-entry_at w s = find_entry s (topic_at w (subscription_at w s).topic).subscriptions
+entry_at w sub = find_entry sub (topic_at w (subscription_at w sub).topic).subscriptions
 
 -- ---- writing
 
@@ -154,7 +154,7 @@ with_topic w t x = record w { topics = set w.topics t.0 x }
 
 -- the core with this sender in its place
 abbrev pub with_sender : World → ℕ → SenderState → World
-with_sender w s x = record w { senders = set w.senders s x }
+with_sender w sender x = record w { senders = set w.senders sender x }
 
 -- the core with this standing of a connection
 abbrev pub with_standing : World → ℕ → Standing → World
@@ -164,10 +164,11 @@ with_standing w c standing = record w {
 
 -- the core where this connection speaks for this sender
 abbrev pub with_speaker : World → ℕ → ℕ → World
-with_speaker w c s = record w {
-  connections = set w.connections c (record { sender = Some s; standing = (connection_at w c).standing });
+with_speaker w c sender = record w {
+  connections =
+      set w.connections c (record { sender = Some sender; standing = (connection_at w c).standing });
 }
 
 -- the core with this subscription in its place
 abbrev pub with_subscription : World → ℕ → Subscription → World
-with_subscription w s x = record w { subscriptions = set w.subscriptions s x }
+with_subscription w sub x = record w { subscriptions = set w.subscriptions sub x }

@@ -18,6 +18,7 @@ use super::frames::FRAME_NO_MEMORY;
 use crate::connection_fault::ConnectionFault;
 use crate::outcome::Outcome;
 use crate::sender_state::SenderState;
+use mcast_txn::Sender;
 use sender_gate::{ClaimFault, Gate, Senders};
 use stomp_frame::{NoMemory, Octets, ServerFrame};
 
@@ -43,12 +44,12 @@ fn id_of(client: &Option<Octets>) -> Option<&[u8]>
 }
 
 impl NetState {
-    /// Claims the sender of this client-id, which takes its gate back, or a new one, and returns its number. Room for a
-    /// new one is made before it is claimed. After `NoMemory` all is what it was.
-    fn claim(&mut self, client: Option<&[u8]>, clients: &mut Senders) -> Result<u64, NoMemory>
+    /// Claims the sender of this client-id, which takes its gate back, or a new one, and returns it. Room for a new one
+    /// is made before it is claimed. After `NoMemory` all is what it was.
+    fn claim(&mut self, client: Option<&[u8]>, clients: &mut Senders) -> Result<Sender, NoMemory>
         requires { MayResume (option_map (λ id. id.now) client) clients.old self.old }
         ensures ok { IfOk result
-            (λ s. (claimed_gate (option_map (λ id. id.now) client.entry) clients.old).sender.0 ≡ s) }
+            (λ s. (claimed_gate (option_map (λ id. id.now) client.entry) clients.old).sender.0 ≡ s.0) }
         ensures claimed { OnOk result
             (clients.new ≡ after_claim (option_map (λ id. id.now) client.entry) clients.old) }
         ensures held { OnOk result (self.new
@@ -62,8 +63,8 @@ impl NetState {
             self.table.drop_sender();
             return Err(NoMemory);
         };
-        let sender = gate.sender().0;
-        let index = sender as usize;
+        let sender = gate.sender();
+        let index = sender.0 as usize;
         if index < self.senders.len() {
             self.table.drop_sender();
             let state = &mut self.senders[index];
@@ -75,16 +76,16 @@ impl NetState {
         Ok(sender)
     }
 
-    /// The connection speaks for the sender of this number.
-    fn speak_for(&mut self, connection: u64, sender: u64)
+    /// The connection speaks for this sender.
+    fn speak_for(&mut self, connection: u64, sender: Sender)
         requires { connection < length self.old.endpoints }
         ensures { (d : EndpointView) → self.new ≡ record self.old {
           endpoints = set self.old.endpoints connection
-              (record (get_or self.old.endpoints connection d) { sender = Some sender });
+              (record (get_or self.old.endpoints connection d) { sender = Some sender.0 });
         } }
     {
         let endpoint = &mut self.endpoints[connection as usize];
-        endpoint.sender = Some(sender);
+        endpoint.sender = Some(sender.0);
     }
 
     /// Takes a CONNECT: its connection speaks for the sender of its client-id, or for a new one. Refused: 77 where

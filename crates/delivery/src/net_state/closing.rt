@@ -36,14 +36,14 @@ impl NetState {
         subscription.left = Some(left);
     }
 
-    /// Drops the number of a closed subscription from its connection's endpoint, if there is one.
-    fn forget(&mut self, connection: u64, sub: u64)
+    /// Drops the number of a closed subscription from the endpoint of this index, if there is one.
+    fn forget(&mut self, index: usize, sub: u64)
         ensures { self.new ≡ record self.old {
-          endpoints = set self.old.endpoints connection
-              (shorter_endpoint sub (get_or self.old.endpoints connection no_endpoint));
+          endpoints = set self.old.endpoints index
+              (shorter_endpoint sub (get_or self.old.endpoints index no_endpoint));
         } }
     {
-        if let Some(endpoint) = self.endpoints.get_mut(connection as usize) {
+        if let Some(endpoint) = self.endpoints.get_mut(index) {
             endpoint.forget(sub);
         }
     }
@@ -61,7 +61,7 @@ impl NetState {
         let left = self.end_at(index, sub)?;
         let to = left.to;
         self.keep_left(sub, left);
-        self.forget(connection, sub);
+        self.forget(connection as usize, sub);
         Some(to)
     }
 }

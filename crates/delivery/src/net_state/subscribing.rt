@@ -28,7 +28,7 @@ fn subscribe_at(
     requires empty { (shown_of outlet).accepted ≡ [] }
     ensures from { IfOk result (λ from. from ≡ (get_or groups.old.items index no_group).topic.frontier) }
     ensures ok { OnOk result (groups.new.items ≡ set groups.old.items index
-        (group_after_subscribe number (shown_of outlet).room (get_or groups.old.items index no_group))) }
+        (group_after_subscribe number (shown_of outlet).gauge (get_or groups.old.items index no_group))) }
     ensures err { OnErr result (groups.new.items ≡ groups.old.items) }
 {
     let group = &mut groups[index];

@@ -30,8 +30,8 @@ fn put(trace: &mut Trace, row: TraceRow) -> Result<(), NoMemory>
 }
 
 /// A row of a topic's log as a row of a trace, with a copy of its topics.
-fn log_line(alloc: Global, topic: Topic, row: &Row) -> Result<LogRow, NoMemory>
-    ensures { IfOk result (λ line. line ≡ record { topic = topic; row = row.now }) }
+fn log_row(alloc: Global, topic: Topic, row: &Row) -> Result<LogRow, NoMemory>
+    ensures { IfOk result (λ logged. logged ≡ record { topic = topic; row = row.now }) }
 {
     Ok(LogRow {
         topic,
@@ -48,13 +48,13 @@ fn add_log(
     topic: Topic,
     group: &Group<VecOutlet>,
 ) -> Result<(), NoMemory>
-    requires { list_all (λ line. fits line) (traced_log topic.0 group.now.topic.held) ≡ true }
+    requires { list_all (λ logged. fits logged) (traced_log topic.0 group.now.topic.held) ≡ true }
     ensures { OnOk result (trace.new
         ≡ record trace.old { logs = trace.old.logs ++ traced_log topic.0 group.now.topic.held }) }
 {
     for i in 0..group.held_len() {
-        let line = log_line(alloc, topic, group.held(i).unwrap())?;
-        put(trace, TraceRow::Log(line))?;
+        let logged = log_row(alloc, topic, group.held(i).unwrap())?;
+        put(trace, TraceRow::Log(logged))?;
     }
     Ok(())
 }
@@ -113,7 +113,7 @@ impl NetState {
     /// Adds each topic's log, by the topics' numbers.
     fn add_logs(&self, trace: &mut Trace) -> Result<(), NoMemory>
         requires few { length self.now.groups ≤ max_topics }
-        requires fit { list_all (λ line. fits line) (trace_of (report_in self.now)).logs ≡ true }
+        requires fit { list_all (λ logged. fits logged) (trace_of (report_in self.now)).logs ≡ true }
         ensures { OnOk result (trace.new
             ≡ record trace.old { logs = trace.old.logs ++ (trace_of (report_in self.now)).logs }) }
     {
@@ -126,7 +126,7 @@ impl NetState {
     /// The trace of what is held. Each row is made once, and only a log's row copies anything: its topics.
     pub(crate) fn trace(&self) -> Result<Trace, NoMemory>
         requires few { length self.now.groups ≤ max_topics }
-        requires fit { list_all (λ line. fits line) (trace_of (report_in self.now)).logs ≡ true }
+        requires fit { list_all (λ logged. fits logged) (trace_of (report_in self.now)).logs ≡ true }
         ensures { IfOk result (λ trace. trace ≡ trace_of (report_in self.now)) }
     {
         let mut trace = Trace::new(self.alloc);

@@ -176,13 +176,13 @@ impl NetState {
             return Err(Refusal::NotNamed);
         }
         let state = &mut self.senders[index];
-        let Some((place, id)) = state.leftover(topic) else {
+        let Some((at, id)) = state.leftover(topic) else {
             return Err(Refusal::NotNamed);
         };
         let group = &mut self.groups[topic.0 as usize];
         match group.cancel(id) {
             Ok(()) => {
-                state.drop_leftover(place);
+                state.drop_leftover(at);
                 Ok(())
             }
             Err(CancelFault::NotPending) => unreachable!(),

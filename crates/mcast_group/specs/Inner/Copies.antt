@@ -28,7 +28,7 @@ HaveCopies n (p ∷ ps) (c ∷ cs) = ((length c ≡ n) × AreOf p.part c) × Hav
 -- A part that is prepared.
 -- waits: it hasn't learnt its stamp.
 -- copied: the copies are of it, and at least so many.
-pub record IsPrepared (entry : Pending) (copies : List TopicPart) (many : ℕ) : Type 0 where
-  pub waits : entry.learnt ≡ None
-  pub copied : AreOf entry.part copies
+pub record IsPrepared (part : Pending) (copies : List TopicPart) (many : ℕ) : Type 0 where
+  pub waits : part.learnt ≡ None
+  pub copied : AreOf part.part copies
   pub enough : many ≤ length copies

@@ -4,7 +4,7 @@ use Rattle.mcast_txn.specs.declared.stamp.Stamp.{Stamp}
 use Rattle.mcast_txn.specs.Lists.{In}
 use Rattle.mcast_txn.specs.Transaction.{TopicPart}
 use Rattle.mcast_txn.specs.Span.{Item}
-use Rattle.sub_queue.specs.Shown.{Shown, Room, IsAboveLast}
+use Rattle.sub_queue.specs.Shown.{Shown, Gauge, IsAboveLast}
 use Rattle.mcast_group.specs.declared.subscription.Subscription.{Subscription}
 use Rattle.mcast_group.specs.Sound.{IsSound}
 use Rattle.mcast_group.specs.Machine.{TopicState, Entry}
@@ -17,9 +17,9 @@ abbrev pub entry_of : {Q : Type 0} → (Q → Shown) → Subscription Q → Entr
 entry_of shown s =
     record { number = s.number; from = s.from; to = s.to; accepted = (shown s.outlet).accepted }
 
--- the room that its outlet shows
-abbrev pub room_of : {Q : Type 0} → (Q → Shown) → Subscription Q → Room
-room_of shown s = (shown s.outlet).room
+-- the gauge that its outlet shows
+abbrev pub gauge_of : {Q : Type 0} → (Q → Shown) → Subscription Q → Gauge
+gauge_of shown s = (shown s.outlet).gauge
 
 -- What a group keeps.
 -- sound: the topic is sound; so its subscriptions' numbers differ.
@@ -53,4 +53,4 @@ pub record Gave {Q : Type 0} (shown : Q → Shown) (may : Shown → Bool → Typ
   pub many : length answers ≡ length old
   pub answered : MayGive shown may answers old
   pub entries : map (entry_of shown) new ≡ entries_after frontier item answers (map (entry_of shown) old)
-  pub rooms : map (room_of shown) new ≡ map (room_of shown) old
+  pub gauges : map (gauge_of shown) new ≡ map (gauge_of shown) old

@@ -1,14 +1,13 @@
 -- Subscriptions by rising number. It only serves proofs.
-use Rattle.std.specs.Prelude.{◌≡◌, ◌≢◌, ℕ, ◌≤◌, nat_lt, not, List, [], ◌∷◌, filter, length, if◌then◌else◌}
+use Rattle.std.specs.Prelude.{◌≡◌, ◌≢◌, ℕ, ◌≤◌, not, List, filter, length}
 use Rattle.std.specs.List.{AllByRecursion, insert}
 use Rattle.std.specs.Option.{is_some}
-use Rattle.mcast_txn.specs.Lists.{RisesBy}
+use Rattle.mcast_txn.specs.Lists.{RisesBy, insert_by_number}
 use Rattle.mcast_group.specs.declared.subscription.Subscription.{Subscription}
 
 -- a subscription among others that rise by number
 abbrev pub insert_sub : {Q : Type 0} → Subscription Q → List (Subscription Q) → List (Subscription Q)
-insert_sub s [] = s ∷ []
-insert_sub s (z ∷ zs) = if nat_lt s.number z.number then s ∷ z ∷ zs else z ∷ insert_sub s zs
+insert_sub = insert_by_number (λ s. s.number)
 
 -- The index at which a subscription of this number comes among others.
 -- within: it is at most their length.

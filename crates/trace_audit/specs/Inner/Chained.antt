@@ -8,7 +8,7 @@ use Rattle.mcast_txn.specs.Span.{up_to}
 use Rattle.mcast_txn.specs.Stamp.{stamp_lt}
 use Rattle.trace_audit.specs.Faults.{some_two, are_different, are_colliding}
 use Rattle.trace_audit.specs.Inner.Orders.{rows_of_refs}
-use Rattle.trace_audit.specs.Logs.{LogLine}
+use Rattle.trace_audit.specs.Logs.{TopicRow}
 use Rattle.trace_audit.specs.declared.row.SpanRow.{SpanRow}
 
 -- each item is in the relation to each that follows it
@@ -16,33 +16,34 @@ abbrev pub Chained : {X : Type 0} → (X → X → Type 0) → List X → Type 0
 Chained R [] = Unit {0}
 Chained R (x ∷ xs) = ((y : _) → In y xs → R x y) × Chained R xs
 
--- the later line is of no lower topic, and above it in its log
-abbrev pub Above : LogLine → LogLine → Type 0
+-- the later row is of no lower topic, and above it in its log
+abbrev pub Above : TopicRow → TopicRow → Type 0
 Above x y =
     (nat_lt y.topic.0 x.topic.0 ≡ false)
     × (x.topic.0 ≡ y.topic.0 → stamp_lt x.row.stamp y.row.stamp ≡ true)
 
--- lines by topic and stamp, against which neither verdicts nor stamps speak
-pub record IsIndex (rows : List (Bor LogLine)) : Type 0 where
+-- rows by topic and stamp, against which neither verdicts nor stamps speak
+pub record IsIndex (rows : List (Bor TopicRow)) : Type 0 where
   pub rises : Chained Above (rows_of_refs rows)
   pub one_verdict : some_two are_different (rows_of_refs rows) ≡ false
   pub one_stamp : some_two are_colliding (rows_of_refs rows) ≡ false
 
--- the line comes before this stamp of the topic's log
-abbrev pub comes_before : Topic → Stamp → LogLine → Bool
-comes_before t stamp line = nat_lt line.topic.0 t.0 || (line.topic.0 == t.0 && stamp_lt line.row.stamp stamp)
+-- the row comes before this stamp of the topic's log
+abbrev pub comes_before : Topic → Stamp → TopicRow → Bool
+comes_before t stamp logged =
+    nat_lt logged.topic.0 t.0 || (logged.topic.0 == t.0 && stamp_lt logged.row.stamp stamp)
 
--- the line is of the topic's log, and not before the stamp
-abbrev pub is_from : Topic → Stamp → LogLine → Bool
-is_from t stamp line = line.topic.0 == t.0 && not (stamp_lt line.row.stamp stamp)
+-- the row is of the topic's log, and not before the stamp
+abbrev pub is_from : Topic → Stamp → TopicRow → Bool
+is_from t stamp logged = logged.topic.0 == t.0 && not (stamp_lt logged.row.stamp stamp)
 
--- the line is of a lower topic than the span's, or of its topic and no later than its beginning
-abbrev pub is_up_to_from : SpanRow → LogLine → Bool
-is_up_to_from span line =
-    nat_lt line.topic.0 span.topic.0
-    || (line.topic.0 == span.topic.0 && not (stamp_lt span.from line.row.stamp))
+-- the row is of a lower topic than the span's, or of its topic and no later than its beginning
+abbrev pub is_up_to_from : SpanRow → TopicRow → Bool
+is_up_to_from span logged =
+    nat_lt logged.topic.0 span.topic.0
+    || (logged.topic.0 == span.topic.0 && not (stamp_lt span.from logged.row.stamp))
 
--- the line is of a lower topic than the span's, or of its topic and no later than its end
-abbrev pub is_up_to_end : SpanRow → LogLine → Bool
-is_up_to_end span line =
-    nat_lt line.topic.0 span.topic.0 || (line.topic.0 == span.topic.0 && up_to span.to line.row.stamp)
+-- the row is of a lower topic than the span's, or of its topic and no later than its end
+abbrev pub is_up_to_end : SpanRow → TopicRow → Bool
+is_up_to_end span logged =
+    nat_lt logged.topic.0 span.topic.0 || (logged.topic.0 == span.topic.0 && up_to span.to logged.row.stamp)

@@ -9,9 +9,9 @@ use Rattle.trace_audit.specs.declared.text.row_ref.RowRef.TheVariants as row_ref
 
 -- the row that a reference is to
 abbrev pub row_of_ref : RowRef → TraceRow
-row_of_ref (row_ref.Log line) = row.Log line.now
+row_of_ref (row_ref.Log logged) = row.Log logged.now
 row_of_ref (row_ref.Span span) = row.Span span.now
-row_of_ref (row_ref.Queue line) = row.Queue line.now
+row_of_ref (row_ref.Queue queued) = row.Queue queued.now
 
 -- two numbers with this octet between them
 abbrev pub pair_text : ℕ → ℕ → ℕ → List ℕ

@@ -6,7 +6,7 @@ use Rattle.mcast_txn.specs.declared.id.Topic.{Topic}
 use Rattle.mcast_txn.specs.declared.id.TxnId.{TxnId}
 use Rattle.mcast_txn.specs.declared.stamp.Stamp.{Stamp}
 use Rattle.trace_audit.specs.Trace.{TraceData}
-use Rattle.trace_audit.specs.Inner.InTurn.{added_from}
+use Rattle.trace_audit.specs.Inner.InOrder.{added_from}
 use Rattle.trace_audit.specs.Parsing.{cut, onto_first}
 use Rattle.trace_audit.specs.Rows.{is_misfit, with_row}
 use Rattle.trace_audit.specs.declared.text.parse_fault.ParseFault.{ParseFault}

@@ -34,7 +34,7 @@ impl Trace {
 /// Puts the rows of logs after these.
 fn put_logs<'a>(refs: &mut Vec<RowRef<'a>>, logs: &'a [LogRow]) -> Result<(), NoMemory>
     ensures { OnOk result (map row_of_ref refs.new.items
-        ≡ map row_of_ref refs.old.items ++ map (λ line. row.Log line) logs.now) }
+        ≡ map row_of_ref refs.old.items ++ map (λ logged. row.Log logged) logs.now) }
 {
     for row in logs {
         refs.push(RowRef::Log(row))?;
@@ -56,7 +56,7 @@ fn put_spans<'a>(refs: &mut Vec<RowRef<'a>>, spans: &'a [SpanRow]) -> Result<(),
 /// Puts the rows of queues after these.
 fn put_queues<'a>(refs: &mut Vec<RowRef<'a>>, queues: &'a [QueueRow]) -> Result<(), NoMemory>
     ensures { OnOk result (map row_of_ref refs.new.items
-        ≡ map row_of_ref refs.old.items ++ map (λ line. row.Queue line) queues.now) }
+        ≡ map row_of_ref refs.old.items ++ map (λ queued. row.Queue queued) queues.now) }
 {
     for row in queues {
         refs.push(RowRef::Queue(row))?;

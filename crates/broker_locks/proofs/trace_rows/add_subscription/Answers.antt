@@ -1,11 +1,13 @@
 use Rattle.std.proofs.Common.{◌++◌, [], ◌∷◌, List, refl, ap, subst, sym, map}
+use Rattle.mcast_txn.specs.Span.{row_stamp}
+use Rattle.mcast_txn.proofs.Sorting.{Rises-back, Rises-front}
 use Rattle.trace_audit.specs.declared.fault.AddFault.{AddFault}
 use Rattle.trace_audit.specs.declared.row.TraceRow.{TraceRow}
 use Rattle.trace_audit.specs.declared.row.TraceRow.TheVariants as row
 use Rattle.broker_locks.specs.Inner.KeptRows.{sub_in_log}
 use Rattle.broker_locks.specs.KeptTrace.{AddsAll, AddsFirst, marks_between}
 use Rattle.broker_locks.specs.TopicTraces.{queue_row, sub_rows}
-use Rattle.broker_locks.proofs.Adding.{adds_before, adds_more, adds_none, adds_one, adds_then, err_is, if_err, marks_of_both, on_ok, rises_after, rises_before}
+use Rattle.broker_locks.proofs.Adding.{adds_before, adds_more, adds_none, adds_one, adds_then, err_is, if_err, marks_of_both, on_ok}
 use Rattle.broker_locks.proofs.trace_rows.add_subscription.Goals as goal
 
 pub returns-in_err-add-clause-err : goal.returns-in_err-add-clause-err
@@ -16,7 +18,7 @@ returns-in_err-add-clause-err g c =
     (adds_none fault (row.Span span) _ c.args.trace.now c.add.new.self c.in_err-add.ensures.kept c.in_err-add.ensures.fault)
 
 pub add_marks-requires : goal.add_marks-requires
-add_marks-requires g c = rises_before c.args.drained.now c.args.held.now c.requires
+add_marks-requires g c = Rises-front row_stamp c.args.drained.now c.args.held.now c.requires
 
 pub returns-in_err-add_marks-clause-err : goal.returns-in_err-add_marks-clause-err
 returns-in_err-add_marks-clause-err g c =
@@ -31,7 +33,7 @@ returns-in_err-add_marks-clause-err g c =
     (adds_before fault (a ++ b) a b c.add.new.self c.add_marks.new.trace refl c.in_err-add_marks.ensures.err))
 
 pub add_marks-requires-2 : goal.add_marks-requires-2
-add_marks-requires-2 g c = rises_after c.args.drained.now c.args.held.now c.requires
+add_marks-requires-2 g c = Rises-back row_stamp c.args.drained.now c.args.held.now c.requires
 
 pub returns-clause-ok : goal.returns-clause-ok
 returns-clause-ok g c =

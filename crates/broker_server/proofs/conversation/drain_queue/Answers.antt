@@ -4,7 +4,7 @@ use Rattle.stomp_frame.specs.Writing.{spelling_of}
 use Rattle.delivery.specs.Core.Output.{item_messages}
 use Rattle.broker_server.specs.declared.conversation.drained.Taking.TheVariants.{Emptied, Stopped, Failed}
 use Rattle.broker_server.specs.declared.conversation.conversation_fault.ConversationFault.TheVariants as fault
-use Rattle.broker_server.specs.BrokerRows.{AsksInTurn, AsksLag, BrokerRow, SubName, Takes}
+use Rattle.broker_server.specs.BrokerRows.{AsksInOrder, AsksLag, BrokerRow, SubName, Takes}
 use Rattle.broker_server.specs.Conversations.{OpenSubState}
 use Rattle.broker_server.specs.Delivering.{Drains, nearer_lag, with_pushed}
 use Rattle.broker_server.proofs.ConversationLemmas.{asks_on, asks_one}
@@ -75,7 +75,7 @@ returns-in-None-3 g c =
       | else-queue-eq0 w ↦ (
           let one = asks_one called c.loop-call.calls c.take.new.self row c.in-None.ensures.taken in (
             so_far.0 ++ row ∷ [],
-            asks_on called c.args.calls.now c.loop-call.calls c.if-queue-eq0.calls so_far.0 (row ∷ []) so_far.1 (subst (λ x. AsksInTurn called c.loop-call.calls (row ∷ []) x) (sym w.calls-is) one),
+            asks_on called c.args.calls.now c.loop-call.calls c.if-queue-eq0.calls so_far.0 (row ∷ []) so_far.1 (subst (λ x. AsksInOrder called c.loop-call.calls (row ∷ []) x) (sym w.calls-is) one),
             so_far.2 (row ∷ []) Emptied (new (name c.take.new.sub)) c.loop-call.wire (room, refl, inr (c.if-queue.false, some_left held.until_lag w.if-queue-eq0.false, refl, new_is), refl),
             no_item so_far.0 (row ∷ []) c.loop-call.any refl so_far.3,
           ))
@@ -112,7 +112,7 @@ loop-call-preserved g c =
             taken = (
               so_far.0 ++ row ∷ [],
               asks_on called c.args.calls.now c.loop-call.calls c.match-take.calls so_far.0 (row ∷ []) so_far.1
-                  (subst (λ x. AsksInTurn called c.loop-call.calls (row ∷ []) x) (sym w.calls-is) (asks_one called c.loop-call.calls c.take.new.self row w.in-Some.ensures.taken)),
+                  (subst (λ x. AsksInOrder called c.loop-call.calls (row ∷ []) x) (sym w.calls-is) (asks_one called c.loop-call.calls c.take.new.self row w.in-Some.ensures.taken)),
               (λ rows end new after d. drains_behind capacity so_far.0 (row ∷ []) rows c.args.queue.now c.args.wire.now end new after
                   (so_far.2 (row ∷ rows) end new after (drains_item capacity n o next c.loop-call.wire c.match-take.wire item (name held.sub) room refl next_is more_is rows end new after d))),
               w.any-is ∙ some_item so_far.0 (row ∷ []) refl,
@@ -144,11 +144,11 @@ returns-after-loop-call g c =
     let so_far = c.loop-call.invariant.taken in
     let called = g.C.BrokerCalls.called in
     let drains = so_far.2 [] Stopped _ c.loop-call.wire (inr c.loop-call-test.false, refl, refl, refl) in
-    (so_far.0 ++ [], subst (λ (rows : List BrokerRow). AsksInTurn called c.args.calls.now rows c.loop-call.calls) (sym (append-nil so_far.0)) so_far.1, drains, no_item so_far.0 [] c.loop-call.any refl so_far.3)
+    (so_far.0 ++ [], subst (λ (rows : List BrokerRow). AsksInOrder called c.args.calls.now rows c.loop-call.calls) (sym (append-nil so_far.0)) so_far.1, drains, no_item so_far.0 [] c.loop-call.any refl so_far.3)
 
 pub returns-then-not-may_take : goal.returns-then-not-may_take
 returns-then-not-may_take g c =
     let so_far = c.loop-call.invariant.taken in
     let called = g.C.BrokerCalls.called in
     let drains = so_far.2 [] Stopped _ c.loop-call.wire (inl (full_of (length c.loop-call.wire) c.if-not-may_take.ensures.1), refl, refl, refl) in
-    (so_far.0 ++ [], subst (λ (rows : List BrokerRow). AsksInTurn called c.args.calls.now rows c.loop-call.calls) (sym (append-nil so_far.0)) so_far.1, drains, no_item so_far.0 [] c.loop-call.any refl so_far.3)
+    (so_far.0 ++ [], subst (λ (rows : List BrokerRow). AsksInOrder called c.args.calls.now rows c.loop-call.calls) (sym (append-nil so_far.0)) so_far.1, drains, no_item so_far.0 [] c.loop-call.any refl so_far.3)

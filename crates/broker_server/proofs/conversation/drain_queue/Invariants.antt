@@ -1,6 +1,6 @@
 use Rattle.std.proofs.Common.{◌≡◌, ℕ, List, ◌++◌}
 use Rattle.broker_server.specs.declared.conversation.drained.Taking.{Taking}
-use Rattle.broker_server.specs.BrokerRows.{AsksInTurn, BrokerRow}
+use Rattle.broker_server.specs.BrokerRows.{AsksInOrder, BrokerRow}
 use Rattle.broker_server.specs.Conversations.{OpenSubState}
 use Rattle.broker_server.specs.Delivering.{Drains, has_item}
 use Rattle.broker_server.proofs.conversation.drain_queue.Given as goal
@@ -16,7 +16,7 @@ invariant-loop-call g l =
       lagged = held.lagged;
     } in
     record {
-      taken : (asked : List BrokerRow) × AsksInTurn g.C.BrokerCalls.called l.fn.calls asked l.calls
+      taken : (asked : List BrokerRow) × AsksInOrder g.C.BrokerCalls.called l.fn.calls asked l.calls
           × ((rows : List BrokerRow) (end : Taking) (new : OpenSubState) (after : List ℕ)
           → Drains l.capacity l._call rows queue l.wire end new after
           → Drains l.capacity 0 (asked ++ rows) l.fn.queue l.fn.wire end new after)

@@ -1,7 +1,7 @@
 use Rattle.std.proofs.Common.{List, [], ◌∷◌, ◌++◌, map, sym, ap, subst, ◌∙◌, append_assoc}
 use Rattle.std.proofs.lemmas.List.{map-append}
 use Rattle.std.specs.Vec.Iter.{into_iter_items}
-use Rattle.broker_server.specs.BrokerRows.{AsksInTurn, BrokerRow, SubName, Unsubscribes}
+use Rattle.broker_server.specs.BrokerRows.{AsksInOrder, BrokerRow, SubName, Unsubscribes}
 use Rattle.broker_server.specs.Conversations.{OpenSubState}
 use Rattle.broker_server.proofs.ConversationLemmas.{asks_on, asks_one}
 use Rattle.broker_server.proofs.conversation.end_subs.Goals as goal
@@ -18,5 +18,5 @@ loop-open-preserved g c =
     (asks_one called c.loop-open.calls c.unsubscribe.new.self (row it) one) in
     record {
       cut = append_assoc was (it ∷ []) (into_iter_items c.next.new.self) ∙ ap (λ xs. was ++ xs) (sym c.in-Some.ensures.steps.0) ∙ c.loop-open.invariant.cut;
-      asked = subst (λ (rows : List BrokerRow). AsksInTurn called c.args.calls.now rows c.unsubscribe.new.self) (sym (map-append row was (it ∷ []))) both;
+      asked = subst (λ (rows : List BrokerRow). AsksInOrder called c.args.calls.now rows c.unsubscribe.new.self) (sym (map-append row was (it ∷ []))) both;
     }

@@ -1,6 +1,6 @@
 use Rattle.std.proofs.Common.{◌≡◌, ◌++◌, map}
 use Rattle.std.specs.Vec.Iter.{into_iter_items}
-use Rattle.broker_server.specs.BrokerRows.{AsksInTurn, Unsubscribes}
+use Rattle.broker_server.specs.BrokerRows.{AsksInOrder, Unsubscribes}
 use Rattle.broker_server.specs.Conversations.{OpenSubState}
 use Rattle.broker_server.proofs.conversation.end_subs.Given as goal
 
@@ -8,5 +8,5 @@ use Rattle.broker_server.proofs.conversation.end_subs.Given as goal
 abbrev pub invariant-loop-open : goal.invariant-loop-open
 invariant-loop-open g l = record {
   cut : l.yielded ++ into_iter_items l.open-iterator ≡ l.fn.subs.items;
-  asked : AsksInTurn g.C.BrokerCalls.called l.fn.calls (map (λ (o : OpenSubState). Unsubscribes o.sub) l.yielded) l.calls;
+  asked : AsksInOrder g.C.BrokerCalls.called l.fn.calls (map (λ (o : OpenSubState). Unsubscribes o.sub) l.yielded) l.calls;
 }

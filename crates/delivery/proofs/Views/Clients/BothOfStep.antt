@@ -48,6 +48,7 @@ use Rattle.delivery.specs.Inner.Subscriptions.{left_at}
 use Rattle.mcast_group.proofs.Parts.{none_some}
 use Rattle.mcast_txn.specs.declared.stamp.Stamp.{Stamp}
 use Rattle.delivery.proofs.Views.Events.NextStep.{ReadsUnless}
+use Rattle.delivery.proofs.Core.Counts.{no_effect}
 
 -- ---- a step that claims nothing
 
@@ -92,15 +93,6 @@ plain_both k e o new clients plain makes h =
 
 -- ---- a Next
 
-faulted_silent : (o : Outcome) → is_faulted o ≡ true → has_effect o ≡ false
-faulted_silent (Outcome.Faulted fault cut) e = refl
-faulted_silent Outcome.Done e = absurd (false≢true e)
-faulted_silent (Outcome.Subscribed s from) e = absurd (false≢true e)
-faulted_silent (Outcome.Unsubscribed s to) e = absurd (false≢true e)
-faulted_silent (Outcome.Flying id) e = absurd (false≢true e)
-faulted_silent Outcome.Leaving e = absurd (false≢true e)
-faulted_silent o e = refl
-
 -- one without an effect claims nothing
 pub silent_both : (k : Core) (c : ℕ) (o : Outcome) (new : View) (clients : SendersState) → has_effect o ≡ false → Makes k (Event.Next c) o new → AreClients k clients
     → MakesBoth k (Event.Next c) o new clients
@@ -115,7 +107,7 @@ silent_both k c o new clients silent makes h =
 -- nor does an ERROR
 pub faulted_both : (k : Core) (c : ℕ) (o : Outcome) (new : View) (clients : SendersState) → is_faulted o ≡ true → Makes k (Event.Next c) o new → AreClients k clients
     → MakesBoth k (Event.Next c) o new clients
-faulted_both k c o new clients faulted = silent_both k c o new clients (faulted_silent o faulted)
+faulted_both k c o new clients faulted = silent_both k c o new clients (no_effect o faulted)
 
 action_still : (k : Core) (c : ℕ) (action : Action) → claims_none action ≡ true → list_all is_still (option_to_list (frame_move k c action)) ≡ true
 action_still k c (actions.Connected client) e = absurd (false≢true e)

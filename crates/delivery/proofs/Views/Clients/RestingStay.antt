@@ -1,8 +1,8 @@
 -- A sender for which no connection speaks is left as it is by each move but a claim and a connection's last.
 use Rattle.std.proofs.Common.{◌≡◌, ℕ, zero, suc, ◌==◌, ◌||◌, Bool, true, false, cond, not, ◌&&◌, List, [], ◌∷◌, ◌++◌, set, get_or, Option, Some, None, refl, sym, ap, subst, ◌∙◌}
 use Rattle.std.specs.List.{list_any, list_all}
-use Rattle.std.specs.Option.{option_map_or, option_to_list}
-use Rattle.std.proofs.lemmas.Bool.{true≢false, false≢true, and_parts, or_parts}
+use Rattle.std.specs.Option.{option_map_or}
+use Rattle.std.proofs.lemmas.Bool.{true≢false, false≢true, and_parts, or_parts, not-false}
 use Rattle.std.proofs.lemmas.List.{get_or-set_other}
 use Rattle.mcast_txn.specs.Ballot.{Decision}
 use Rattle.mcast_txn.specs.declared.id.Topic.{Topic}
@@ -17,7 +17,7 @@ use Rattle.delivery.specs.Machine.Moves.{Move, world_after, move_refusal, move_e
 use Rattle.delivery.specs.Machine.Moves.Move.{Opens, Connects, Commits, Unsubscribes, Disconnects, Errs, Lost, Leaves, Proposes, Decides, Withdraws, Cancels, Learns, Takes}
 use Rattle.delivery.specs.Machine.Runs.{run}
 use Rattle.delivery.specs.Inner.Clients.{resting_gate}
-use Rattle.delivery.proofs.Machine.InvariantIsKept.{by_refusal, checked, false_not}
+use Rattle.delivery.proofs.Machine.InvariantIsKept.{by_refusal, checked}
 use Rattle.delivery.proofs.Machine.Speakers.{has_speaker, cancelling_speaker}
 use Rattle.delivery.proofs.Machine.SenderSteps.{leftover_found}
 use Rattle.delivery.proofs.Theorem.SendersAreOwn.{flying_speaks, speaks, reading_there}
@@ -121,7 +121,7 @@ effect_rests w Opens q n = λ s.
     ap (λ (b : Bool). cond b None (Some (gate_by s (sender_at w s)))) (any_push (speaks_for s) w.connections (record { sender = None; standing = Standing.Open }) refl)
 effect_rests w (Commits c sends) q n =
     let p = checked w (Commits c sends) n in
-    flown w c sends (speaks (speaker_number w c) (connection_at w c) p.1.0 (has_speaker w c (false_not _ p.1.1.1.0)))
+    flown w c sends (speaks (speaker_number w c) (connection_at w c) p.1.0 (has_speaker w c (not-false _ p.1.1.1.0)))
 effect_rests w (Unsubscribes c s) q n = closed_rests w s (entry_at w s)
 effect_rests w (Disconnects c) q n = standing_rests w c Standing.Leaving refl (checked w (Disconnects c) n).1.0
 effect_rests w (Errs c) q n = standing_rests w c Standing.Leaving refl (checked w (Errs c) n).1.0
@@ -144,7 +144,7 @@ effect_rests w (Cancels c t) q n =
 effect_rests w (Learns t id) q n = learned w t id (find_verdict id w.verdicts)
 effect_rests w (Takes r) q n =
     let p = (checked w (Takes r) n).1.0 in
-    handed w r _ (reading_there (connection_at w (subscription_at w r).connection).standing (false_not _ (or_parts (Rattle.std.specs.Option.is_some (subscription_at w r).closed) _ p).1))
+    handed w r _ (reading_there (connection_at w (subscription_at w r).connection).standing (not-false _ (or_parts (Rattle.std.specs.Option.is_some (subscription_at w r).closed) _ p).1))
 effect_rests w _ q n = λ s. refl
 
 -- each such move leaves it

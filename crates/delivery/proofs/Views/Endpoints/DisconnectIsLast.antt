@@ -1,7 +1,7 @@
 -- The frames of a connection that a core accepted: of one that isn't there none, and a DISCONNECT only of one that
 -- isn't open any more, and then only one.
 use Rattle.std.proofs.Common.{◌≡◌, ℕ, ◌≤◌, ◌==◌, Bool, true, false, cond, ◌⊎◌, inl, inr, List, [], ◌∷◌, ◌++◌, filter, length, Option, Some, None, refl, sym, ap, subst, ◌∙◌, arith}
-use Rattle.std.proofs.lemmas.Bool.{eqb-true, false≢true, or_parts}
+use Rattle.std.proofs.lemmas.Bool.{eqb-true, false≢true, or_parts, not-false, cases_lt}
 use Rattle.std.proofs.lemmas.List.{append-nil}
 use Rattle.std.specs.List.{flat_map, find}
 use Rattle.std.specs.Option.{option_map_or, option_and_then, option_or, option_to_list}
@@ -14,6 +14,7 @@ use Rattle.stomp_frame.specs.ServerFrames.{receipt_frame}
 use Rattle.mcast_txn.specs.Checks.{first_refusal}
 use Rattle.mcast_txn.specs.Lists.{In}
 use Rattle.mcast_txn.proofs.Members.{at_set_within}
+use Rattle.mcast_txn.proofs.CheckLemmas.{passes}
 use Rattle.mcast_group.proofs.Parts.{none_some}
 use Rattle.stomp_session.specs.Answers.{action_by}
 use Rattle.stomp_session.specs.declared.action.Action.TheVariants as actions
@@ -32,8 +33,6 @@ use Rattle.delivery.proofs.Core.FrameWorld.{no_topic}
 use Rattle.delivery.specs.Core.Outcomes.{IsCoreRun, outcomes, unless, reading_outcomes}
 use Rattle.delivery.specs.Inner.Stands.{IsReached}
 use Rattle.delivery.specs.Inner.View.{parting_receipt}
-use Rattle.delivery.proofs.Machine.InvariantIsKept.{passes, false_not}
-use Rattle.delivery.proofs.Theorem.SpansAsAnswered.{within}
 use Rattle.delivery.proofs.Core.Speaking.{open_in}
 use Rattle.delivery.proofs.Core.AccountOfRun.{core_is, in_option, refusal_some}
 use Rattle.delivery.proofs.Views.Endpoints.EndpointsStay.{if_same}
@@ -69,7 +68,7 @@ parts_nowhere _ e = absurd (false≢true e)
 
 -- a connection that no test for a frame stands against is open
 idle_open : (w : World) (c : ℕ) → first_refusal (needs_idle w c) ≡ None → open_in w.connections c ≡ true
-idle_open w c n = false_not (open_in w.connections c) (or_parts _ _ (passes (needs_idle w c) n).1.1.0).0
+idle_open w c n = not-false (open_in w.connections c) (or_parts _ _ (passes (needs_idle w c) n).1.1.0).0
 
 leaves : (w : World) (c : ℕ) → first_refusal (needs_idle w c) ≡ None → open_in (run (Move.Disconnects c ∷ []) w).connections c ≡ false
 leaves w c n =
@@ -168,7 +167,7 @@ unparted topics capacity (step ∷ older) h c e =
     before : (open_in k.world.connections c ≡ true → find parts_by (accepted_of c older) ≡ None) → (b : Bool) → open_in k.world.connections c ≡ b
         → find parts_by (accepted_of c older) ≡ None
     before ih true o = ih o
-    before ih false o = elim (within c (length k.world.connections)) [
+    before ih false o = elim (cases_lt c (length k.world.connections)) [
       | inl l ↦ absurd (false≢true (sym (stays_shut (moves k step.event step.reading step.outcome) k.world c l o) ∙ e))
       | inr l ↦ ap (λ z. find parts_by z) (unheard topics capacity older h.1 c l)
     ]

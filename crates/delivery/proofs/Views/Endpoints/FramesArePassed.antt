@@ -1,24 +1,21 @@
 -- What the machine refuses of a frame that its session and its claim let pass.
-use Rattle.std.proofs.Common.{◌≡◌, ℕ, Bool, true, false, cond, not, nat_lt, ◌&&◌, List, [], ◌∷◌, ◌++◌, length, Option, Some, None, refl, sym, ap, subst, ◌∙◌, arith}
-use Rattle.std.specs.Prelude.{codes}
+use Rattle.std.proofs.Common.{◌≡◌, ℕ, Bool, true, false, cond, not, nat_lt, ◌&&◌, List, [], ◌∷◌, length, Option, Some, None, refl, sym, ap, subst, ◌∙◌, arith}
 use Rattle.std.specs.List.{list_all}
 use Rattle.std.specs.Option.{is_some, option_map_or, option_or}
 use Rattle.std.proofs.lemmas.Bool.{ltb-true}
-use Rattle.stomp_frame.specs.declared.command.Command.{Command}
-use Rattle.stomp_frame.specs.declared.command.Command.TheVariants as commands
 use Rattle.stomp_frame.specs.declared.raw_frame.RawFrame.{RawFrame}
-use Rattle.stomp_frame.specs.Headers.{first_of}
 use Rattle.mcast_txn.specs.declared.id.Topic.{Topic}
 use Rattle.mcast_txn.specs.declared.draft.sent_message.SentMessage.{SentMessage}
 use Rattle.mcast_txn.specs.Checks.{first_refusal}
+use Rattle.mcast_txn.proofs.CheckLemmas.{refusal_after}
 use Rattle.mcast_group.specs.Machine.{last_number}
 use Rattle.mcast_group.proofs.Parts.{some_same, none_some}
 use Rattle.stomp_session.specs.declared.action.Action.{Action}
 use Rattle.stomp_session.specs.declared.action.Action.TheVariants as actions
-use Rattle.stomp_session.specs.Answers.{action_by, commit}
-use Rattle.stomp_session.specs.Frames.{has_destination, id_of, send_of, topic_of, transaction_of}
-use Rattle.stomp_session.specs.Open.{Held}
-use Rattle.stomp_session.specs.Refusals.{sends_in, session_fault}
+use Rattle.stomp_session.specs.Answers.{action_by}
+use Rattle.stomp_session.specs.Frames.{has_destination, id_of}
+use Rattle.stomp_session.specs.Refusals.{session_fault}
+use Rattle.stomp_session.proofs.Asked.{begins_at, ends}
 use Rattle.delivery.specs.Machine.Objections.{Objection}
 use Rattle.delivery.specs.Machine.World.{World, connection_at, is_in_use, speaker}
 use Rattle.delivery.specs.Machine.Moves.{Move, is_topic, move_refusal, needs_idle}
@@ -38,51 +35,7 @@ use Rattle.delivery.proofs.Views.Senders.ConnectedSpeak.{commits_other, has_none
 use Rattle.delivery.proofs.Views.Senders.SendsAreToTopics.{committed_sends, topic_made}
 use Rattle.delivery.proofs.Views.Subscriptions.OpenIsLive.{names_live, subscribe_free, unsubscribe_free}
 
--- ---- which frames these are
-
-sent_subscribes : {A : Type 0} (s : Held) (f : RawFrame) (o : Option (List ℕ)) (id : List ℕ) (t : Topic)
-    → option_map_or (λ transaction. actions.Nothing) o (commit (send_of s.names f ∷ [])) ≡ actions.Subscribe id t → A
-sent_subscribes s f None id t e = absurd (cc)
-sent_subscribes s f (Some x) id t e = absurd (cc)
-
-committed_subscribes : {A : Type 0} (sends : List SentMessage) (id : List ℕ) (t : Topic) → commit sends ≡ actions.Subscribe id t → A
-committed_subscribes [] id t e = absurd (cc)
-committed_subscribes (send ∷ sends) id t e = absurd (cc)
-
-subscribes : (command : Command) (s : Held) (f : RawFrame) (id : List ℕ) (t : Topic) → action_by command s f ≡ actions.Subscribe id t
-    → (has_destination command ≡ true) × (topic_of s.names f ≡ t)
-subscribes commands.Subscribe s f id t e = (refl, cc)
-subscribes commands.Send s f id t e = sent_subscribes s f (first_of (codes "transaction") f.headers) id t e
-subscribes commands.Commit s f id t e = committed_subscribes (sends_in (transaction_of f) s.transactions) id t e
-subscribes _ s f id t e = absurd (cc)
-
-sent_unsubscribes : {A : Type 0} (s : Held) (f : RawFrame) (o : Option (List ℕ)) (id : List ℕ)
-    → option_map_or (λ transaction. actions.Nothing) o (commit (send_of s.names f ∷ [])) ≡ actions.Unsubscribe id → A
-sent_unsubscribes s f None id e = absurd (cc)
-sent_unsubscribes s f (Some x) id e = absurd (cc)
-
-committed_unsubscribes : {A : Type 0} (sends : List SentMessage) (id : List ℕ) → commit sends ≡ actions.Unsubscribe id → A
-committed_unsubscribes [] id e = absurd (cc)
-committed_unsubscribes (send ∷ sends) id e = absurd (cc)
-
-unsubscribes : (command : Command) (s : Held) (f : RawFrame) (id : List ℕ) → action_by command s f ≡ actions.Unsubscribe id
-    → (command ≡ commands.Unsubscribe) × (id_of f ≡ id)
-unsubscribes commands.Unsubscribe s f id e = (refl, cc)
-unsubscribes commands.Send s f id e = sent_unsubscribes s f (first_of (codes "transaction") f.headers) id e
-unsubscribes commands.Commit s f id e = committed_unsubscribes (sends_in (transaction_of f) s.transactions) id e
-unsubscribes _ s f id e = absurd (cc)
-
 -- ---- what is refused
-
--- tests that pass leave those behind them
-later_same : {F : Type 0} (cs ds : List (Bool × F)) → first_refusal cs ≡ None → first_refusal (cs ++ ds) ≡ first_refusal ds
-later_same [] ds e = refl
-later_same {F = F} (t ∷ ts) ds e = by t.0 (later_same ts ds) e
-  where
-    by : (b : Bool) → (first_refusal ts ≡ None → first_refusal (ts ++ ds) ≡ first_refusal ds) → cond b (Some t.1) (first_refusal ts) ≡ None
-        → cond b (Some t.1) (first_refusal (ts ++ ds)) ≡ first_refusal ds
-    by true rest d = none_some t.1 (sym d)
-    by false rest d = rest d
 
 last_alone : (m : Bool) (why : Objection) → option_or (cond m (Some Objection.SeqFull) None) None ≡ Some why → why ≡ Objection.SeqFull
 last_alone true why e = sym (some_same Objection.SeqFull why e)
@@ -94,7 +47,7 @@ commit_lacks : (w : World) (c : ℕ) (sends : List SentMessage) (why : Objection
 commit_lacks w c sends why idle has named refused =
     last_alone (nat_lt 0 (length sends) && not (nat_lt (speaker w c).seq last_number)) why
     (sym (ap (λ (o : Option Objection). option_or o None)
-    (later_same (needs_idle w c) ((not (is_some (connection_at w c).sender), Objection.NoSender) ∷ (not (list_all (λ send. is_topic w send.topic) sends), Objection.NotNamed)
+    (refusal_after (needs_idle w c) ((not (is_some (connection_at w c).sender), Objection.NoSender) ∷ (not (list_all (λ send. is_topic w send.topic) sends), Objection.NotNamed)
     ∷ (nat_lt 0 (length sends) && not (nat_lt (speaker w c).seq last_number), Objection.SeqFull) ∷ []) idle
     ∙ (λ i. first_refusal ((not (has i), Objection.NoSender) ∷ (not (named i), Objection.NotNamed)
     ∷ (nat_lt 0 (length sends) && not (nat_lt (speaker w c).seq last_number), Objection.SeqFull) ∷ []))))
@@ -118,12 +71,12 @@ passes k c f reached idle free (actions.Connected client) does unclaimed move wh
     (connect_free k.world c sender idle (has_none k c f reached connects free) (λ s e. (let l = claimed_begun client before s e in omega (arith, l, many))) unused)) refused
 passes k c f reached idle free actions.Nothing does unclaimed move why is refused = none_some move is
 passes k c f reached idle free (actions.Subscribe id t) does unclaimed move why is refused =
-    let h = subscribes f.command (session_at k c) f id t does in
+    let h = begins_at f.command (session_at k c) f id t does in
     let w = (core_for k f).world in
     let there = subst (λ (u : Topic). is_topic w u ≡ true) h.1 (topic_made k f reached h.0) in
     free_alone w (Move.Subscribes c t) move why is (subscribe_free w c t (idle_for k f c idle) (ltb-true t.0 (length w.topics) there)) refused
 passes k c f reached idle free (actions.Unsubscribe id) does unclaimed move why is refused =
-    let h = unsubscribes f.command (session_at k c) f id does in
+    let h = ends f.command (session_at k c) f id does in
     let live = names_live k c f reached (idle_reads k.world c idle) h.0 free in
     free_alone (core_for k f).world (Move.Unsubscribes c (number_by c id k.steps)) move why is
     (subst (λ (z : Core). move_refusal z.world (Move.Unsubscribes c (number_by c id k.steps)) ≡ None) (sym (framed_none k f (ap has_destination h.0)))

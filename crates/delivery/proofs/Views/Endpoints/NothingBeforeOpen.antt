@@ -1,8 +1,9 @@
 -- Nothing came of a connection that isn't there yet.
 use Rattle.std.proofs.Common.{◌≡◌, ◌≢◌, ℕ, zero, suc, ◌+◌, ◌<◌, ◌≤◌, ◌==◌, Bool, true, false, cond, not, ◌&&◌, inl, inr, List, [], ◌∷◌, ◌++◌, length, get_or, Option, Some, None, refl, sym, ap, subst, ◌∙◌, arith, ltb}
-use Rattle.std.proofs.lemmas.Bool.{eqb-true, ltb-true, or_parts}
+use Rattle.std.proofs.lemmas.Bool.{eqb-true, ltb-true, or_parts, not-false}
 use Rattle.std.specs.List.{flat_map}
 use Rattle.std.specs.Option.{is_some}
+use Rattle.std.proofs.lemmas.List.{length_push}
 use Rattle.stomp_frame.specs.declared.raw_frame.RawFrame.{RawFrame}
 use Rattle.stomp_frame.specs.Reader.{Unread, unread_of, with_piece}
 use Rattle.stomp_frame.specs.Writing.{spelling_of}
@@ -24,8 +25,8 @@ use Rattle.delivery.specs.Core.Steps.{CoreStep, Reading, frame_in, is_fed, accep
 use Rattle.delivery.specs.Core.Outcomes.{outcomes, unless, outcome_of, move_outcome, reading_outcomes, cut_of, IsReadAt, IsCoreRun}
 use Rattle.delivery.specs.Inner.Stands.{IsReached}
 use Rattle.delivery.specs.Core.Connections.{live_numbers}
-use Rattle.delivery.proofs.Machine.SubscriptionSteps.{at_push_two, push_length}
-use Rattle.delivery.proofs.Machine.InvariantIsKept.{by_refusal, checked, false_not}
+use Rattle.delivery.proofs.Machine.SubscriptionSteps.{at_push_two}
+use Rattle.delivery.proofs.Machine.InvariantIsKept.{by_refusal, checked}
 use Rattle.delivery.proofs.Core.ByRun.{by_run}
 use Rattle.delivery.proofs.Core.Speaking.{open_in}
 use Rattle.delivery.proofs.Core.Started.{begins_in, begins_more, begins_count, begins_at}
@@ -121,7 +122,7 @@ take_refused : (k : Core) (c s : ℕ) (rd : Reading) (o : Outcome) → length k.
 take_refused k c s rd o l e (Some why) n i = refused_by why (move_outcome k (Takes s) ++ Outcome.NoMemory ∷ []) o i
 take_refused k c s rd o l e None n i =
     let m = checked k.world (Takes s) n in let d = (subscription_at k.world s).connection in
-    let t = open_there k.world.connections d (false_not (open_in k.world.connections d) (or_parts (is_some (subscription_at k.world s).closed) (not (open_in k.world.connections d)) m.1.0).1) in
+    let t = open_there k.world.connections d (not-false (open_in k.world.connections d) (or_parts (is_some (subscription_at k.world s).closed) (not (open_in k.world.connections d)) m.1.0).1) in
     absurd (omega arith)
 
 -- another connection's test fails
@@ -176,14 +177,7 @@ reply_step k c older account (Event.Leave d) rd o l own i =
     either_cut P h.base o
     (by_answer (λ z. P z × P (cut_of z)) k.world (Leaves d) h.base (λ why x a. (refl, refl))
     (λ n a z q. leave_reply k.world c d older account rd (oldest_live d 0 k.world.subscriptions) z (elsewhere k.world c d l (checked k.world (Leaves d) n).0) q) h.is) h.cut
-reply_step k c older account Event.Open rd o l own i = refl
-reply_step k c older account (Event.Piece d octets) rd o l own i = refl
-reply_step k c older account (Event.Propose d t) rd o l own i = refl
-reply_step k c older account (Event.Cancel d t) rd o l own i = refl
-reply_step k c older account (Event.Learn t id) rd o l own i = refl
-reply_step k c older account (Event.Release t) rd o l own i = refl
-reply_step k c older account (Event.Turn t) rd o l own i = refl
-reply_step k c older account (Event.Lost d) rd o l own i = refl
+reply_step k c older account _ rd o l own i = refl
 
 -- a subscription began for the connection that has it
 pub owned : (topics : TopicList) (capacity : ℕ) (steps : List CoreStep) → IsCoreRun topics capacity steps → (s : ℕ)
@@ -214,7 +208,7 @@ bound_step w e g h n s = elim (begins_more w e n) [
   | inl m ↦ subst (λ z. s < length z → (get_or z s no_beginning).connection < length (move_effect w e).connections) (sym m) (λ l. (let a = h s l in omega arith))
   | inr m ↦ subst (λ z. s < length z → (get_or z s no_beginning).connection < length (move_effect w e).connections) (sym m.2)
       (λ l. at_push_two (λ (z : Beginning). z.connection < length (move_effect w e).connections) (begins_in w) s m.0 no_beginning
-      (λ q. (let a = m.1 in omega arith)) (λ ne. (let p = push_length (begins_in w) m.0 in let a = h s (omega arith) in omega arith)))
+      (λ q. (let a = m.1 in omega arith)) (λ ne. (let p = length_push (begins_in w) m.0 in let a = h s (omega arith) in omega arith)))
 ]
 
 bound : (r : Run) → Bound (answers_of r) (final_world r)

@@ -1,7 +1,8 @@
 -- How each move changes the connections: one more is open, one isn't open any more, or none is changed. So a
 -- connection is closed where its standing says so, and never opens again.
 use Rattle.std.proofs.Common.{◌≡◌, ◌≢◌, ℕ, ◌<◌, ◌≤◌, ◌==◌, Bool, true, false, not, ◌||◌, ◌⊎◌, inl, inr, List, [], ◌∷◌, ◌++◌, length, get_or, set, Option, Some, None, refl, sym, ap, subst, ◌∙◌, arith}
-use Rattle.std.proofs.lemmas.Bool.{eqb-true, eq-eqb, false≢true, or_parts}
+use Rattle.std.proofs.lemmas.Bool.{eqb-true, eq-eqb, false≢true, or_parts, not-false, cases_lt}
+use Rattle.std.proofs.lemmas.List.{length_push}
 use Rattle.mcast_txn.specs.declared.id.Topic.{Topic}
 use Rattle.mcast_txn.specs.declared.id.TxnId.{TxnId}
 use Rattle.mcast_txn.specs.declared.draft.sent_message.SentMessage.{SentMessage}
@@ -18,9 +19,8 @@ use Rattle.delivery.specs.Machine.Runs.{run}
 use Rattle.delivery.specs.Theorem.Laws.{Run, answers_of, final_world}
 use Rattle.delivery.specs.Theorem.Settled.{closes}
 use Rattle.delivery.specs.Core.Output.{has_closed}
-use Rattle.delivery.proofs.Machine.SubscriptionSteps.{at_old, push_length, set_length, beyond}
-use Rattle.delivery.proofs.Machine.InvariantIsKept.{by_refusal, checked, false_not}
-use Rattle.delivery.proofs.Theorem.SpansAsAnswered.{within}
+use Rattle.delivery.proofs.Machine.SubscriptionSteps.{at_old, set_length, beyond}
+use Rattle.delivery.proofs.Machine.InvariantIsKept.{by_refusal, checked}
 use Rattle.delivery.proofs.Core.ByRun.{by_run}
 use Rattle.delivery.proofs.Core.Speaking.{open_in}
 use Rattle.delivery.proofs.Core.AccountOfRun.{spoken}
@@ -36,7 +36,7 @@ same_or m n = by_case (m == n) refl
 
 -- an open connection is there
 pub open_there : (cs : List Connection) (c : ℕ) → open_in cs c ≡ true → c < length cs
-open_there cs c e = elim (within c (length cs)) [
+open_there cs c e = elim (cases_lt c (length cs)) [
   | inl l ↦ l
   | inr l ↦ absurd (false≢true (ap (λ (z : Connection). is_reading z.standing) (sym (beyond cs c nobody l)) ∙ e))
 ]
@@ -138,7 +138,7 @@ happens w (Releases t) n = released w t (due_part (topic_at w t))
 happens w (Takes s) n =
     let k = checked w (Takes s) n in
     let c = (subscription_at w s).connection in
-    taken w s _ (open_there w.connections c (false_not (open_in w.connections c) (or_parts _ _ k.1.0).1))
+    taken w s _ (open_there w.connections c (not-false (open_in w.connections c) (or_parts _ _ k.1.0).1))
 happens w _ n = stay w.connections _ (λ d. refl)
 
 -- each move changes connections so
@@ -152,7 +152,7 @@ pub grown_once : (before after : List Connection) (o : Answer) → Stands before
 grown_once before after o (inl h) = let m = ap (λ (z : List Connection). length z) h.same in omega arith
 grown_once before after o (inr (inl h)) = let m = ap (λ (z : List Connection). length z) h.set_to ∙ set_length before h.number h.new in omega arith
 grown_once before after o (inr (inr (inr h))) = let m = ap (λ (z : List Connection). length z) h.set_to ∙ set_length before h.number h.new in omega arith
-grown_once before after o (inr (inr (inl h))) = let m = ap (λ (z : List Connection). length z) h.pushed ∙ push_length before h.new in omega arith
+grown_once before after o (inr (inr (inl h))) = let m = ap (λ (z : List Connection). length z) h.pushed ∙ length_push before h.new in omega arith
 
 -- after these moves there are no fewer connections
 pub grown : (es : List Move) (w : World) → length w.connections ≤ length (run es w).connections
@@ -209,7 +209,7 @@ calm_once before after o past (inr (inr (inr s))) h c p =
     unclosed c o past (s.none c) (h c (λ l. sym (same_open before s.number s.new s.standing c) ∙ q (omega arith)))
 calm_once before after o past (inr (inr (inl s))) h c p =
     let q : c < length (before ++ s.new ∷ []) → open_in (before ++ s.new ∷ []) c ≡ true = subst (λ z. c < length z → open_in z c ≡ true) s.pushed p in
-    let m = push_length before s.new in
+    let m = length_push before s.new in
     unclosed c o past (s.none c)
     (h c (λ l. at_old (λ (z : Connection). is_reading z.standing ≡ true → open_in before c ≡ true) before c s.new nobody l (λ k. k) (q (omega arith))))
 

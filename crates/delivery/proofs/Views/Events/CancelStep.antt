@@ -1,7 +1,7 @@
 -- A ticket is cancelled.
 use Rattle.std.proofs.Common.{◌≡◌, ℕ, suc, ◌+◌, ◌<◌, ◌==◌, Bool, true, false, cond, not, ◌&&◌, nat_lt, List, [], ◌∷◌, map, length, get_or, set, Option, Some, None, Result, Ok, Err, inl, inr, refl, sym, ap, subst, ◌∙◌, arith}
 use Rattle.std.specs.Prelude.{slice_get}
-use Rattle.std.proofs.lemmas.Bool.{lt-ltb, ltb-true}
+use Rattle.std.proofs.lemmas.Bool.{lt-ltb, ltb-true, cases_Bool}
 use Rattle.std.proofs.lemmas.List.{append-nil}
 use Rattle.std.specs.List.{position, position_or_len, remove}
 use Rattle.std.specs.Option.{is_some, option_or, option_map}
@@ -12,6 +12,7 @@ use Rattle.mcast_txn.specs.declared.stamp.Stamp.{Stamp}
 use Rattle.mcast_txn.specs.Ids.{same_id}
 use Rattle.mcast_txn.specs.Lists.{In}
 use Rattle.mcast_txn.proofs.Orders.{id_itself}
+use Rattle.mcast_txn.proofs.CheckLemmas.{refusal_first, refusal_after}
 use Rattle.mcast_group.specs.declared.fault.CancelFault.{CancelFault}
 use Rattle.mcast_group.specs.Group.{GroupState, result_of}
 use Rattle.mcast_group.specs.Machine.{Pending, cancel_fault, cancel_fault_of, after_cancel}
@@ -30,6 +31,7 @@ use Rattle.delivery.specs.Core.State.{Core, names_at, unread_at}
 use Rattle.delivery.specs.Inner.Senders.{there_objection, speaker_at, sender_in, no_ticket, is_group, leftover_at, leftover_in, cancel_refusal_in, leftover_view, cancelled_view}
 use Rattle.delivery.specs.Inner.Stands.{IsReached, Makes, step_of}
 use Rattle.delivery.specs.Inner.View.{View, SenderView, view_of, view_after, sender_view, group_view, ticket_of, group_in, no_group}
+use Rattle.delivery.proofs.Machine.Effects.{made_world, made_answer}
 use Rattle.delivery.proofs.Machine.Invariant.{topic_in}
 use Rattle.delivery.proofs.Machine.SenderSteps.{leftover_found}
 use Rattle.delivery.proofs.Theorem.AcceptedIsDue.{reached}
@@ -40,8 +42,8 @@ use Rattle.delivery.proofs.Views.Events.ReleaseStep.{group_at}
 use Rattle.delivery.proofs.Views.Senders.HeldSenders.{held_leftovers}
 use Rattle.delivery.proofs.Views.Senders.SenderChanges.{sender_of, speaker_of, sender_of_endpoint}
 use Rattle.delivery.proofs.Views.Senders.SameSeqAndReceipt.{sender_quiet, topic_quiet}
-use Rattle.delivery.proofs.Views.Events.OneMove.{bool_cases, made_world, made_answer, in_outcome}
-use Rattle.delivery.proofs.Views.Events.ConnectionIsThere.{cancelling_speaking, there_checked, is_there, still_there, refusal_first, refusal_after, refused_step, refused_outcome}
+use Rattle.delivery.proofs.Views.Events.OneMove.{in_outcome}
+use Rattle.delivery.proofs.Views.Events.ConnectionIsThere.{cancelling_speaking, there_checked, is_there, still_there, refused_step, refused_outcome}
 
 -- ---- the place of a ticket
 
@@ -106,7 +108,7 @@ no_place : (t : Topic) (ks : List Leftover) → find_leftover t ks ≡ None → 
 no_place t ks e =
     let n = length (map as_ticket ks) in
     ap (λ (m : ℕ). cond (nat_lt m n) (Some m) None) (not_found t ks e)
-    ∙ elim (bool_cases (nat_lt n n)) [
+    ∙ elim (cases_Bool (nat_lt n n)) [
       | inl on ↦ (let l = ltb-true n n on in absurd (omega (arith, l)))
       | inr off ↦ ap (λ (b : Bool). cond b (Some n) None) off
     ]

@@ -22,7 +22,7 @@ use Rattle.delivery.specs.declared.outcome.Outcome.{Outcome}
 use Rattle.delivery.specs.declared.sending.Sending.{Sending}
 use Rattle.delivery.specs.Machine.Objections.{Objection}
 use Rattle.delivery.specs.Machine.World.{World, Connection, SenderState, Undecided, is_gone, nobody, new_sender, connection_at, sender_at, speaker, speaks_for, is_in_use}
-use Rattle.delivery.specs.Machine.Moves.{Move, claim_tests, claimed_senders, connect_effect, move_refusal, needs_idle}
+use Rattle.delivery.specs.Machine.Moves.{Move, claim_refusals, claimed_senders, connect_effect, move_refusal, needs_idle}
 use Rattle.delivery.specs.Machine.Runs.{run}
 use Rattle.delivery.specs.Core.Claims.{begun_count, claim_of, claimed_sender, claims_of, is_one_too_many}
 use Rattle.delivery.specs.Core.Output.{receipts_of, sub_id_text, text_out}
@@ -238,7 +238,7 @@ sender_endpoints gate v = by (nat_lt gate.sender.0 (length v.senders))
 -- ---- nothing stands against it
 
 claim_passes : (w : World) (claimed : Option ℕ) → ((s : ℕ) → claimed ≡ Some s → s < length w.senders) → option_map_or (is_in_use w) claimed false ≡ false
-    → first_refusal (claim_tests w claimed) ≡ None
+    → first_refusal (claim_refusals w claimed) ≡ None
 claim_passes w None within unused = refl
 claim_passes w (Some s) within unused =
     (λ i. first_refusal ((not (lt-ltb s (length w.senders) (within s refl) i), Objection.NoSender) ∷ (unused i, Objection.InUse) ∷ []))
@@ -248,10 +248,10 @@ pub connect_free : (w : World) (c : ℕ) (claimed : Option ℕ) → first_refusa
     → move_refusal w (Move.Connects c claimed) ≡ None
 connect_free w c claimed idle none within unused =
     ap (λ (o : Option Objection). option_or o None)
-    (later_free (needs_idle w c) ((is_some (connection_at w c).sender, Objection.HasSender) ∷ claim_tests w claimed) idle
-    (ap (λ (o : Option ℕ). first_refusal ((is_some o, Objection.HasSender) ∷ claim_tests w claimed)) none ∙ claim_passes w claimed within unused))
+    (later_free (needs_idle w c) ((is_some (connection_at w c).sender, Objection.HasSender) ∷ claim_refusals w claimed) idle
+    (ap (λ (o : Option ℕ). first_refusal ((is_some o, Objection.HasSender) ∷ claim_refusals w claimed)) none ∙ claim_passes w claimed within unused))
 
--- the first of two tests
+-- the first of two refusals
 pub first_fails : (a b : Bool) → first_refusal ((a, ConnectionFault.SenderInUse) ∷ (b, ConnectionFault.TooManyClients) ∷ []) ≡ None → a ≡ false
 first_fails true b e = none_some _ (sym e)
 first_fails false b e = refl

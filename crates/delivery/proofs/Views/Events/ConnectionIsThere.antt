@@ -1,7 +1,7 @@
 -- Events of a connection that isn't gone: the checks that they begin with, a refused one, and one that replies.
-use Rattle.std.proofs.Common.{◌≡◌, ℕ, ◌<◌, Bool, true, false, cond, not, nat_lt, List, [], ◌∷◌, ◌++◌, length, get_or, Option, Some, None, inl, inr, refl, sym, ap, subst, ◌∙◌}
+use Rattle.std.proofs.Common.{◌≡◌, ℕ, ◌<◌, Bool, true, false, cond, not, nat_lt, List, [], ◌∷◌, length, get_or, Option, Some, None, inl, inr, refl, sym, ap, subst, ◌∙◌}
 use Rattle.std.specs.Prelude.{slice_get}
-use Rattle.std.proofs.lemmas.Bool.{ltb-true, ltb-false}
+use Rattle.std.proofs.lemmas.Bool.{ltb-true, ltb-false, cases_Bool}
 use Rattle.std.proofs.lemmas.Option.{slice_get-get_or, slice_get_past}
 use Rattle.std.specs.Option.{is_some, option_map, option_and_then, option_to_list}
 use Rattle.mcast_txn.specs.Lists.{In}
@@ -24,11 +24,12 @@ use Rattle.delivery.specs.Core.Outcomes.{outcomes, outcome_of, move_outcome, rep
 use Rattle.delivery.specs.Inner.Senders.{gone_objection, there_objection}
 use Rattle.delivery.specs.Inner.Stands.{Makes, step_of}
 use Rattle.delivery.specs.Inner.View.{EndpointView, view_of, view_after, stage_view}
+use Rattle.delivery.proofs.Machine.Effects.{refused_answer, same_world}
 use Rattle.delivery.proofs.Views.Endpoints.EndpointsStay.{quiet_view, refused_is_quiet}
 use Rattle.delivery.proofs.Machine.Speakers.{cancelling_speaker}
 use Rattle.delivery.proofs.Theorem.SendersAreOwn.{flying_speaks, speaks}
 use Rattle.delivery.proofs.Views.Senders.SenderChanges.{IsSpeaking}
-use Rattle.delivery.proofs.Views.Events.OneMove.{bool_cases, endpoint_is, endpoint_read, no_endpoint, refused_answer, same_world}
+use Rattle.delivery.proofs.Views.Events.OneMove.{endpoint_is, endpoint_read, no_endpoint}
 
 -- ---- the checks
 
@@ -43,7 +44,7 @@ pub there_checked : (k : Core) (c : ℕ) → there_objection (slice_get (view_of
 there_checked k c =
     let x = connection_at k.world c in
     let checks = λ (b : Bool). first_refusal ((not b, Objection.NoConn) ∷ (is_gone x.standing, Objection.Gone) ∷ []) in
-    elim (bool_cases (nat_lt c (length k.world.connections))) [
+    elim (cases_Bool (nat_lt c (length k.world.connections))) [
       | inl t ↦
           ap there_objection (endpoint_is k c (ltb-true c (length k.world.connections) t))
           ∙ (gone_is (names_at k) x.standing (speaker k.world c).flight (accepted_of c k.steps) (unread_at c k.steps)
@@ -54,7 +55,7 @@ there_checked k c =
 -- where nothing stands against it, it is there
 pub is_there : (k : Core) (c : ℕ) → there_objection (slice_get (view_of k).endpoints c) ≡ None → c < length k.world.connections
 is_there k c free =
-    elim (bool_cases (nat_lt c (length k.world.connections))) [
+    elim (cases_Bool (nat_lt c (length k.world.connections))) [
       | inl t ↦ ltb-true c (length k.world.connections) t
       | inr f ↦ none_some Objection.NoConn (sym (sym (ap there_objection (no_endpoint k c (ltb-false c (length k.world.connections) f))) ∙ free))
     ]
@@ -79,26 +80,6 @@ pub cancelling_speaking : (k : Core) (c : ℕ) (left : Leftover) → there_objec
     → IsSpeaking k.world c
 cancelling_speaking k c left free i =
     speaks (speaker_number k.world c) (connection_at k.world c) (still_there k c free) (cancelling_speaker k.world c left i)
-
--- the first of some checks that fails comes before those after them
-pub refusal_first : {F : Type 0} (cs ds : List (Bool × F)) (o : F) → first_refusal cs ≡ Some o → first_refusal (cs ++ ds) ≡ Some o
-refusal_first [] ds o e = none_some o e
-refusal_first {F = F} (c ∷ cs) ds o e = go c.0 (refusal_first cs ds o) e
-  where
-    go : (b : Bool) → (first_refusal cs ≡ Some o → first_refusal (cs ++ ds) ≡ Some o)
-        → cond b (Some c.1) (first_refusal cs) ≡ Some o → cond b (Some c.1) (first_refusal (cs ++ ds)) ≡ Some o
-    go true later e = e
-    go false later e = later e
-
--- where they pass, those after them stand
-pub refusal_after : {F : Type 0} (cs ds : List (Bool × F)) → first_refusal cs ≡ None → first_refusal (cs ++ ds) ≡ first_refusal ds
-refusal_after [] ds e = refl
-refusal_after {F = F} (c ∷ cs) ds e = go c.0 (refusal_after cs ds) e
-  where
-    go : (b : Bool) → (first_refusal cs ≡ None → first_refusal (cs ++ ds) ≡ first_refusal ds)
-        → cond b (Some c.1) (first_refusal cs) ≡ None → cond b (Some c.1) (first_refusal (cs ++ ds)) ≡ first_refusal ds
-    go true later e = none_some c.1 (sym e)
-    go false later e = later e
 
 -- what is reported stands against it
 pub reported : (o : Option Objection) (why : Refusal) → Some why ≡ option_and_then refusal_of o
@@ -156,7 +137,7 @@ cut_in k c e move o is any =
 -- where nothing stands against an endpoint, it is there
 pub endpoint_there : (endpoints : List EndpointView) (c : ℕ) → there_objection (slice_get endpoints c) ≡ None → c < length endpoints
 endpoint_there endpoints c free =
-    elim (bool_cases (nat_lt c (length endpoints))) [
+    elim (cases_Bool (nat_lt c (length endpoints))) [
       | inl t ↦ ltb-true c (length endpoints) t
       | inr f ↦ none_some Objection.NoConn (sym (sym (ap there_objection (slice_get_past endpoints c (ltb-false c (length endpoints) f))) ∙ free))
     ]

@@ -18,6 +18,7 @@ use Rattle.mcast_txn.specs.Checks.{first_refusal}
 use Rattle.mcast_txn.specs.Span.{LogRow}
 use Rattle.mcast_txn.specs.Stamp.{greatest}
 use Rattle.mcast_txn.specs.Transaction.{topics_of}
+use Rattle.mcast_txn.proofs.CheckLemmas.{refusal_first, refusal_after}
 use Rattle.mcast_group.specs.declared.fault.ProposeFault.{ProposeFault}
 use Rattle.delivery.specs.declared.event.Event.{Event}
 use Rattle.delivery.specs.declared.outcome.Outcome.{Outcome}
@@ -38,13 +39,14 @@ use Rattle.delivery.specs.Core.Outcomes.{move_outcome, is_any}
 use Rattle.delivery.specs.Inner.Senders.{there_objection, speaker_at, sender_in, decide_refusal, decision_of, decided_row, decided_sender, verdicts_with, decided_view, asked_stage, receipt_in, with_receipt, confirmed_endpoint, confirmed_view}
 use Rattle.delivery.specs.Inner.Stands.{IsReached, Makes, step_of}
 use Rattle.delivery.specs.Inner.View.{EndpointView, SenderView, held_sender, view_of, view_with, view_after, sender_view, sending_view, undecided_view, endpoint_view, stage_view, parting_receipt, leaving_endpoint, no_endpoint, verdict_list}
+use Rattle.delivery.proofs.Machine.Effects.{made_world, made_answer}
 use Rattle.delivery.proofs.Views.Runs.AccountOfTransactions.{flight_id}
 use Rattle.delivery.proofs.Views.Endpoints.SpeakerAndEnd.{closed_is}
 use Rattle.delivery.proofs.Views.Endpoints.DisconnectIsLast.{not_parting}
 use Rattle.delivery.proofs.Views.Senders.SenderChanges.{IsSpeaking, number_at, number_set, endpoint_of_stage, speaker_of, held_of, endpoint_of, sender_of_endpoint, speaker_there, speaker_with, speaking_used, lists_with, endpoint_with_sender, stage_kept}
 use Rattle.delivery.proofs.Views.Endpoints.StandingOfConnection.{differ}
-use Rattle.delivery.proofs.Views.Events.OneMove.{made_world, made_answer, left_view}
-use Rattle.delivery.proofs.Views.Events.ConnectionIsThere.{there_checked, is_there, still_there, flying_speaking, refusal_first, refusal_after, reported, refused_step, refused_outcome, answered_outcome, replied_in, cut_in}
+use Rattle.delivery.proofs.Views.Events.OneMove.{left_view}
+use Rattle.delivery.proofs.Views.Events.ConnectionIsThere.{there_checked, is_there, still_there, flying_speaking, reported, refused_step, refused_outcome, answered_outcome, replied_in, cut_in}
 use Rattle.delivery.proofs.Views.Senders.TicketsOfTopics.{tickets_are}
 use Rattle.delivery.proofs.Views.Verdicts.VerdictOfSender.{undecided_unvoted, undecided_seq, list_stays, list_filled}
 

@@ -21,11 +21,12 @@ use Rattle.delivery.specs.Core.State.{Core}
 use Rattle.delivery.specs.Inner.Stands.{IsReached, Makes, step_of}
 use Rattle.delivery.specs.Inner.TopicSteps.{verdict_held, learn_result, group_after_try, after_learn_at}
 use Rattle.delivery.specs.Inner.View.{view_of, view_after, group_view, no_group}
+use Rattle.delivery.proofs.Machine.Effects.{made_world, made_answer}
 use Rattle.delivery.proofs.Theorem.StepLaws.{found_is_learnt}
 use Rattle.delivery.proofs.Views.Runs.ByRunOfCore.{by_world}
 use Rattle.delivery.proofs.Views.Endpoints.EndpointsStay.{quiet_view, learn_is_quiet}
 use Rattle.delivery.proofs.Views.Events.ReleaseStep.{group_at}
-use Rattle.delivery.proofs.Views.Events.OneMove.{made_world, made_answer, in_outcome, refused_makes}
+use Rattle.delivery.proofs.Views.Events.OneMove.{in_outcome, refused_makes}
 use Rattle.delivery.proofs.Views.Verdicts.FoundVerdict.{verdict_is}
 
 -- what stands against it, where the topic is there or not and this was found

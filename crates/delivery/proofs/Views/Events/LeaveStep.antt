@@ -4,7 +4,7 @@ use Rattle.std.proofs.Common.{eq-eqb, filter}
 use Rattle.std.specs.Prelude.{slice_get}
 use Rattle.std.specs.List.{flat_map}
 use Rattle.std.specs.Option.{is_some, option_map, option_map_or, option_and_then, option_or, option_to_list, unwrap_or}
-use Rattle.std.proofs.lemmas.Bool.{lt-ltb, ltb-true, ltb-false, false≢true}
+use Rattle.std.proofs.lemmas.Bool.{lt-ltb, ltb-true, ltb-false, false≢true, cases_Bool, cases_lt}
 use Rattle.std.proofs.lemmas.Option.{slice_get-get_or, slice_get_past}
 use Rattle.std.proofs.lemmas.List.{append-nil, length-map, get_or-set_same, get_or-set_other}
 use Rattle.mcast_txn.specs.Lists.{In}
@@ -23,7 +23,7 @@ use Rattle.delivery.specs.declared.refusal.Refusal.{Refusal}
 use Rattle.delivery.specs.declared.stage.Stage.{Stage}
 use Rattle.delivery.specs.Machine.Objections.{Objection, refusal_of}
 use Rattle.delivery.specs.Machine.World.{World, Undecided, SenderState, Connection, Subscription, Standing, nobody, new_sender, connection_at, sender_at, speaker, is_reading, is_gone, speaker_number}
-use Rattle.delivery.specs.Machine.Moves.{Move, Answer, move_refusal, objections, oldest_live, is_live, leave_effect, leave_answer, close_effect, end_now}
+use Rattle.delivery.specs.Machine.Moves.{Move, Answer, move_refusal, move_refusals, oldest_live, is_live, leave_effect, leave_answer, close_effect, end_now}
 use Rattle.delivery.specs.Machine.Runs.{run}
 use Rattle.delivery.specs.Core.Steps.{Reading, accepted_of}
 use Rattle.delivery.specs.Core.Account.{account_of}
@@ -37,11 +37,11 @@ use Rattle.delivery.specs.Inner.View.{View, EndpointView, SenderView, LeftView, 
 use Rattle.delivery.specs.Inner.Subscriptions.{no_sub, left_at, closed_if_left, closed_view}
 use Rattle.delivery.specs.Inner.Clients.{rested_view}
 use Rattle.delivery.specs.Inner.Leaving.{is_busy, end_with, leaving_objection, waits, leave_objection, oldest_in, oldest_end, oldest_closed, parting_text, has_parting, gone_endpoint, gone_view}
-use Rattle.delivery.proofs.Theorem.SpansAsAnswered.{within}
+use Rattle.delivery.proofs.Machine.Effects.{made_world, made_answer, refused_answer}
 use Rattle.delivery.proofs.Machine.SubscriptionSteps.{set_length, beyond}
 use Rattle.delivery.proofs.Views.Lists.ByNumber.{each_number-set, get_or-each_number, length-each_number}
 use Rattle.delivery.proofs.Views.Endpoints.EndpointsStay.{quiet_view, leave_is_quiet}
-use Rattle.delivery.proofs.Views.Events.OneMove.{bool_cases, made_world, made_answer, refused_answer, refused_makes, endpoint_is, endpoint_at, no_endpoint as no_endpoint_there, same_endpoint, endpoint_read, with_connection}
+use Rattle.delivery.proofs.Views.Events.OneMove.{refused_makes, endpoint_is, endpoint_at, no_endpoint as no_endpoint_there, same_endpoint, endpoint_read, with_connection}
 use Rattle.delivery.proofs.Views.Endpoints.DisconnectIsLast.{parting_is}
 use Rattle.delivery.proofs.Views.Endpoints.StandingOfConnection.{differ}
 use Rattle.delivery.proofs.Views.Clients.GivenBack.{gone_rests}
@@ -69,7 +69,7 @@ busy_view s x =
 sender_busy : (w : World) (s : ℕ)
     → option_map_or is_busy (slice_get (each_number (held_sender w) 0 w.senders) s) false
     ≡ (is_some (sender_at w s).flight || nat_lt 0 (length (sender_at w s).leftovers))
-sender_busy w s = elim (within s (length w.senders)) [ inl l ↦ here l | inr l ↦ none l ]
+sender_busy w s = elim (cases_lt s (length w.senders)) [ inl l ↦ here l | inr l ↦ none l ]
   where
     f : ℕ → SenderView
     f = held_sender w
@@ -113,7 +113,7 @@ stage_leaving names Standing.Leaving flight accepted unread busy = refl
 stage_leaving names Standing.Gone flight accepted unread busy = refl
 
 -- what stands against the endpoint stands against the move
-pub leave_checked : (k : Core) (c : ℕ) → leave_objection (view_of k).senders (slice_get (view_of k).endpoints c) ≡ first_refusal (objections k.world (Move.Leaves c))
+pub leave_checked : (k : Core) (c : ℕ) → leave_objection (view_of k).senders (slice_get (view_of k).endpoints c) ≡ first_refusal (move_refusals k.world (Move.Leaves c))
 leave_checked k c =
     let w = k.world in
     let x = connection_at w c in
@@ -125,7 +125,7 @@ leave_checked k c =
     ∙ sender_busy w (speaker_number w c) in
     let waiting : waits (view_of k).senders endpoint ≡ wait =
     λ i. not ((some_first (live_numbers c 0 w.subscriptions) ∙ ap (λ (o : Option ℕ). is_some o) (oldest_is c 0 w.subscriptions)) i) && busy i in
-    elim (bool_cases (nat_lt c (length w.connections))) [
+    elim (cases_Bool (nat_lt c (length w.connections))) [
       | inl t ↦
           ap (leave_objection (view_of k).senders) (endpoint_is k c (ltb-true c (length w.connections) t))
           ∙ (ap (leaving_objection endpoint.stage) waiting
@@ -156,9 +156,9 @@ stage_free Standing.Leaving busy e = refl
 stage_free Standing.Gone busy e = absurd (cc)
 
 pub can_leave : (k : Core) (c : ℕ) → leave_objection (view_of k).senders (slice_get (view_of k).endpoints c) ≡ None → CanLeave k c
-can_leave k c is = go (bool_cases (nat_lt c (length k.world.connections)))
+can_leave k c is = go (cases_Bool (nat_lt c (length k.world.connections)))
   where
-    clear : first_refusal (objections k.world (Move.Leaves c)) ≡ None
+    clear : first_refusal (move_refusals k.world (Move.Leaves c)) ≡ None
     clear = sym (leave_checked k c) ∙ is
 
     rest : List (Bool × Objection)
@@ -178,7 +178,7 @@ can_leave k c is = go (bool_cases (nat_lt c (length k.world.connections)))
 
 -- where nothing stands against it, there is the endpoint
 pub leave_endpoint : (v : View) (c : ℕ) → leave_objection v.senders (slice_get v.endpoints c) ≡ None → c < length v.endpoints
-leave_endpoint v c is = elim (within c (length v.endpoints)) [
+leave_endpoint v c is = elim (cases_lt c (length v.endpoints)) [
   | inl l ↦ l
   | inr far ↦ some_none (sym (no_leave v.senders v.endpoints c far) ∙ is)
 ]

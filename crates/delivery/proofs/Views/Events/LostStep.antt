@@ -16,9 +16,10 @@ use Rattle.delivery.specs.Core.Steps.{Reading, accepted_of}
 use Rattle.delivery.specs.Core.State.{Core}
 use Rattle.delivery.specs.Inner.Stands.{Makes, step_of, endpoint_objection}
 use Rattle.delivery.specs.Inner.View.{EndpointView, view_of, view_after, leaving_endpoint, parting_receipt}
+use Rattle.delivery.proofs.Machine.Effects.{made_world, made_answer}
 use Rattle.delivery.proofs.Theorem.SendersAreOwn.{reading_there}
 use Rattle.delivery.proofs.Views.Endpoints.EndpointsStay.{quiet_view, lost_is_quiet}
-use Rattle.delivery.proofs.Views.Events.OneMove.{made_world, made_answer, in_outcome, refused_makes, open_checked, checked_there, checked_open, left_view}
+use Rattle.delivery.proofs.Views.Events.OneMove.{in_outcome, refused_makes, open_checked, checked_there, checked_open, left_view}
 
 -- what stands against a loss is what stands against the endpoint
 lost_refusal : (k : Core) (c : ℕ) (why : Option Objection) → endpoint_objection (slice_get (view_of k).endpoints c) ≡ why

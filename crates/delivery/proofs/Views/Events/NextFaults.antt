@@ -40,6 +40,7 @@ use Rattle.delivery.specs.Inner.Stands.{IsReached, Makes, step_of}
 use Rattle.delivery.specs.Core.Connections.{live_numbers}
 use Rattle.delivery.specs.Inner.View.{View, EndpointView, view_of, view_after, stage_view, endpoint_view, no_endpoint, parting_receipt}
 use Rattle.std.proofs.lemmas.Bool.{true≢false}
+use Rattle.delivery.proofs.Machine.Effects.{made_world}
 use Rattle.delivery.proofs.Core.ClaimsStand.{connect_of}
 use Rattle.delivery.proofs.Core.FramesRead.{unanswered}
 use Rattle.delivery.proofs.Core.NamesKnown.{known_all}
@@ -49,7 +50,7 @@ use Rattle.delivery.proofs.Views.Lists.ByNumber.{length-each_number}
 use Rattle.delivery.proofs.Views.Events.NextStep.{ReadsUnless, view_by, next_of, next_endpoint, next_makes, next_still, next_written, frames_added, text_added, idle_there, idle_reads, idle_stage, idle_open}
 use Rattle.delivery.proofs.Views.Endpoints.DisconnectIsLast.{not_parting}
 use Rattle.delivery.proofs.Views.Endpoints.EndpointsStay.{quiet_view, refused_is_quiet}
-use Rattle.delivery.proofs.Views.Events.OneMove.{in_one, endpoint_at, made_world}
+use Rattle.delivery.proofs.Views.Events.OneMove.{in_one, endpoint_at}
 use Rattle.delivery.proofs.Views.Clients.RestingStay.{standing_speaks}
 
 -- ---- the endpoint of a connection
@@ -318,11 +319,7 @@ refused_may k c f left (ConnectionFault.Frame fault) h cut =
     (option_or (option_map ConnectionFault.Session (session_fault (session_at k c) f))
     (option_or (asked_claim k c f) (option_map (λ (why : Objection). frame_no_memory) (asked_objection k c f))))) h)
 refused_may k c f left (ConnectionFault.Session fault) h cut = session_may k c f left fault h.0 h.1 cut
-refused_may k c f left (ConnectionFault.Stream check) h cut = absurd h
-refused_may k c f left ConnectionFault.SenderInUse h cut = absurd h
-refused_may k c f left ConnectionFault.TooManyClients h cut = absurd h
-refused_may k c f left ConnectionFault.Lagged h cut = absurd h
-refused_may k c f left ConnectionFault.ReaderNoMemory h cut = absurd h
+refused_may k c f left _ h cut = absurd h
 
 -- it is a fault that the connection may have, and no name was added
 faulted_by : (k : Core) (c : ℕ) (after : OpenEndpoint) (fault : ConnectionFault) (frame : Option RawFrame) (reading : Reading) (later : List (List ℕ)) → IsReached k

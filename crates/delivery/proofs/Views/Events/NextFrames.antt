@@ -38,6 +38,7 @@ use Rattle.delivery.specs.Inner.Nexts.{Asks, AsksUnnamed, accepted_stage, error_
 use Rattle.delivery.specs.Inner.Stands.{Makes}
 use Rattle.delivery.specs.Core.Connections.{live_numbers}
 use Rattle.delivery.specs.Inner.View.{View, EndpointView, view_of, view_after, stage_view, leaving_endpoint, no_endpoint, parting_receipt, written_endpoint}
+use Rattle.delivery.proofs.Machine.Effects.{made_answer, made_world}
 use Rattle.delivery.proofs.Views.Endpoints.EndpointChanges.{with_endpoint, endpoint_again}
 use Rattle.delivery.proofs.Core.ByRun.{run_append}
 use Rattle.delivery.proofs.Core.FrameWorld.{idle_for}
@@ -46,7 +47,7 @@ use Rattle.mcast_txn.specs.Checks.{first_refusal}
 use Rattle.delivery.proofs.Views.Events.NextFaults.{asked_objection, fault_is, endpoint_of, endpoint_there, next_ends, within_endpoints}
 use Rattle.delivery.proofs.Views.Events.NextStep.{view_by, held_still, next_of, next_endpoint, next_makes, next_may, next_still, next_written, text_added, frames_added, idle_there, idle_reads, idle_stage, idle_open}
 use Rattle.delivery.proofs.Views.Endpoints.DisconnectIsLast.{not_parting}
-use Rattle.delivery.proofs.Views.Events.OneMove.{made_answer, made_world, in_outcome}
+use Rattle.delivery.proofs.Views.Events.OneMove.{in_outcome}
 use Rattle.delivery.proofs.Views.Clients.RestingStay.{standing_speaks}
 
 -- ---- what is held

@@ -3,10 +3,11 @@
 use Rattle.std.proofs.Common.{◌≡◌, ◌≢◌, ℕ, ◌+◌, ◌<◌, ◌==◌, Bool, true, false, cond, inl, inr, List, [], ◌∷◌, ◌++◌, length, set, Option, Some, None, refl, sym, ap, subst, ◌∙◌, arith, eq-eqb}
 use Rattle.std.specs.List.{flat_map}
 use Rattle.std.specs.Option.{option_to_list, is_some, unwrap_or}
-use Rattle.std.proofs.lemmas.Bool.{eqb-true, ltb-true, or_parts}
+use Rattle.std.proofs.lemmas.Bool.{eqb-true, ltb-true, or_parts, not-false, cases_Bool}
 use Rattle.std.proofs.lemmas.List.{append-nil, get_or-set_other, set-get_or}
 use Rattle.mcast_txn.specs.Checks.{first_refusal}
 use Rattle.mcast_txn.specs.Lists.{In}
+use Rattle.mcast_txn.proofs.CheckLemmas.{passes}
 use Rattle.stomp_frame.specs.declared.raw_frame.RawFrame.{RawFrame}
 use Rattle.stomp_frame.specs.Reader.{Unread}
 use Rattle.stomp_frame.specs.Writing.{spelling_of}
@@ -26,11 +27,10 @@ use Rattle.delivery.specs.Core.Reports.{each_number}
 use Rattle.delivery.specs.Inner.Stands.{Makes, step_of}
 use Rattle.delivery.specs.Core.Connections.{live_numbers}
 use Rattle.delivery.specs.Inner.View.{View, EndpointView, view_with, view_after, stage_view, endpoint_view}
-use Rattle.delivery.proofs.Machine.InvariantIsKept.{passes, false_not}
 use Rattle.delivery.proofs.Views.Endpoints.EndpointChanges.{with_endpoint}
 use Rattle.delivery.proofs.Views.Lists.ByNumber.{each_number-set}
 use Rattle.delivery.proofs.Views.Endpoints.EndpointsStay.{if_same}
-use Rattle.delivery.proofs.Views.Events.OneMove.{bool_cases, with_connection}
+use Rattle.delivery.proofs.Views.Events.OneMove.{with_connection}
 use Rattle.delivery.proofs.Views.Senders.HeldSenders.{senders_alike}
 
 -- ---- what a Next adds
@@ -68,7 +68,7 @@ own_text names c reading o older =
     ap (λ (b : Bool). text_out names c older ++ cond (is_cut o) [] (flat_map spelling_of (cond b (next_replies (frame_in reading) o) []))) (own c)
 
 differs : (c n : ℕ) → n ≢ c → (c == n) ≡ false
-differs c n other = elim (bool_cases (c == n)) [ inl t ↦ absurd (other (sym (eqb-true c n t))) | inr f ↦ f ]
+differs c n other = elim (cases_Bool (c == n)) [ inl t ↦ absurd (other (sym (eqb-true c n t))) | inr f ↦ f ]
 
 other_accepted : (c n : ℕ) (reading : Reading) (o : Outcome) (older : List CoreStep) → n ≢ c
     → accepted_of n (next_of c reading o ∷ older) ≡ accepted_of n older
@@ -141,11 +141,11 @@ next_written names k c reading o x there same =
 
 -- it is there
 pub idle_there : (w : World) (c : ℕ) → first_refusal (needs_idle w c) ≡ None → c < length w.connections
-idle_there w c idle = ltb-true c (length w.connections) (false_not _ (passes (needs_idle w c) idle).0)
+idle_there w c idle = ltb-true c (length w.connections) (not-false _ (passes (needs_idle w c) idle).0)
 
 -- it is open
 pub idle_reads : (w : World) (c : ℕ) → first_refusal (needs_idle w c) ≡ None → is_reading (connection_at w c).standing ≡ true
-idle_reads w c idle = false_not _ (or_parts _ _ (passes (needs_idle w c) idle).1.1.0).0
+idle_reads w c idle = not-false _ (or_parts _ _ (passes (needs_idle w c) idle).1.1.0).0
 
 is_open : (standing : Standing) → is_reading standing ≡ true → standing ≡ Standing.Open
 is_open Standing.Open e = refl

@@ -1,11 +1,9 @@
 -- A Next whose frame is a SUBSCRIBE or an UNSUBSCRIBE.
 use Rattle.std.proofs.Common.{◌≡◌, ◌≢◌, ℕ, ◌<◌, Bool, true, false, cond, inl, inr, List, [], ◌∷◌, length, get_or, Option, Some, None, refl, sym, ap, subst, ◌∙◌, arith}
-use Rattle.std.specs.Prelude.{codes}
-use Rattle.std.specs.Option.{is_some, option_map, option_map_or}
+use Rattle.std.specs.Option.{is_some, option_map}
 use Rattle.std.proofs.lemmas.Bool.{ltb-true}
 use Rattle.std.proofs.lemmas.List.{get_or-map, length-map}
 use Rattle.mcast_txn.specs.Lists.{In}
-use Rattle.mcast_txn.specs.declared.draft.sent_message.SentMessage.{SentMessage}
 use Rattle.mcast_txn.specs.declared.id.Topic.{Topic}
 use Rattle.mcast_txn.specs.declared.stamp.Stamp.{Stamp}
 use Rattle.mcast_group.specs.declared.fault.SubFault.{SubFault}
@@ -14,14 +12,12 @@ use Rattle.mcast_group.proofs.Parts.{some_same}
 use Rattle.stomp_frame.specs.declared.command.Command.{Command}
 use Rattle.stomp_frame.specs.declared.command.Command.TheVariants as commands
 use Rattle.stomp_frame.specs.declared.raw_frame.RawFrame.{RawFrame}
-use Rattle.stomp_frame.specs.Headers.{first_of}
 use Rattle.stomp_frame.specs.Reader.{Unread}
 use Rattle.stomp_session.specs.declared.action.Action.TheVariants as actions
-use Rattle.stomp_session.specs.Answers.{action_by, commit}
+use Rattle.stomp_session.specs.Answers.{action_by}
 use Rattle.stomp_session.proofs.Later.{with_destination-none}
-use Rattle.stomp_session.specs.Frames.{has_destination, id_of, send_of, topic_of, transaction_of}
-use Rattle.stomp_session.specs.Open.{Held}
-use Rattle.stomp_session.specs.Refusals.{sends_in}
+use Rattle.stomp_session.specs.Frames.{has_destination, id_of}
+use Rattle.stomp_session.proofs.Asked.{begins, begins_at, ends}
 use Rattle.delivery.specs.declared.event.Event.{Event}
 use Rattle.delivery.specs.declared.outcome.Outcome.{Outcome}
 use Rattle.delivery.specs.Machine.World.{subscription_at, topic_at}
@@ -46,46 +42,6 @@ use Rattle.delivery.proofs.Views.Senders.SendsAreToTopics.{topic_made}
 use Rattle.delivery.proofs.Views.Events.NextStep.{held_still, idle_reads, idle_there, next_of, text_added}
 use Rattle.delivery.proofs.Views.Subscriptions.OpenIsLive.{names_live, subscribe_free, unsubscribe_free}
 use Rattle.delivery.proofs.Views.Subscriptions.NewSubscription.{begun_as, new_id, old_ids, subscribed_is}
-
--- ---- which frames these are
-
-begins_sent : {A : Type 0} (s : Held) (f : RawFrame) (o : Option (List ℕ)) (id : List ℕ) (t : Topic) → option_map_or (λ transaction. actions.Nothing) o (commit (send_of s.names f ∷ [])) ≡ actions.Subscribe id t → A
-begins_sent s f None id t e = absurd (cc)
-begins_sent s f (Some x) id t e = absurd (cc)
-
-begins_committed : {A : Type 0} (sends : List SentMessage) (id : List ℕ) (t : Topic) → commit sends ≡ actions.Subscribe id t → A
-begins_committed [] id t e = absurd (cc)
-begins_committed (send ∷ sends) id t e = absurd (cc)
-
--- a SUBSCRIBE asks for a subscription of its id
-begins : (command : Command) (s : Held) (f : RawFrame) (id : List ℕ) (t : Topic) → action_by command s f ≡ actions.Subscribe id t → id_of f ≡ id
-begins commands.Subscribe s f id t e = cc
-begins commands.Send s f id t e = begins_sent s f (first_of (codes "transaction") f.headers) id t e
-begins commands.Commit s f id t e = begins_committed (sends_in (transaction_of f) s.transactions) id t e
-begins _ s f id t e = absurd (cc)
-
--- at its destination's topic
-begins_at : (command : Command) (s : Held) (f : RawFrame) (id : List ℕ) (t : Topic) → action_by command s f ≡ actions.Subscribe id t
-    → (has_destination command ≡ true) × (topic_of s.names f ≡ t)
-begins_at commands.Subscribe s f id t e = (refl, cc)
-begins_at commands.Send s f id t e = begins_sent s f (first_of (codes "transaction") f.headers) id t e
-begins_at commands.Commit s f id t e = begins_committed (sends_in (transaction_of f) s.transactions) id t e
-begins_at _ s f id t e = absurd (cc)
-
-ends_sent : {A : Type 0} (s : Held) (f : RawFrame) (o : Option (List ℕ)) (id : List ℕ) → option_map_or (λ transaction. actions.Nothing) o (commit (send_of s.names f ∷ [])) ≡ actions.Unsubscribe id → A
-ends_sent s f None id e = absurd (cc)
-ends_sent s f (Some x) id e = absurd (cc)
-
-ends_committed : {A : Type 0} (sends : List SentMessage) (id : List ℕ) → commit sends ≡ actions.Unsubscribe id → A
-ends_committed [] id e = absurd (cc)
-ends_committed (send ∷ sends) id e = absurd (cc)
-
--- an UNSUBSCRIBE asks for the end of the subscription of its id
-ends : (command : Command) (s : Held) (f : RawFrame) (id : List ℕ) → action_by command s f ≡ actions.Unsubscribe id → (command ≡ commands.Unsubscribe) × (id_of f ≡ id)
-ends commands.Unsubscribe s f id e = (refl, cc)
-ends commands.Send s f id e = ends_sent s f (first_of (codes "transaction") f.headers) id e
-ends commands.Commit s f id e = ends_committed (sends_in (transaction_of f) s.transactions) id e
-ends _ s f id e = absurd (cc)
 
 -- ---- SUBSCRIBE
 

@@ -1,8 +1,8 @@
--- Steps of one move: its world, its answer, and a refused one.
+-- Steps of one move, and a refused one.
 use Rattle.std.proofs.Common.{◌≡◌, ◌≢◌, ℕ, ◌+◌, ◌<◌, ◌≤◌, Bool, true, false, not, nat_lt, List, [], ◌∷◌, ◌++◌, length, get_or, set, Option, Some, None, refl, sym, ap, ◌∙◌, arith}
-use Rattle.std.proofs.Common.{◌⊎◌, inl, inr}
+use Rattle.std.proofs.Common.{inl, inr}
 use Rattle.std.specs.Prelude.{slice_get}
-use Rattle.std.proofs.lemmas.Bool.{ltb-true, ltb-false}
+use Rattle.std.proofs.lemmas.Bool.{ltb-true, ltb-false, cases_Bool}
 use Rattle.std.proofs.lemmas.Option.{slice_get-get_or, slice_get_past}
 use Rattle.std.specs.Option.{option_map, option_to_list, unwrap_or}
 use Rattle.std.proofs.lemmas.List.{get_or-set_same, get_or-set_other, set-get_or}
@@ -15,7 +15,7 @@ use Rattle.delivery.specs.declared.outcome.Outcome.{Outcome}
 use Rattle.delivery.specs.declared.refusal.Refusal.{Refusal}
 use Rattle.delivery.specs.Machine.Objections.{Objection, refusal_of}
 use Rattle.delivery.specs.Machine.World.{World, Undecided, Connection, Standing, nobody, new_sender, connection_at, sender_at, speaker, is_reading, is_gone}
-use Rattle.delivery.specs.Machine.Moves.{Move, Answer, move_refusal, move_effect, move_answer, answer_to, needs_open, with_leaving}
+use Rattle.delivery.specs.Machine.Moves.{Move, Answer, move_refusal, answer_to, needs_open, with_leaving}
 use Rattle.delivery.specs.Machine.Runs.{run}
 use Rattle.delivery.specs.Core.Steps.{Reading, accepted_of}
 use Rattle.delivery.specs.Core.Output.{text_out, sub_id_text}
@@ -25,27 +25,12 @@ use Rattle.delivery.specs.Core.Reports.{each_number}
 use Rattle.delivery.specs.Inner.Stands.{Makes, step_of, stage_objection, endpoint_objection}
 use Rattle.delivery.specs.Core.Connections.{live_numbers}
 use Rattle.delivery.specs.Inner.View.{EndpointView, view_of, view_with, view_after, written_endpoint, stage_view, endpoint_view, leaving_endpoint, parting_receipt}
+use Rattle.delivery.proofs.Machine.Effects.{refused_answer, same_world}
 use Rattle.delivery.proofs.Views.Lists.ByNumber.{each_number-set, get_or-each_number, length-each_number}
 use Rattle.delivery.proofs.Views.Endpoints.EndpointsStay.{quiet_view, refused_is_quiet}
 use Rattle.delivery.proofs.Views.Senders.HeldSenders.{senders_standing}
 
 -- ---- one move
-
--- the world after a move that isn't refused
-pub made_world : (w : World) (e : Move) → move_refusal w e ≡ None → run (e ∷ []) w ≡ move_effect w e
-made_world w e free = ap (λ (why : Option Objection). elim why [ None ↦ move_effect w e | Some o ↦ w ]) free
-
--- its answer
-pub made_answer : (w : World) (e : Move) → move_refusal w e ≡ None → answer_to w e ≡ move_answer w e
-made_answer w e free = ap (λ (why : Option Objection). elim why [ None ↦ move_answer w e | Some o ↦ Answer.Refused o ]) free
-
--- the world after one that is refused
-pub same_world : (w : World) (e : Move) (why : Objection) → move_refusal w e ≡ Some why → run (e ∷ []) w ≡ w
-same_world w e why refused = ap (λ (o : Option Objection). elim o [ None ↦ move_effect w e | Some p ↦ w ]) refused
-
--- its answer
-pub refused_answer : (w : World) (e : Move) (why : Objection) → move_refusal w e ≡ Some why → answer_to w e ≡ Answer.Refused why
-refused_answer w e why refused = ap (λ (o : Option Objection). elim o [ None ↦ move_answer w e | Some p ↦ Answer.Refused p ]) refused
 
 -- an outcome is the only one of a list
 pub in_one : (o : Outcome) (os : List Outcome) → os ≡ o ∷ [] → In o os
@@ -119,11 +104,6 @@ endpoints_with names w c x accepted unread text there =
 
 -- ---- checks
 
--- a test is true or false
-pub bool_cases : (b : Bool) → (b ≡ true) ⊎ (b ≡ false)
-bool_cases true = inl refl
-bool_cases false = inr refl
-
 standing_objection : (names : List (List ℕ)) (standing : Standing) (flight : Option Undecided) (accepted : List RawFrame) (unread : Unread)
     → stage_objection (stage_view names standing flight accepted unread)
     ≡ first_refusal ((is_gone standing, Objection.Gone) ∷ (not (is_reading standing), Objection.Busy) ∷ [])
@@ -155,7 +135,7 @@ pub open_checked : (k : Core) (c : ℕ) → endpoint_objection (slice_get (view_
 open_checked k c =
     let x = connection_at k.world c in
     let checks = λ (b : Bool). first_refusal ((not b, Objection.NoConn) ∷ (is_gone x.standing, Objection.Gone) ∷ (not (is_reading x.standing), Objection.Busy) ∷ []) in
-    elim (bool_cases (nat_lt c (length k.world.connections))) [
+    elim (cases_Bool (nat_lt c (length k.world.connections))) [
       | inl t ↦
           ap endpoint_objection (endpoint_is k c (ltb-true c (length k.world.connections) t))
           ∙ (standing_objection (names_at k) x.standing (speaker k.world c).flight (accepted_of c k.steps) (unread_at c k.steps)
@@ -166,7 +146,7 @@ open_checked k c =
 -- where nothing stands against it, it is there and open
 pub checked_there : (k : Core) (c : ℕ) → endpoint_objection (slice_get (view_of k).endpoints c) ≡ None → c < length k.world.connections
 checked_there k c free =
-    elim (bool_cases (nat_lt c (length k.world.connections))) [
+    elim (cases_Bool (nat_lt c (length k.world.connections))) [
       | inl t ↦ ltb-true c (length k.world.connections) t
       | inr f ↦ some_is_none (sym (ap endpoint_objection (no_endpoint k c (ltb-false c (length k.world.connections) f))) ∙ free)
     ]

@@ -2,7 +2,7 @@
 use Rattle.std.proofs.Common.{◌≡◌, ◌≢◌, ℕ, ◌+◌, ◌==◌, Bool, true, false, ◌&&◌, cond, List, [], ◌∷◌, get_or, set, Option, Some, None, inl, inr, refl, sym, ap, ◌∙◌, arith, eq-eqb}
 use Rattle.std.specs.Prelude.{slice_get}
 use Rattle.std.specs.Option.{option_map, option_to_list}
-use Rattle.std.proofs.lemmas.Bool.{eqb-true}
+use Rattle.std.proofs.lemmas.Bool.{eqb-true, cases_Bool}
 use Rattle.std.proofs.lemmas.List.{append-nil, set-get_or}
 use Rattle.mcast_txn.specs.Checks.{first_refusal}
 use Rattle.stomp_frame.specs.declared.raw_frame.RawFrame.{RawFrame}
@@ -22,7 +22,7 @@ use Rattle.delivery.specs.Inner.Stands.{Makes, step_of, endpoint_objection}
 use Rattle.delivery.specs.Inner.View.{EndpointView, view_of, view_with, stage_view, endpoint_view, fed_endpoint, fed_stage}
 use Rattle.delivery.proofs.Views.Lists.ByNumber.{each_number-set}
 use Rattle.delivery.proofs.Views.Endpoints.EndpointsStay.{quiet_view, refused_is_quiet, piece_without_is_quiet}
-use Rattle.delivery.proofs.Views.Events.OneMove.{bool_cases, in_one, endpoint_at, open_checked, checked_there, checked_open}
+use Rattle.delivery.proofs.Views.Events.OneMove.{in_one, endpoint_at, open_checked, checked_there, checked_open}
 
 -- the outcomes where this stands against it
 abbrev piece_outcomes : Option Objection → List Outcome
@@ -78,7 +78,7 @@ other_b false u v e = refl
 
 other : (unread : ℕ → Unread) (c : ℕ) (octets : List ℕ) (n : ℕ) → n ≢ c → fed_at unread c octets n ≡ unread n
 other unread c octets n differ =
-    elim (bool_cases (c == n)) [
+    elim (cases_Bool (c == n)) [
       | inl t ↦ absurd (differ (sym (eqb-true c n t)))
       | inr f ↦ other_b (c == n) (with_piece (unread n) octets) (unread n) f
     ]

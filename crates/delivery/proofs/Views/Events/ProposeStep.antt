@@ -2,7 +2,7 @@
 use Rattle.std.proofs.Common.{◌≡◌, ℕ, ◌<◌, ◌==◌, Bool, true, false, cond, not, ◌&&◌, ◌||◌, nat_lt, List, [], ◌∷◌, ◌++◌, map, length, get_or, set, Option, Some, None, Result, Ok, Err, is_ok, inl, inr, refl, sym, ap, subst, ◌∙◌, arith}
 use Rattle.std.specs.Prelude.{slice_get}
 use Rattle.std.proofs.Math.Nat.{le-max_right}
-use Rattle.std.proofs.lemmas.Bool.{and_parts, eq-eqb, lt-ltb, ltb-true}
+use Rattle.std.proofs.lemmas.Bool.{and_parts, eq-eqb, lt-ltb, ltb-true, cases_Bool}
 use Rattle.std.proofs.lemmas.List.{append-nil, get_or_default, length-map, set-get_or}
 use Rattle.std.specs.Option.{is_some, option_or, option_and_then}
 use Rattle.mcast_txn.specs.declared.ballot.ticket.Ticket.{Ticket}
@@ -18,6 +18,7 @@ use Rattle.mcast_txn.specs.TopicSet.{names}
 use Rattle.mcast_txn.specs.Transaction.{TopicPart, topics_of}
 use Rattle.mcast_txn.proofs.Members.{In-append_left}
 use Rattle.mcast_txn.proofs.Orders.{id_itself}
+use Rattle.mcast_txn.proofs.CheckLemmas.{refusal_first, refusal_after}
 use Rattle.mcast_group.specs.declared.fault.ProposeFault.{ProposeFault}
 use Rattle.mcast_group.specs.Group.{GroupState, or_no_memory}
 use Rattle.mcast_group.specs.Machine.{TopicState, next_number, propose_fault, after_propose}
@@ -37,7 +38,8 @@ use Rattle.delivery.specs.Core.State.{Core, names_at, unread_at, is_out_of_memor
 use Rattle.delivery.specs.Core.Outcomes.{move_outcome, outcomes}
 use Rattle.delivery.specs.Inner.Senders.{there_objection, speaker_at, sender_in, gate_of, is_slot, flight_refusal, part_refusal, part_in, taken_sending, taken_sender, takes_ticket, put_sender, failed_sender, is_group, propose_refusal_in, taken_view, floor_in, ticket_in, proposed_view, failed_view, IsProposed, no_sender}
 use Rattle.delivery.specs.Inner.Stands.{IsReached, Makes, step_of}
-use Rattle.delivery.specs.Inner.View.{View, SenderView, held_sender, view_of, view_after, sender_view, sending_view, undecided_view, flight_view, blank_row, group_view, pending_receipt, ticket_of, group_in, no_group}
+use Rattle.delivery.specs.Inner.View.{View, SenderView, held_sender, view_of, view_after, sender_view, sending_view, undecided_view, flight_view, group_view, pending_receipt, ticket_of, group_in, no_group}
+use Rattle.delivery.proofs.Machine.Effects.{made_world, made_answer}
 use Rattle.delivery.proofs.Theorem.AcceptedIsDue.{reached}
 use Rattle.delivery.proofs.Views.Events.DecideStep.{flying_is}
 use Rattle.delivery.proofs.Views.Runs.ByRunOfCore.{by_world}
@@ -50,8 +52,7 @@ use Rattle.delivery.proofs.Views.Senders.SenderChanges.{held_of, sender_of, spea
 use Rattle.delivery.proofs.Views.Senders.SameSeqAndReceipt.{sender_quiet, topic_quiet}
 use Rattle.delivery.proofs.Views.Senders.SlotsOfTopics.{slot_topics, slot_named, held_named, slot_written, ticket_inserted, row_other, row_own, row_none_given}
 use Rattle.delivery.proofs.Views.Endpoints.StandingOfConnection.{differ}
-use Rattle.delivery.proofs.Views.Events.OneMove.{bool_cases, made_world, made_answer}
-use Rattle.delivery.proofs.Views.Events.ConnectionIsThere.{flying_speaking, there_checked, is_there, still_there, refusal_first, refusal_after, reported, refused_step, refused_outcome, answered_outcome}
+use Rattle.delivery.proofs.Views.Events.ConnectionIsThere.{flying_speaking, there_checked, is_there, still_there, reported, refused_step, refused_outcome, answered_outcome}
 use Rattle.delivery.proofs.Views.Senders.TicketsOfTopics.{tickets_are}
 
 -- ---- what stands against it
@@ -161,7 +162,7 @@ group_there k t was =
     let groups = (view_of k).groups in
     let many = length-map {B = GroupState} k.world.topics (group_view k.world) in
     ap (λ (n : ℕ). nat_lt t.0 n && (get_or groups t.0 no_group).topic.topic.0 == t.0) many
-    ∙ elim (bool_cases (is_topic k.world t)) [
+    ∙ elim (cases_Bool (is_topic k.world t)) [
       | inl on ↦
           ap (λ (b : Bool). b && (get_or groups t.0 no_group).topic.topic.0 == t.0) on
           ∙ (ap (λ (g : GroupState). g.topic.topic.0 == t.0) (group_at k t no_group (ltb-true t.0 (length k.world.topics) on))
@@ -222,11 +223,11 @@ taken_kept t s seq floor (Some f) why e = go f.mark e
 
     named : (b h : Bool) → is_slot t fl.tickets ≡ b → has_ticket t f.given ≡ h
         → Some why ≡ cond (is_slot t fl.tickets) (cond (is_some (held_at t fl.parts)) None (Some refusal.Twice)) (Some refusal.NotNamed)
-        → cond (is_slot t fl.tickets) (Sending.Flying (record fl { parts = with_slot t None fl.parts }) (blank_row f)) (Sending.Flying fl (blank_row f)) ≡ Sending.Flying fl (blank_row f)
-    named false h slot given e = ap (λ (b : Bool). cond b (Sending.Flying (record fl { parts = with_slot t None fl.parts }) (blank_row f)) (Sending.Flying fl (blank_row f))) slot
+        → cond (is_slot t fl.tickets) (Sending.Flying (record fl { parts = with_slot t None fl.parts }) (topics_of f.txn.sends)) (Sending.Flying fl (topics_of f.txn.sends)) ≡ Sending.Flying fl (topics_of f.txn.sends)
+    named false h slot given e = ap (λ (b : Bool). cond b (Sending.Flying (record fl { parts = with_slot t None fl.parts }) (topics_of f.txn.sends)) (Sending.Flying fl (topics_of f.txn.sends))) slot
     named true true slot given e =
-        ap (λ (b : Bool). cond b (Sending.Flying (record fl { parts = with_slot t None fl.parts }) (blank_row f)) (Sending.Flying fl (blank_row f))) slot
-        ∙ ap (λ (ps : Slots TopicPart). Sending.Flying (record fl { parts = ps }) (blank_row f))
+        ap (λ (b : Bool). cond b (Sending.Flying (record fl { parts = with_slot t None fl.parts }) (topics_of f.txn.sends)) (Sending.Flying fl (topics_of f.txn.sends))) slot
+        ∙ ap (λ (ps : Slots TopicPart). Sending.Flying (record fl { parts = ps }) (topics_of f.txn.sends))
         (slot_written (part_left f) (part_left f) t None (topics_of f.txn.sends) (ap (λ (h : Bool). cond h None (Some (part_at f.txn.id f.txn.sends t))) given) (λ u ne. refl))
     named true false slot given e =
         let is = sym (slot_topics (number_of f) t (topics_of f.txn.sends)) ∙ slot in
@@ -296,11 +297,11 @@ less floor f t = record (flight_view floor f) { parts = with_slot t None (flight
 
 -- the sender's transaction without it
 taken_is : (s : ℕ) (x : SenderState) (t : Topic) (f : Undecided) → x.flight ≡ Some f → f.mark ≡ None → names t (topics_of f.txn.sends) ≡ true
-    → taken_sender t (sender_view s x) ≡ record (sender_view s x) { sending = Sending.Flying (less x.floor f t) (blank_row f) }
+    → taken_sender t (sender_view s x) ≡ record (sender_view s x) { sending = Sending.Flying (less x.floor f t) (topics_of f.txn.sends) }
 taken_is s x t f is unmarked named =
     let fl = flight_view x.floor f in
     ap (λ (z : Sending). taken_sender t (record (sender_view s x) { sending = z })) (flying_is s x f is unmarked)
-    ∙ ap (λ (b : Bool). record (sender_view s x) { sending = cond b (Sending.Flying (less x.floor f t) (blank_row f)) (Sending.Flying fl (blank_row f)) })
+    ∙ ap (λ (b : Bool). record (sender_view s x) { sending = cond b (Sending.Flying (less x.floor f t) (topics_of f.txn.sends)) (Sending.Flying fl (topics_of f.txn.sends)) })
     (slot_topics (number_of f) t (topics_of f.txn.sends) ∙ named)
 
 -- the flight takes the ticket
@@ -346,8 +347,8 @@ takes_by t s seq floor y part (Some f) e is = go f.mark e is
         let fresh : has_ticket t f.given ≡ false = ungiven (has_ticket t f.given) (sym (part_stands f t named) ∙ both.1) in
         let own : part_at f.txn.id f.txn.sends t ≡ part =
         some_same _ _ (sym (held_named (part_left f) t (topics_of f.txn.sends) named ∙ ap (λ (b : Bool). cond b None (Some (part_at f.txn.id f.txn.sends t))) fresh) ∙ is) in
-        ap (λ (b : Bool). takes_ticket (ticket part) (cond b (Sending.Flying (less floor f t) (blank_row f)) (Sending.Flying fl (blank_row f)))) both.0
-        ∙ (ap (λ (p : TopicPart). takes_ticket (ticket p) (Sending.Flying (less floor f t) (blank_row f))) (sym own)
+        ap (λ (b : Bool). takes_ticket (ticket part) (cond b (Sending.Flying (less floor f t) (topics_of f.txn.sends)) (Sending.Flying fl (topics_of f.txn.sends)))) both.0
+        ∙ (ap (λ (p : TopicPart). takes_ticket (ticket p) (Sending.Flying (less floor f t) (topics_of f.txn.sends))) (sym own)
         ∙ ap (λ (r : Result Unit Rattle.sender_gate.specs.declared.fault.GateFault.GateFault). is_ok r) (answer_is floor f t y named fresh))
 
 floor_by : (s seq : ℕ) (floor : Stamp) (o : Option Undecided) → (gate_of (sending_view s seq floor o)).floor ≡ floor
@@ -408,9 +409,9 @@ put_is s x t f y is unmarked named fresh =
     let fl = less x.floor f t in
     ap (put_sender ticket) (taken_is s x t f is unmarked named)
     ∙ (ap (λ (r : Result Unit Rattle.sender_gate.specs.declared.fault.GateFault.GateFault). record (sender_view s x) {
-      sending = cond (is_ok r) (Sending.Flying (record fl { tickets = with_slot t (Some ticket.n) fl.tickets }) (blank_row f)) (Sending.Flying fl (blank_row f));
+      sending = cond (is_ok r) (Sending.Flying (record fl { tickets = with_slot t (Some ticket.n) fl.tickets }) (topics_of f.txn.sends)) (Sending.Flying fl (topics_of f.txn.sends));
     }) (answer_is x.floor f t y named fresh)
-    ∙ ap (λ (z : FlightState). record (sender_view s x) { sending = Sending.Flying z (blank_row f) }) (flight_given x.floor f t ticket.n fresh))
+    ∙ ap (λ (z : FlightState). record (sender_view s x) { sending = Sending.Flying z (topics_of f.txn.sends) }) (flight_given x.floor f t ticket.n fresh))
 
 -- the sender once its transaction is marked
 marked_is : (k : Core) (s : ℕ) (t : Topic) (f : Undecided) (fault : ProposeFault) → IsReached k → (sender_at k.world s).flight ≡ Some f → f.mark ≡ None → names t (topics_of f.txn.sends) ≡ true

@@ -1,8 +1,8 @@
 -- What stands against reading a frame of a connection.
-use Rattle.std.proofs.Common.{◌≡◌, ℕ, ◌+◌, ◌<◌, ◌≤◌, Bool, true, false, not, nat_lt, cond, ◌||◌, ◌⊎◌, inl, inr, List, [], ◌∷◌, length, get_or, Option, Some, None, refl, sym, ap, ◌∙◌, arith}
+use Rattle.std.proofs.Common.{◌≡◌, ℕ, ◌+◌, ◌<◌, ◌≤◌, Bool, true, false, not, nat_lt, cond, ◌||◌, inl, inr, List, [], ◌∷◌, length, get_or, Option, Some, None, refl, sym, ap, ◌∙◌, arith}
 use Rattle.std.specs.Prelude.{slice_get}
 use Rattle.std.specs.Option.{is_some, option_or, unwrap_or}
-use Rattle.std.proofs.lemmas.Bool.{ltb-true, ltb-false}
+use Rattle.std.proofs.lemmas.Bool.{ltb-true, ltb-false, cases_Bool, cases_lt}
 use Rattle.std.proofs.lemmas.Option.{slice_get-get_or, slice_get_past}
 use Rattle.std.proofs.lemmas.List.{get_or_default}
 use Rattle.std.proofs.Math.ListN.{get_or-eq_default}
@@ -20,22 +20,18 @@ use Rattle.delivery.specs.Core.State.{Core, unread_at, names_at}
 use Rattle.delivery.specs.Core.Reports.{each_number}
 use Rattle.delivery.specs.Inner.Nexts.{is_sending, sending_objection, idle_objection}
 use Rattle.delivery.specs.Inner.Stands.{stage_objection, endpoint_objection}
-use Rattle.delivery.specs.Inner.View.{View, EndpointView, SenderView, view_of, stage_view, endpoint_view, sender_view, sending_view, undecided_view, is_undecided, number_among, held_sender}
+use Rattle.delivery.specs.Inner.View.{View, EndpointView, SenderView, view_of, stage_view, endpoint_view, sending_view, undecided_view, is_undecided, number_among, held_sender}
 use Rattle.delivery.proofs.Views.Lists.ByNumber.{get_or-each_number, length-each_number}
 use Rattle.delivery.proofs.Views.Events.OneMove as steps
 use Rattle.delivery.specs.Inner.View as views
-use Rattle.delivery.proofs.Views.Events.OneMove.{bool_cases, endpoint_at, endpoint_is}
+use Rattle.delivery.proofs.Views.Events.OneMove.{endpoint_at, endpoint_is}
 use Rattle.delivery.proofs.Views.Senders.HeldSenders.{held_undecided}
 
 -- ---- a view
 
--- a number is within a list or beyond it
-within : (n m : ℕ) → (n < m) ⊎ (m ≤ n)
-within n m = elim (bool_cases (nat_lt n m)) [ inl t ↦ inl (ltb-true n m t) | inr f ↦ inr (ltb-false n m f) ]
-
 -- an endpoint that nothing stands against is there
 pub unobjected_there : (endpoints : List EndpointView) (c : ℕ) → endpoint_objection (slice_get endpoints c) ≡ None → c < length endpoints
-unobjected_there endpoints c free = elim (within c (length endpoints)) [
+unobjected_there endpoints c free = elim (cases_lt c (length endpoints)) [
   | inl l ↦ l
   | inr l ↦ absurd (some_none (sym (ap endpoint_objection (slice_get_past endpoints c l)) ∙ free))
 ]
@@ -82,7 +78,7 @@ sending_is k s =
     let w = k.world in
     let f = held_sender w in
     let many = length-each_number f 0 w.senders in
-    elim (within s (length w.senders)) [
+    elim (cases_lt s (length w.senders)) [
       | inl l ↦
           (let there : s < length (each_number f 0 w.senders) = omega (arith, l, many) in
           let e : 0 + s ≡ s = omega arith in
@@ -112,7 +108,7 @@ idle_checked k c =
     let f = λ (n : ℕ). endpoint_view (names_at k) w n (accepted_of n k.steps) (unread_at n k.steps) (text_out k.names n k.steps) in
     let flying = is_some (speaker w c).flight in
     let checks = λ (b : Bool). first_refusal ((not b, Objection.NoConn) ∷ (is_gone x.standing, Objection.Gone) ∷ (not (is_reading x.standing) || flying, Objection.Busy) ∷ []) in
-    elim (bool_cases (nat_lt c (length w.connections))) [
+    elim (cases_Bool (nat_lt c (length w.connections))) [
       | inl t ↦
           (let there = ltb-true c (length w.connections) t in
           ap (λ (o : Option EndpointView). option_or (endpoint_objection o) (sending_objection (view_of k).senders (number_among (view_of k).senders (get_or (view_of k).endpoints c none)))) (endpoint_is k c there)

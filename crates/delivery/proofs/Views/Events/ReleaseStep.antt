@@ -2,20 +2,19 @@
 use Rattle.std.proofs.Common.{◌≡◌, ℕ, ◌<◌, Bool, true, false, nat_lt, List, [], ◌∷◌, map, length, get_or, set, Option, Some, None, inl, inr, refl, sym, ap, subst, ◌∙◌, ◌≤◌, arith}
 use Rattle.mcast_txn.specs.Lists.{In}
 use Rattle.mcast_txn.specs.declared.id.TxnId.{TxnId}
-use Rattle.sub_queue.specs.Shown.{Room}
+use Rattle.sub_queue.specs.Shown.{Gauge}
 use Rattle.mcast_group.specs.Counted.{takes_in, takes_of}
 use Rattle.mcast_group.specs.Group.{GroupState}
 use Rattle.mcast_group.specs.Machine.{TopicState, Entry, Pending, new_topic, after_release, due_part, item_of, entry_after}
 use Rattle.mcast_group.specs.Group.{group_after_release}
 use Rattle.mcast_group.proofs.Parts.{after_release_if}
+use Rattle.mcast_group.proofs.Releasing.{delivered_by}
 use Rattle.std.proofs.Common.{not}
 use Rattle.std.specs.Option.{is_some, option_or, option_map}
-use Rattle.std.proofs.lemmas.Bool.{lt-ltb, ltb-true}
+use Rattle.std.proofs.lemmas.Bool.{lt-ltb, ltb-true, cases_Bool}
 use Rattle.std.proofs.lemmas.List.{get_or-map, map-set, set-get_or}
 use Rattle.mcast_txn.specs.Checks.{first_refusal}
-use Rattle.mcast_txn.specs.Span.{Item}
 use Rattle.mcast_txn.specs.declared.id.Topic.{Topic}
-use Rattle.mcast_txn.specs.declared.stamp.Stamp.{Stamp}
 use Rattle.delivery.specs.declared.event.Event.{Event}
 use Rattle.delivery.specs.declared.outcome.Outcome.{Outcome}
 use Rattle.delivery.specs.declared.refusal.Refusal.{Refusal}
@@ -25,22 +24,20 @@ use Rattle.delivery.specs.Machine.Moves.{Move, Answer, move_refusal, queue_has_r
 use Rattle.delivery.specs.Core.Steps.{Reading}
 use Rattle.delivery.specs.Core.State.{Core}
 use Rattle.delivery.specs.Inner.Stands.{Makes, step_of}
-use Rattle.delivery.specs.Inner.View.{View, view_of, view_after, group_view, no_group, queue_room}
+use Rattle.delivery.specs.Inner.View.{View, view_of, view_after, group_view, no_group, queue_gauge}
+use Rattle.delivery.proofs.Machine.Effects.{made_world, made_answer}
 use Rattle.delivery.proofs.Views.Lists.ByNumber.{map_alike}
 use Rattle.delivery.proofs.Machine.QueueSteps.{Goes, release_goes}
 use Rattle.delivery.proofs.Views.Endpoints.EndpointsStay.{quiet_view, release_is_quiet}
-use Rattle.delivery.proofs.Views.Subscriptions.RoomsOfEntries.{room_found}
-use Rattle.delivery.proofs.Views.Events.OneMove.{bool_cases, made_world, made_answer, in_outcome, refused_makes}
+use Rattle.delivery.proofs.Views.Subscriptions.GaugesOfEntries.{gauge_found}
+use Rattle.delivery.proofs.Views.Events.OneMove.{in_outcome, refused_makes}
 
 -- a group's queue takes an item where the world's has room
 pub takes_same : (w : World) (x : TopicState) (e f : Entry) → In f x.subscriptions → e.number ≡ f.number
     → takes_of (group_view w x) e ≡ queue_has_room w e
-takes_same w x e f here same = ap (λ (r : Option Room). takes_in r e) (room_found (queue_room w) x.subscriptions e.number f here same)
+takes_same w x e f here same = ap (λ (r : Option Gauge). takes_in r e) (gauge_found (queue_gauge w) x.subscriptions e.number f here same)
 
 -- ---- a release
-
-entry_same : (t u : Entry → Bool) (f : Stamp) (i : Item) (e : Entry) → t e ≡ u e → entry_after t f i e ≡ entry_after u f i e
-entry_same t u f i e same = ap (λ (b : Bool). entry_after (λ _. b) f i e) same
 
 released_same : (t u : Entry → Bool) (x : TopicState) (o : Option Pending) → ((e : Entry) → In e x.subscriptions → t e ≡ u e)
     → after_release_if t x o ≡ after_release_if u x o
@@ -48,7 +45,7 @@ released_same t u x None same = refl
 released_same t u x (Some p) same =
     ap (λ (es : List Entry). record (after_release_if u x (Some p)) { subscriptions = es })
     (map_alike (entry_after t x.frontier (item_of p)) (entry_after u x.frontier (item_of p)) x.subscriptions
-    (λ e here. entry_same t u x.frontier (item_of p) e (same e here)))
+    (λ e here. delivered_by t u x.frontier (item_of p) e (same e here)))
 
 map_step : {Y : Type 0} (f : ℕ → Y) (step : Entry → Entry) → ((e : Entry) → (step e).number ≡ e.number) → (es : List Entry)
     → map (λ e. f e.number) (map step es) ≡ map (λ e. f e.number) es
@@ -57,11 +54,11 @@ map_step {Y = Y} f step same (e ∷ es) =
     ap (λ (n : ℕ). f n ∷ map (λ e. f e.number) (map step es)) (same e)
     ∙ ap (λ (ys : List Y). f e.number ∷ ys) (map_step f step same es)
 
--- the rooms stay where entries keep their numbers
-pub rooms_stay : (w : World) (x y : TopicState) → Goes w x y
-    → map (λ e. queue_room w e.number) x.subscriptions ≡ map (λ e. queue_room w e.number) y.subscriptions
-rooms_stay w x y goes =
-    sym (ap (λ (es : List Entry). map (λ e. queue_room w e.number) es) goes.are ∙ map_step (queue_room w) goes.step goes.number x.subscriptions)
+-- the gauges stay where entries keep their numbers
+pub gauges_stay : (w : World) (x y : TopicState) → Goes w x y
+    → map (λ e. queue_gauge w e.number) x.subscriptions ≡ map (λ e. queue_gauge w e.number) y.subscriptions
+gauges_stay w x y goes =
+    sym (ap (λ (es : List Entry). map (λ e. queue_gauge w e.number) es) goes.are ∙ map_step (queue_gauge w) goes.step goes.number x.subscriptions)
 
 -- the group after a release is that of the world's topic after it
 pub released_group : (w : World) (x : TopicState)
@@ -69,7 +66,7 @@ pub released_group : (w : World) (x : TopicState)
 released_group w x =
     let same : after_release (takes_of (group_view w x)) x ≡ after_release (queue_has_room w) x =
     released_same (takes_of (group_view w x)) (queue_has_room w) x (due_part x) (λ e here. takes_same w x e e here refl) in
-    λ i. record { topic = same i; rooms = rooms_stay w x (after_release (queue_has_room w) x) (release_goes w x) i }
+    λ i. record { topic = same i; gauges = gauges_stay w x (after_release (queue_has_room w) x) (release_goes w x) i }
 
 -- the group of a topic that is there
 pub group_at : (k : Core) (t : Topic) (d : GroupState) → t.0 < length k.world.topics
@@ -90,7 +87,7 @@ release_unnamed k t none =
     (release_refusal k.world t false (is_some (due_part (topic_at k.world t))) (not_lt t.0 (length k.world.topics) none) refl) refl refl
   where
     not_lt : (a b : ℕ) → b ≤ a → nat_lt a b ≡ false
-    not_lt a b h = elim (bool_cases (nat_lt a b)) [ inl on ↦ absurd (omega (arith, h, ltb-true a b on)) | inr off ↦ off ]
+    not_lt a b h = elim (cases_Bool (nat_lt a b)) [ inl on ↦ absurd (omega (arith, h, ltb-true a b on)) | inr off ↦ off ]
 
 -- nothing is due
 pub release_nothing : (k : Core) (t : Topic) (d : GroupState) → t.0 < length k.world.topics → due_part (topic_at k.world t) ≡ None

@@ -3,12 +3,13 @@ use Rattle.std.proofs.Common.{◌≡◌, ◌≢◌, ℕ, ◌<◌, ◌≤◌, ◌
 use Rattle.std.specs.Prelude.{slice_get}
 use Rattle.std.specs.List.{flat_map}
 use Rattle.std.specs.Option.{is_some, option_map, option_or, option_and_then, option_to_list}
-use Rattle.std.proofs.lemmas.Bool.{ltb-true, ltb-false, lt-ltb, le-ltb, or_parts, or_right, false≢true}
+use Rattle.std.proofs.lemmas.Bool.{ltb-true, ltb-false, lt-ltb, le-ltb, or_parts, or_right, false≢true, not-false, cases_Bool, cases_lt}
 use Rattle.std.proofs.lemmas.List.{append-nil, get_or_past}
 use Rattle.std.proofs.lemmas.Option.{slice_get-get_or, slice_get_past}
 use Rattle.mcast_txn.specs.Checks.{first_refusal}
 use Rattle.mcast_txn.specs.Span.{Item}
 use Rattle.mcast_txn.proofs.Members.{In-push, In-append_left}
+use Rattle.mcast_txn.proofs.CheckLemmas.{passes}
 use Rattle.mcast_group.specs.Counted.{group_after_take}
 use Rattle.mcast_group.specs.Group.{GroupState}
 use Rattle.mcast_group.specs.Machine.{Entry, EntryEnd}
@@ -35,9 +36,8 @@ use Rattle.delivery.specs.Core.Reports.{each_number}
 use Rattle.delivery.specs.Inner.Stands.{IsReached, Makes, step_of, endpoint_objection}
 use Rattle.delivery.specs.Inner.Takes.{sub_objection, take_objection, sub_held, next_of, group_held, next_held, has_lagged, after_item, after_next_item}
 use Rattle.delivery.specs.Inner.View.{View, EndpointView, SubView, view_of, view_with, view_after, group_view, sub_view, stage_view, leaving_endpoint, written_endpoint, parting_receipt, left_view as left_in_view, no_endpoint, no_group}
-use Rattle.delivery.proofs.Machine.InvariantIsKept.{passes, false_not}
+use Rattle.delivery.proofs.Machine.Effects.{made_world, made_answer, same_world}
 use Rattle.delivery.proofs.Theorem.ClosedIsSilent.{none_of}
-use Rattle.delivery.proofs.Theorem.SpansAsAnswered.{within}
 use Rattle.delivery.proofs.Views.Runs.AccountOfTransactions.{begins_as, next_is}
 use Rattle.delivery.proofs.Views.Lists.ByNumber.{length-each_number}
 use Rattle.delivery.proofs.Views.Endpoints.DisconnectIsLast.{not_parting}
@@ -45,7 +45,7 @@ use Rattle.delivery.proofs.Views.Endpoints.EndpointsStay.{quiet_view, refused_is
 use Rattle.delivery.proofs.Views.Subscriptions.QueueOfSubscription.{HasQueue, has_queue, sub_is, next_is_of, lagged_is, taken_world, taken_groups, taken_subs, taken_live}
 use Rattle.delivery.proofs.Views.Events.ReleaseStep.{group_at}
 use Rattle.delivery.proofs.Views.Endpoints.StandingOfConnection.{open_there, differ}
-use Rattle.delivery.proofs.Views.Events.OneMove.{bool_cases, endpoint_missing, made_world, made_answer, same_world, in_one, in_outcome, open_checked, left_with, written_with}
+use Rattle.delivery.proofs.Views.Events.OneMove.{endpoint_missing, in_one, in_outcome, open_checked, left_with, written_with}
 use Rattle.delivery.proofs.Theorem.SendersAreOwn.{reading_there}
 
 -- ---- reading subscriptions
@@ -75,21 +75,21 @@ sub_open endpoints x left free =
 
 -- where nothing stands against it, the subscription is there
 pub free_there : (v : View) (s : ℕ) → take_objection v s ≡ None → s < length v.subs
-free_there v s free = elim (within s (length v.subs)) [
+free_there v s free = elim (cases_lt s (length v.subs)) [
   | inl l ↦ l
   | inr l ↦ none_some Objection.NoSub (sym free ∙ sub_missing v.endpoints v.subs s l)
 ]
 
 -- so is its connection's endpoint
 pub free_endpoint : (v : View) (s : ℕ) (x : SubView) → take_objection v s ≡ None → slice_get v.subs s ≡ Some x → x.connection < length v.endpoints
-free_endpoint v s x free is = elim (within x.connection (length v.endpoints)) [
+free_endpoint v s x free is = elim (cases_lt x.connection (length v.endpoints)) [
   | inl l ↦ l
   | inr l ↦ none_some Objection.Gone (sym free ∙ (ap (sub_objection v.endpoints) is ∙ sub_shut v.endpoints x Objection.NoConn (endpoint_missing v.endpoints x.connection l)))
 ]
 
 -- where there is an item, so is its topic's group
 pub next_there : (groups : List GroupState) (t s : ℕ) (item : Item) → next_of s (get_or groups t no_group) ≡ Some item → t < length groups
-next_there groups t s item is = elim (within t (length groups)) [
+next_there groups t s item is = elim (cases_lt t (length groups)) [
   | inl l ↦ l
   | inr l ↦ none_some item (sym (ap (next_of s) (get_or_past groups t no_group l)) ∙ is)
 ]
@@ -136,12 +136,12 @@ endpoint_shut k c = ap (λ (o : Option Objection). is_some o) (open_checked k c)
 abbrev is_over : World → ℕ → Bool
 is_over w s = is_some (subscription_at w s).closed || not (is_reading (connection_at w (subscription_at w s).connection).standing)
 
--- the first tests of a take
+-- the first refusals of a take
 abbrev first_checks : World → ℕ → List (Bool × Objection)
 first_checks w s = (not (nat_lt s (length w.subscriptions)), Objection.NoSub) ∷ (is_over w s, Objection.Gone) ∷ []
 
 objected : (k : Core) (s : ℕ) → take_objection (view_of k) s ≡ first_refusal (first_checks k.world s)
-objected k s = elim (bool_cases (nat_lt s (length k.world.subscriptions))) [
+objected k s = elim (cases_Bool (nat_lt s (length k.world.subscriptions))) [
   | inl t ↦ here (ltb-true s (length k.world.subscriptions) t) ∙ ap (λ (b : Bool). first_refusal ((not b, Objection.NoSub) ∷ (is_over k.world s, Objection.Gone) ∷ [])) (sym t)
   | inr f ↦
       ap (sub_objection (view_of k).endpoints) (slice_get_past subs s (let n = length-each_number g 0 k.world.subscriptions in let m = ltb-false s (length k.world.subscriptions) f in omega arith))
@@ -179,10 +179,10 @@ pub may_take : (k : Core) (s : ℕ) → IsReached k → take_objection (view_of 
 may_take k s reached free =
     let w = k.world in
     let h = passes (first_checks w s) (sym (objected k s) ∙ free) in
-    let there = ltb-true s (length w.subscriptions) (false_not (nat_lt s (length w.subscriptions)) h.0) in
+    let there = ltb-true s (length w.subscriptions) (not-false (nat_lt s (length w.subscriptions)) h.0) in
     let over = or_parts (is_some (subscription_at w s).closed) (not (is_reading (connection_at w (subscription_at w s).connection).standing)) h.1.0 in
     let unclosed = none_of (subscription_at w s).closed over.0 in
-    let reads = false_not (is_reading (connection_at w (subscription_at w s).connection).standing) over.1 in
+    let reads = not-false (is_reading (connection_at w (subscription_at w s).connection).standing) over.1 in
     record {
       queue = has_queue k s reached there unclosed;
       unclosed = unclosed;
@@ -252,14 +252,14 @@ take_refused k s why refusal stands reported =
 
 -- the item is among these
 is_within : (items : List Item) (n : ℕ) (item : Item) → slice_get items n ≡ Some item → n < length items
-is_within items n item is = elim (within n (length items)) [
+is_within items n item is = elim (cases_lt n (length items)) [
   | inl l ↦ l
   | inr l ↦ none_some item (sym (slice_get_past items n l) ∙ is)
 ]
 
 -- none is left of these
 is_past : (items : List Item) (n : ℕ) → slice_get items n ≡ None → nat_lt n (length items) ≡ false
-is_past items n none = elim (within n (length items)) [
+is_past items n none = elim (cases_lt n (length items)) [
   | inl l ↦ none_some (get_or items n no_item) (sym none ∙ slice_get-get_or items n no_item l)
   | inr l ↦ le-ltb n (length items) l
 ]

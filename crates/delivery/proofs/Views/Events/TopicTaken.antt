@@ -1,8 +1,7 @@
 -- A topic that an accepted frame makes, and its being taken back where the frame finds no memory.
 use Rattle.std.proofs.Common.{◌≡◌, ℕ, ◌-◌, ◌<◌, Bool, true, false, cond, not, ◌&&◌, List, [], ◌∷◌, ◌++◌, length, refl, sym, ap, ◌∙◌, arith}
 use Rattle.std.specs.Prelude.{codes, nat_lt, take, Option}
-use Rattle.std.proofs.Math.Seq.{take-append_seam}
-use Rattle.std.proofs.lemmas.Bool.{false≢true, lt-ltb, ltb-true}
+use Rattle.std.proofs.lemmas.Bool.{false≢true, lt-ltb, ltb-true, and_parts}
 use Rattle.std.proofs.lemmas.List.{length-append, length-map}
 use Rattle.stomp_frame.specs.declared.command.Command.{Command}
 use Rattle.stomp_frame.specs.declared.command.Command.TheVariants as commands
@@ -21,6 +20,7 @@ use Rattle.delivery.specs.Inner.View.{View, EndpointView, group_view, grouped_vi
 use Rattle.delivery.proofs.Core.NamesFew.{room_for}
 use Rattle.delivery.proofs.Views.Events.WantsMemory.{by_session}
 use Rattle.delivery.proofs.Views.Senders.SendsAreToTopics.{topics_as_named}
+use Rattle.delivery.proofs.Views.Verdicts.VerdictTable.{last_dropped}
 
 -- the frame makes its topic
 abbrev pub is_first_use : Core → RawFrame → Bool
@@ -50,28 +50,17 @@ lacks_group k f reached true true = not_less (length (view_of k).groups) (length
 lacks_group k f reached true false = one_more (length (view_of k).groups) (names_at k) (field (codes "destination") f) (groups_named k reached)
 lacks_group k f reached false b = not_less (length (view_of k).groups) (length (names_at k)) (groups_named k reached)
 
--- without the last
-without : {X : Type 0} (xs : List X) (x : X) → take (length (xs ++ x ∷ []) - 1) (xs ++ x ∷ []) ≡ xs
-without xs x =
-    let n = length-append xs (x ∷ []) in
-    let count : length (xs ++ x ∷ []) - 1 ≡ length xs = omega (arith, n) in
-    ap (λ (m : ℕ). take m (xs ++ x ∷ [])) count ∙ take-append_seam xs (x ∷ [])
-
 last_name : (k : Core) (f : RawFrame) → is_first_use k f ≡ true → take (length (with_destination f (names_at k)) - 1) (with_destination f (names_at k)) ≡ names_at k
 last_name k f used = by (has_destination f.command) (is_known (field (codes "destination") f) (names_at k)) used
   where
     by : (a b : Bool) → (a && not b) ≡ true → take (length (names_by k f a b) - 1) (names_by k f a b) ≡ names_at k
-    by true false e = without (names_at k) (field (codes "destination") f)
+    by true false e = last_dropped (names_at k) (field (codes "destination") f)
     by true true e = absurd (false≢true e)
     by false b e = absurd (false≢true e)
 
-and_first : (a b : Bool) → (a && b) ≡ true → a ≡ true
-and_first true b e = refl
-and_first false b e = absurd (false≢true e)
-
 -- a frame that makes its topic has a destination
 pub has_destination_of : (k : Core) (f : RawFrame) → is_first_use k f ≡ true → has_destination f.command ≡ true
-has_destination_of k f used = and_first (has_destination f.command) _ used
+has_destination_of k f used = (and_parts (has_destination f.command) _ used).0
 
 -- and so is no CONNECT
 pub uses_other : (command : Command) → has_destination command ≡ true → is_connect command ≡ false
@@ -176,7 +165,7 @@ module _ (k : Core) (c : ℕ) (f : RawFrame) (left : Unread) (action : Action) (
     does = asks.does;
     wants = asks.wants;
     view = ap (λ (v : View). record v { names = take (length v.names - 1) v.names; groups = take (length v.groups - 1) v.groups }) (asks.view ∙ ap (λ (t : Bool). changed_endpoint stage c (cond t made (view_of k))) used)
-        ∙ (λ i. changed_endpoint stage c (record (view_of k) { names = without (names_at k) (field (codes "destination") f) i; groups = without (view_of k).groups (made_group (length (view_of k).groups)) i }));
+        ∙ (λ i. changed_endpoint stage c (record (view_of k) { names = last_dropped (names_at k) (field (codes "destination") f) i; groups = last_dropped (view_of k).groups (made_group (length (view_of k).groups)) i }));
   }
     where
       made : View
@@ -206,4 +195,4 @@ module _ (k : Core) (c : ℕ) (f : RawFrame) (left : Unread) (action : Action) (
 
   -- a frame that makes its topic wants memory
   pub first_use_wants : is_first_use k f ≡ true → MayLack k c f
-  first_use_wants used = by_session k c f (takes_by f.command (session_at k c) f (and_first _ _ used))
+  first_use_wants used = by_session k c f (takes_by f.command (session_at k c) f (and_parts _ _ used).0)

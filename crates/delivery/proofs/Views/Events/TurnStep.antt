@@ -22,10 +22,11 @@ use Rattle.delivery.specs.Inner.Stands.{IsReached, Makes, step_of}
 use Rattle.delivery.specs.Inner.TopicSteps.{verdict_held, group_after_turn, group_turn_count, after_turn_at}
 use Rattle.delivery.specs.Inner.Verdicts.{verdict_at}
 use Rattle.delivery.specs.Inner.View.{view_of, view_after, group_view, no_group}
+use Rattle.delivery.proofs.Machine.Effects.{made_world, made_answer}
 use Rattle.delivery.proofs.Machine.QueueSteps.{turned_goes}
 use Rattle.delivery.proofs.Views.Endpoints.EndpointsStay.{quiet_view, turn_is_quiet}
-use Rattle.delivery.proofs.Views.Events.ReleaseStep.{takes_same, rooms_stay, group_at}
-use Rattle.delivery.proofs.Views.Events.OneMove.{made_world, made_answer, in_outcome, refused_makes}
+use Rattle.delivery.proofs.Views.Events.ReleaseStep.{takes_same, gauges_stay, group_at}
+use Rattle.delivery.proofs.Views.Events.OneMove.{in_outcome, refused_makes}
 use Rattle.delivery.proofs.Views.Subscriptions.TurnAsksOwnEntries.{turn_same}
 use Rattle.delivery.proofs.Views.Verdicts.FoundVerdict.{verdict_is}
 
@@ -58,7 +59,7 @@ turned_group : (k : Core) (t : Topic) → IsReached k
 turned_group k t reached =
     λ i. record {
       topic = turned_topic k t reached i;
-      rooms = rooms_stay k.world (topic_at k.world t) (turned k.world t) (turned_goes k.world (topic_at k.world t)) i;
+      gauges = gauges_stay k.world (topic_at k.world t) (turned k.world t) (turned_goes k.world (topic_at k.world t)) i;
     }
 
 -- ---- the event

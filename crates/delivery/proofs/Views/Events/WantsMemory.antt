@@ -4,6 +4,7 @@ use Rattle.std.proofs.Common.{◌≡◌, ℕ, Bool, true, false, cond, ◌||◌,
 use Rattle.std.specs.List.{list_any}
 use Rattle.std.proofs.lemmas.List.{append-nil}
 use Rattle.std.specs.Option.{is_some, option_map, option_map_or, option_to_list, option_and_then}
+use Rattle.std.proofs.lemmas.Bool.{or_left, or_right, or_from}
 use Rattle.mcast_txn.specs.declared.draft.sent_message.SentMessage.{SentMessage}
 use Rattle.mcast_txn.specs.declared.id.Topic.{Topic}
 use Rattle.mcast_txn.specs.Lists.{In}
@@ -18,9 +19,10 @@ use Rattle.stomp_frame.specs.ServerFrames.{connected_frame, receipt_frame}
 use Rattle.stomp_session.specs.declared.action.Action.{Action}
 use Rattle.stomp_session.specs.declared.action.Action.TheVariants as actions
 use Rattle.stomp_session.specs.Answers.{action_by, commit, has_sends, takes_memory}
-use Rattle.stomp_session.specs.Frames.{id_of, send_of, transaction_of}
+use Rattle.stomp_session.specs.Frames.{id_of, transaction_of}
 use Rattle.stomp_session.specs.Open.{Held}
 use Rattle.stomp_session.specs.Refusals.{sends_in, session_fault}
+use Rattle.stomp_session.proofs.Asked.{sent_subscribes, committed_subscribes}
 use Rattle.delivery.specs.declared.connection_fault.ConnectionFault.{ConnectionFault}
 use Rattle.delivery.specs.declared.outcome.Outcome.{Outcome}
 use Rattle.delivery.specs.Machine.Objections.{Objection}
@@ -32,10 +34,10 @@ use Rattle.delivery.specs.Core.State.{Core, core_for, frame_move, session_at, un
 use Rattle.delivery.specs.Core.Outcomes.{accepted_outcomes, claim_fault, fault_outcomes, frame_fault, frame_no_memory, frame_outcome, is_any, move_outcome, outcome_of, outcomes_without, reading_outcomes, wants_memory}
 use Rattle.delivery.specs.Inner.Nexts.{Asks, MayLack}
 use Rattle.delivery.specs.Inner.View.{View}
+use Rattle.delivery.proofs.Machine.Effects.{made_answer}
 use Rattle.delivery.proofs.Core.ClaimsStand.{unobjected}
 use Rattle.delivery.proofs.Views.Events.NextFaults.{asked_claim, asked_objection, fault_is}
 use Rattle.delivery.proofs.Views.Events.NextFrames.{connects}
-use Rattle.delivery.proofs.Views.Events.OneMove.{made_answer}
 
 -- ---- by its session, or by its reply
 
@@ -43,21 +45,13 @@ use Rattle.delivery.proofs.Views.Events.OneMove.{made_answer}
 pub by_session : (k : Core) (c : ℕ) (f : RawFrame) → takes_memory f.command (session_at k c) f ≡ true → MayLack k c f
 by_session k c f e none = ap (λ (b : Bool). b || list_any (λ o. is_any (next_replies (Some f) o)) (frame_outcome k c f)) e
 
-or_late : (a b : Bool) → b ≡ true → (a || b) ≡ true
-or_late true b e = refl
-or_late false b e = e
-
-or_first : (a b : Bool) → a ≡ true → (a || b) ≡ true
-or_first true b e = refl
-or_first false b e = absurd (cc)
-
 -- its one outcome is answered at once
 by_reply : (k : Core) (c : ℕ) (f : RawFrame) (o : Outcome) → frame_outcome k c f ≡ o ∷ [] → is_any (next_replies (Some f) o) ≡ true
     → wants_memory k c f ≡ true
 by_reply k c f o is any =
-    or_late (takes_memory f.command (session_at k c) f) (list_any (λ x. is_any (next_replies (Some f) x)) (frame_outcome k c f))
+    or_right (takes_memory f.command (session_at k c) f) (list_any (λ x. is_any (next_replies (Some f) x)) (frame_outcome k c f))
     (ap (λ (os : List Outcome). list_any (λ x. is_any (next_replies (Some f) x)) os) is
-    ∙ or_first (is_any (next_replies (Some f) o)) false any)
+    ∙ or_left (is_any (next_replies (Some f) o)) false any)
 
 -- a RECEIPT is asked for
 asked_receipt : (receipt asked : Option (List ℕ)) → asked ≡ receipt → is_some receipt ≡ true
@@ -104,20 +98,11 @@ receipt_wants k c f left receipt held asks some none =
     by_reply k c f Outcome.Done (is_done k c f actions.Nothing asks.does refl)
     (any_either (is_connect f.command) (receipts_of f) (asked_receipt receipt (receipt_of f) asks.wants some))
 
-subscribes_sent : {A : Type 0} (s : Held) (f : RawFrame) (o : Option (List ℕ)) (id : List ℕ) (t : Topic)
-    → option_map_or (λ transaction. actions.Nothing) o (commit (send_of s.names f ∷ [])) ≡ actions.Subscribe id t → A
-subscribes_sent s f None id t e = absurd (cc)
-subscribes_sent s f (Some x) id t e = absurd (cc)
-
-subscribes_committed : {A : Type 0} (sends : List SentMessage) (id : List ℕ) (t : Topic) → commit sends ≡ actions.Subscribe id t → A
-subscribes_committed [] id t e = absurd (cc)
-subscribes_committed (send ∷ sends) id t e = absurd (cc)
-
 subscribe_takes : (command : Command) (s : Held) (f : RawFrame) (id : List ℕ) (t : Topic) → action_by command s f ≡ actions.Subscribe id t
     → takes_memory command s f ≡ true
 subscribe_takes commands.Subscribe s f id t e = refl
-subscribe_takes commands.Send s f id t e = subscribes_sent s f (first_of (codes "transaction") f.headers) id t e
-subscribe_takes commands.Commit s f id t e = subscribes_committed (sends_in (transaction_of f) s.transactions) id t e
+subscribe_takes commands.Send s f id t e = sent_subscribes s f (first_of (codes "transaction") f.headers) id t e
+subscribe_takes commands.Commit s f id t e = committed_subscribes (sends_in (transaction_of f) s.transactions) id t e
 subscribe_takes _ s f id t e = absurd (cc)
 
 -- a SUBSCRIBE is kept by its session
@@ -161,17 +146,13 @@ end_wants k c f left id receipt held asks some none =
 
 -- ---- which never do: a core that answers 72 to one of these is refused by its contract
 
-both_false : (a b : Bool) → a ≡ false → b ≡ false → (a || b) ≡ false
-both_false true b e f = absurd (cc)
-both_false false b e f = f
-
 -- a frame for which its session takes no memory, and whose one outcome isn't answered at once
 without_reply : (k : Core) (c : ℕ) (f : RawFrame) (o : Outcome) → takes_memory f.command (session_at k c) f ≡ false → frame_outcome k c f ≡ o ∷ []
     → is_any (next_replies (Some f) o) ≡ false → wants_memory k c f ≡ false
 without_reply k c f o takes is none =
-    both_false (takes_memory f.command (session_at k c) f) (list_any (λ x. is_any (next_replies (Some f) x)) (frame_outcome k c f)) takes
+    or_from (takes_memory f.command (session_at k c) f) (list_any (λ x. is_any (next_replies (Some f) x)) (frame_outcome k c f)) takes
     (ap (λ (os : List Outcome). list_any (λ x. is_any (next_replies (Some f) x)) os) is
-    ∙ both_false (is_any (next_replies (Some f) o)) false none refl)
+    ∙ or_from (is_any (next_replies (Some f) o)) false none refl)
 
 no_receipt : (f : RawFrame) → receipt_of f ≡ None → is_any (receipts_of f) ≡ false
 no_receipt f e = ap (λ (r : Option (List ℕ)). is_any (option_map_or (λ id. receipt_frame id ∷ []) r [])) e

@@ -15,6 +15,7 @@ use Rattle.mcast_txn.specs.declared.ballot.ticket.Ticket.{Ticket}
 use Rattle.mcast_txn.specs.declared.id.TxnId.{TxnId}
 use Rattle.mcast_txn.specs.Checks.{first_refusal}
 use Rattle.mcast_txn.specs.Lists.{In}
+use Rattle.mcast_txn.proofs.CheckLemmas.{refusal_first, refusal_after}
 use Rattle.mcast_group.specs.declared.fault.ProposeFault.{ProposeFault}
 use Rattle.mcast_group.specs.Faults.{propose_title}
 use Rattle.mcast_group.proofs.Parts.{some_same}
@@ -35,6 +36,7 @@ use Rattle.delivery.specs.Core.Outcomes.{move_outcome, is_any}
 use Rattle.delivery.specs.Inner.Senders.{gone_objection, there_objection, speaker_at, sender_in, withdraw_refusal, failure_of, withdrawn_sender, withdrawn_view, reads_frames, shut_stage, with_error, refused_endpoint, refused_view}
 use Rattle.delivery.specs.Inner.Stands.{IsReached, Makes, step_of}
 use Rattle.delivery.specs.Inner.View.{EndpointView, SenderView, view_of, view_after, sender_view, sending_view, undecided_view, gate_view, endpoint_view, stage_view, parting_receipt, leaving_endpoint, no_endpoint, ticket_of}
+use Rattle.delivery.proofs.Machine.Effects.{made_world, made_answer}
 use Rattle.delivery.proofs.Views.Runs.AccountOfTransactions.{flight_id, last_is}
 use Rattle.delivery.proofs.Views.Endpoints.SpeakerAndEnd.{closed_is}
 use Rattle.delivery.proofs.Views.Events.DecideStep.{set_twice}
@@ -43,8 +45,8 @@ use Rattle.delivery.proofs.Views.Endpoints.DisconnectIsLast.{not_parting}
 use Rattle.delivery.proofs.Views.Senders.SenderChanges.{number_set, endpoint_of_stage, stage_kept, speaker_of, endpoint_of, sender_of_endpoint, speaker_with}
 use Rattle.delivery.proofs.Views.Senders.SameSeqAndReceipt.{lists_kept}
 use Rattle.delivery.proofs.Views.Endpoints.StandingOfConnection.{differ}
-use Rattle.delivery.proofs.Views.Events.OneMove.{endpoint_is, made_world, made_answer, left_view}
-use Rattle.delivery.proofs.Views.Events.ConnectionIsThere.{flying_speaking, there_checked, is_there, still_there, refusal_first, refusal_after, reported, refused_step, refused_outcome, answered_outcome, replied_in, cut_in}
+use Rattle.delivery.proofs.Views.Events.OneMove.{endpoint_is, left_view}
+use Rattle.delivery.proofs.Views.Events.ConnectionIsThere.{flying_speaking, there_checked, is_there, still_there, reported, refused_step, refused_outcome, answered_outcome, replied_in, cut_in}
 
 -- ---- what stands against it
 

@@ -6,10 +6,11 @@ use Rattle.std.specs.Option.{option_map, option_and_then}
 use Rattle.std.proofs.lemmas.Option.{slice_get-get_or, slice_get_past}
 use Rattle.std.proofs.lemmas.List.FromFn.{length-enumerate_from}
 use Rattle.std.proofs.lemmas.List.{length-map, get_or-map}
+use Rattle.std.proofs.lemmas.Bool.{cases_lt}
 use Rattle.mcast_txn.specs.declared.id.Topic.{Topic}
 use Rattle.mcast_txn.specs.declared.stamp.Stamp.{Stamp}
 use Rattle.mcast_txn.specs.Span.{LogRow, Item}
-use Rattle.sub_queue.specs.Shown.{Room}
+use Rattle.sub_queue.specs.Shown.{Gauge}
 use Rattle.mcast_group.specs.declared.cause.Cause.TheVariants.{Lag}
 use Rattle.mcast_group.specs.declared.state.SubState.{SubState}
 use Rattle.mcast_group.specs.Group.{GroupState, shown_with, shown_at}
@@ -20,11 +21,10 @@ use Rattle.delivery.specs.Core.Output.{text_out, sub_id_text}
 use Rattle.delivery.specs.Core.Reports.{QueueReport, queue_report, each_number, report_of}
 use Rattle.delivery.specs.Core.Steps.{accepted_of}
 use Rattle.delivery.specs.Core.State.{Core, unread_at, names_at}
-use Rattle.delivery.specs.Inner.View.{View, SubView, EndpointView, view_of, group_view, queue_room, sub_view, left_view, endpoint_view}
+use Rattle.delivery.specs.Inner.View.{View, SubView, EndpointView, view_of, group_view, queue_gauge, sub_view, left_view, endpoint_view}
 use Rattle.delivery.specs.Inner.ViewReports.{report_in, sub_report, open_report, closed_report, lag_of, lag_in, queue_shown, queued_items, handed_items}
-use Rattle.delivery.proofs.Theorem.SpansAsAnswered.{within}
 use Rattle.delivery.proofs.Views.Lists.ByNumber.{each_number-same}
-use Rattle.delivery.proofs.Views.Subscriptions.RoomsOfEntries.{shown_is}
+use Rattle.delivery.proofs.Views.Subscriptions.GaugesOfEntries.{shown_is}
 use Rattle.delivery.proofs.Machine.SubscriptionSteps.{beyond}
 
 -- ---- lists
@@ -51,7 +51,7 @@ logs_are w (x ∷ xs) = ap (λ (rows : List (List LogRow)). x.held ∷ rows) (lo
 by_topic : {Y : Type 0} (w : World) (t : Topic) (f : GroupState → Option Y) → ((x : TopicState) → x.subscriptions ≡ [] → f (group_view w x) ≡ None)
     → option_and_then f (slice_get (map (group_view w) w.topics) t.0) ≡ f (group_view w (topic_at w t))
 by_topic {Y = Y} w t f none =
-    elim (within t.0 (length w.topics)) [
+    elim (cases_lt t.0 (length w.topics)) [
       | inl l ↦
           let many : t.0 < length (map (group_view w) w.topics) = omega (arith, l, length-map w.topics (group_view w)) in
           ap (λ (o : Option GroupState). option_and_then f o)
@@ -72,23 +72,23 @@ lag_of_entry (Some e) = by_end e.to refl
     by_end None is = ap (λ (z : Option Stamp). lag_of (elim z [ None ↦ SubState.Open | Some end ↦ SubState.Lag end ])) is ∙ sym is
     by_end (Some end) is = ap (λ (z : Option Stamp). lag_of (elim z [ None ↦ SubState.Open | Some end ↦ SubState.Lag end ])) is ∙ sym is
 
-queued_with : (o : Option Entry) (room : Room) → queued_items (shown_with o (option_map (λ (e : Entry). room) o)) ≡ entry_items o
-queued_with None room = refl
-queued_with (Some e) room = refl
+queued_with : (o : Option Entry) (gauge : Gauge) → queued_items (shown_with o (option_map (λ (e : Entry). gauge) o)) ≡ entry_items o
+queued_with None gauge = refl
+queued_with (Some e) gauge = refl
 
 none_taken : (n : ℕ) → ◌≡◌ {A = List Item} [] (take n [])
 none_taken zero = refl
 none_taken (suc n) = refl
 
 handed_with : (w : World) (s : ℕ) (o : Option Entry)
-    → handed_items (shown_with o (option_map (λ (e : Entry). queue_room w s) o)) ≡ take (subscription_at w s).taken (entry_items o)
+    → handed_items (shown_with o (option_map (λ (e : Entry). queue_gauge w s) o)) ≡ take (subscription_at w s).taken (entry_items o)
 handed_with w s None = none_taken (subscription_at w s).taken
 handed_with w s (Some e) = refl
 
 -- a subscription without an entry has no queue
 no_shown : (w : World) (s : ℕ) (x : TopicState) → x.subscriptions ≡ [] → shown_at s (group_view w x) ≡ None
 no_shown w s x none =
-    shown_is w s x ∙ ap (λ (es : List Entry). shown_with (find_entry s es) (option_map (λ (e : Entry). queue_room w s) (find_entry s es))) none
+    shown_is w s x ∙ ap (λ (es : List Entry). shown_with (find_entry s es) (option_map (λ (e : Entry). queue_gauge w s) (find_entry s es))) none
 
 -- where it lagged, and what its queue shows, at its topic's group
 lag_is : (w : World) (t : Topic) (s : ℕ)
@@ -101,7 +101,7 @@ lag_is w t s =
 
 queue_is : (w : World) (t : Topic) (s : ℕ)
     → queue_shown (map (group_view w) w.topics) t s
-    ≡ shown_with (find_entry s (topic_at w t).subscriptions) (option_map (λ (e : Entry). queue_room w s) (find_entry s (topic_at w t).subscriptions))
+    ≡ shown_with (find_entry s (topic_at w t).subscriptions) (option_map (λ (e : Entry). queue_gauge w s) (find_entry s (topic_at w t).subscriptions))
 queue_is w t s = by_topic w t (shown_at s) (λ x none. no_shown w s x none) ∙ shown_is w s (topic_at w t)
 
 -- ---- a subscription
@@ -123,9 +123,9 @@ open_is w s x topic from =
     let groups = map (group_view w) w.topics in
     let t = (subscription_at w s).topic in
     let lag : lag_in groups x.topic s ≡ entry_to (entry_at w s) = ap (λ (u : Topic). lag_in groups u s) topic ∙ lag_is w t s in
-    let queue : queue_shown groups x.topic s ≡ shown_with (entry_at w s) (option_map (λ (e : Entry). queue_room w s) (entry_at w s)) =
+    let queue : queue_shown groups x.topic s ≡ shown_with (entry_at w s) (option_map (λ (e : Entry). queue_gauge w s) (entry_at w s)) =
     ap (λ (u : Topic). queue_shown groups u s) topic ∙ queue_is w t s in
-    let queued : queued_items (queue_shown groups x.topic s) ≡ entry_items (entry_at w s) = ap queued_items queue ∙ queued_with (entry_at w s) (queue_room w s) in
+    let queued : queued_items (queue_shown groups x.topic s) ≡ entry_items (entry_at w s) = ap queued_items queue ∙ queued_with (entry_at w s) (queue_gauge w s) in
     let handed : handed_items (queue_shown groups x.topic s) ≡ take (subscription_at w s).taken (entry_items (entry_at w s)) =
     ap handed_items queue ∙ handed_with w s (entry_at w s) in
     λ i. record {

@@ -2,11 +2,12 @@
 use Rattle.std.proofs.Common.{◌≡◌, ℕ, ◌==◌, ◌||◌, Bool, true, false, cond, not, List, [], ◌∷◌, ◌++◌, Option, Some, None, refl, sym, ap, ◌∙◌}
 use Rattle.std.specs.Prelude.{codes}
 use Rattle.std.specs.Option.{is_some, option_to_list, unwrap_or}
-use Rattle.std.proofs.lemmas.Bool.{true≢false, false≢true}
+use Rattle.std.proofs.lemmas.Bool.{true≢false, false≢true, not-true, not-false}
 use Rattle.stomp_frame.specs.declared.command.Command.{Command}
 use Rattle.stomp_frame.specs.declared.command.Command.TheVariants as commands
 use Rattle.stomp_frame.specs.declared.raw_frame.RawFrame.{RawFrame}
 use Rattle.stomp_frame.specs.Cases.{is_connect}
+use Rattle.stomp_frame.proofs.Names.{or_third}
 use Rattle.mcast_txn.specs.Checks.{first_refusal}
 use Rattle.mcast_txn.specs.declared.draft.sent_message.SentMessage.{SentMessage}
 use Rattle.mcast_group.proofs.Parts.{none_some}
@@ -21,7 +22,7 @@ use Rattle.delivery.specs.declared.event.Event.{Event}
 use Rattle.delivery.specs.Machine.World.{connection_at}
 use Rattle.delivery.specs.Core.Claims.{Claim, begun_count, claim_of, claimed_sender, claims_of, sender_claimed}
 use Rattle.delivery.specs.Core.State.{Core, session_at}
-use Rattle.delivery.specs.Core.Steps.{CoreStep, accepted_in, accepted_of, frame_from, frame_in, has_effect}
+use Rattle.delivery.specs.Core.Steps.{CoreStep, accepted_of, frame_from, frame_in, has_effect}
 use Rattle.delivery.specs.Inner.Stands.{IsReached}
 use Rattle.delivery.proofs.Views.Runs.ByRunOfCore.{stand_of}
 
@@ -31,12 +32,7 @@ any_append [] ys = none (is_connected ys)
     none : (b : Bool) → b ≡ (b || false)
     none true = refl
     none false = refl
-any_append (x ∷ xs) ys = ap (λ (b : Bool). is_connect x.command || b) (any_append xs ys) ∙ swap (is_connect x.command) (is_connected ys) (is_connected xs)
-  where
-    swap : (a b c : Bool) → (a || (b || c)) ≡ (b || (a || c))
-    swap true true c = refl
-    swap true false c = refl
-    swap false b c = refl
+any_append (x ∷ xs) ys = ap (λ (b : Bool). is_connect x.command || b) (any_append xs ys) ∙ or_third (is_connect x.command) (is_connected ys) (is_connected xs)
 
 -- the CONNECTs that were accepted of a connection are its claims
 pub connected_claims : (c : ℕ) (steps : List CoreStep) → is_connected (accepted_of c steps) ≡ is_some (sender_claimed c (claims_of steps))
@@ -117,14 +113,6 @@ opens_connect _ s f connect e = absurd (false≢true connect)
 sender_is : (k : Core) (c : ℕ) → IsReached k → is_some (connection_at k.world c).sender ≡ is_connected (accepted_of c k.steps)
 sender_is k c reached = ap (λ (o : Option ℕ). is_some o) ((stand_of k reached).spoken c) ∙ sym (connected_claims c k.steps)
 
-not_false : (b : Bool) → not b ≡ false → b ≡ true
-not_false true e = refl
-not_false false e = absurd (true≢false e)
-
-not_true : (b : Bool) → not b ≡ true → b ≡ false
-not_true true e = absurd (false≢true e)
-not_true false e = refl
-
 -- a connection of which a frame other than a CONNECT is accepted has a sender
 pub has_sender : (k : Core) (c : ℕ) (f : RawFrame) → IsReached k → is_connect f.command ≡ false → session_fault (session_at k c) f ≡ None
     → is_some (connection_at k.world c).sender ≡ true
@@ -132,7 +120,7 @@ has_sender k c f reached other free =
     let s = session_at k c in
     let first = first_holds (is_closed s.phase) SessionFault.Closed (open_refusals f.command s f) free in
     sender_is k c reached
-    ∙ not_false (is_connected (accepted_of c k.steps)) (sym (phase_new (accepted_of c k.steps) first.0) ∙ opens_other f.command s f other first.1)
+    ∙ not-false (is_connected (accepted_of c k.steps)) (sym (phase_new (accepted_of c k.steps) first.0) ∙ opens_other f.command s f other first.1)
 
 none_of : (o : Option ℕ) → is_some o ≡ false → o ≡ None
 none_of None e = refl
@@ -145,7 +133,7 @@ has_none k c f reached connect free =
     let s = session_at k c in
     let first = first_holds (is_closed s.phase) SessionFault.Closed (open_refusals f.command s f) free in
     none_of (connection_at k.world c).sender (sender_is k c reached
-    ∙ not_true (is_connected (accepted_of c k.steps)) (sym (phase_new (accepted_of c k.steps) first.0) ∙ opens_connect f.command s f connect first.1))
+    ∙ not-true (is_connected (accepted_of c k.steps)) (sym (phase_new (accepted_of c k.steps) first.0) ∙ opens_connect f.command s f connect first.1))
 
 -- a frame that commits is no CONNECT
 pub commits_other : (command : Command) (s : Held) (f : RawFrame) (sends : List SentMessage) → action_by command s f ≡ actions.Commit sends → is_connect command ≡ false

@@ -41,7 +41,7 @@ unused_rests w s own unused =
 rested_undecided : (z : Sending) → is_undecided (rested_sending z) ≡ is_undecided z
 rested_undecided (Sending.Idle gate) = refl
 rested_undecided Sending.Resting = refl
-rested_undecided (Sending.Flying flight row) = refl
+rested_undecided (Sending.Flying flight topics) = refl
 rested_undecided (Sending.Marked gate tickets fault) = refl
 
 pub held_undecided : (w : World) (s : ℕ) → is_undecided (held_sender w s).sending ≡ is_undecided (sender_view s (sender_at w s)).sending

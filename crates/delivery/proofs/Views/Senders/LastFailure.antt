@@ -1,6 +1,7 @@
 -- The account has why an undecided transaction is marked: the last of its proposals that failed.
 use Rattle.std.proofs.Common.{◌≡◌, ℕ, ◌+◌, ◌<◌, Bool, false, cond, List, [], ◌∷◌, ◌++◌, length, set, Option, Some, None, refl, sym, ap, ◌∙◌}
 use Rattle.std.specs.Prelude.{slice_get}
+use Rattle.std.proofs.lemmas.Bool.{not-false}
 use Rattle.mcast_txn.specs.declared.id.Topic.{Topic}
 use Rattle.mcast_txn.specs.declared.id.TxnId.{TxnId}
 use Rattle.mcast_txn.specs.declared.draft.sent_message.SentMessage.{SentMessage}
@@ -24,7 +25,7 @@ use Rattle.delivery.specs.Core.State.{Core}
 use Rattle.delivery.specs.Inner.Stands.{IsReached}
 use Rattle.delivery.proofs.Machine.Invariant.{sender_in}
 use Rattle.delivery.proofs.Machine.SubscriptionSteps.{at_push_two}
-use Rattle.delivery.proofs.Machine.InvariantIsKept.{by_refusal, checked, in_flight, false_not}
+use Rattle.delivery.proofs.Machine.InvariantIsKept.{by_refusal, checked, in_flight}
 use Rattle.delivery.proofs.Core.ByRun.{by_run}
 use Rattle.delivery.proofs.Core.Said.{said}
 use Rattle.delivery.proofs.Core.AccountOfRun.{spoken}
@@ -138,7 +139,7 @@ happens r (Unsubscribes c s) h n = let w = final_world r in noted (answers_of r)
 happens r (Leaves c) h n = let w = final_world r in gone (answers_of r) w c (oldest_live c 0 w.subscriptions) h
 happens r (Proposes c t memory) h n =
     let w = final_world r in let k = checked w (Proposes c t memory) n in let fl = in_flight w c k.1.1.0 in
-    let own = flying_speaker w c (false_not _ k.1.1.0) in
+    let own = flying_speaker w c (not-false _ k.1.1.0) in
     proposed r c t (proposal_fault w c t memory) ((spoken r).speaks.there c (speaker_number w c) own) (fl.is ∙ ap Some (sym fl.at)) h
 happens r (Decides c) h n =
     let w = final_world r in

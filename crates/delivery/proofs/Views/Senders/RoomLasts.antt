@@ -10,7 +10,6 @@ use Rattle.mcast_txn.specs.declared.draft.sent_message.SentMessage.{SentMessage}
 use Rattle.mcast_txn.specs.Ballot.{ticket_rows}
 use Rattle.mcast_txn.specs.Part.{part_at}
 use Rattle.mcast_txn.specs.Slots.{Slots, held_at, with_slot}
-use Rattle.mcast_txn.specs.Span.{LogRow}
 use Rattle.mcast_txn.specs.Transaction.{TopicPart, topics_of}
 use Rattle.mcast_group.proofs.Parts.{some_same, none_some}
 use Rattle.sender_gate.specs.Gate.{GateState, FlightState, flight_of}
@@ -36,10 +35,10 @@ own_at id sends (u ∷ us) t p e = by_case (own_at id sends us t p) (u.0 == t.0)
     by_case later false same is = later is
 
 -- a sender with this much room has it where a transaction begins
-pub launched_room : (gate : GateState) (sends : List SentMessage) (flight : FlightState) (row : LogRow) (many leftovers capacity : ℕ)
-    → flight ≡ flight_of gate sends → many ≡ length (topics_of sends) → leftovers + many ≤ capacity → KeepsRoom (Sending.Flying flight row) leftovers capacity
-launched_room gate sends flight row many leftovers capacity is count room =
-    subst (λ (f : FlightState). KeepsRoom (Sending.Flying f row) leftovers capacity) (sym is) (record {
+pub launched_room : (gate : GateState) (sends : List SentMessage) (flight : FlightState) (topics : List Topic) (many leftovers capacity : ℕ)
+    → flight ≡ flight_of gate sends → many ≡ length (topics_of sends) → leftovers + many ≤ capacity → KeepsRoom (Sending.Flying flight topics) leftovers capacity
+launched_room gate sends flight topics many leftovers capacity is count room =
+    subst (λ (f : FlightState). KeepsRoom (Sending.Flying f topics) leftovers capacity) (sym is) (record {
       room = (let n = length-map {B = Topic × Option ℕ} (topics_of sends) (λ t. (t, None)) in omega (arith, n, count, room));
       own = own_at (flight_of gate sends).id sends (topics_of sends);
     })
@@ -69,9 +68,9 @@ pub own_less : (t : Topic) (parts : Slots TopicPart) → AreOwn parts → AreOwn
 own_less t parts own u p e = own u p (held_less t u parts p e)
 
 -- so the room is there still
-pub taken_room : (t : Topic) (flight : FlightState) (row : LogRow) (leftovers capacity : ℕ) → KeepsRoom (Sending.Flying flight row) leftovers capacity
-    → KeepsRoom (Sending.Flying (record flight { parts = with_slot t None flight.parts }) row) leftovers capacity
-taken_room t flight row leftovers capacity h = record { room = h.room; own = own_less t flight.parts h.own }
+pub taken_room : (t : Topic) (flight : FlightState) (topics : List Topic) (leftovers capacity : ℕ) → KeepsRoom (Sending.Flying flight topics) leftovers capacity
+    → KeepsRoom (Sending.Flying (record flight { parts = with_slot t None flight.parts }) topics) leftovers capacity
+taken_room t flight topics leftovers capacity h = record { room = h.room; own = own_less t flight.parts h.own }
 
 -- there are no more tickets than topics
 pub few_tickets : (tickets : Slots ℕ) → length (ticket_rows tickets) ≤ length tickets

@@ -5,9 +5,8 @@ use Rattle.std.specs.List.{list_all, list_any}
 use Rattle.std.specs.Map.{lookup}
 use Rattle.std.specs.Option.{option_map_or, unwrap_or}
 use Rattle.std.specs.Str.{bytes_eq}
-use Rattle.std.proofs.lemmas.Bool.{false≢true, lt-ltb}
+use Rattle.std.proofs.lemmas.Bool.{false≢true, lt-ltb, and_from, and_parts}
 use Rattle.std.proofs.lemmas.List.{length-append}
-use Rattle.std.proofs.lemmas.List.Recursion.{is_position_or_len}
 use Rattle.mcast_txn.specs.Lists.{In}
 use Rattle.mcast_txn.specs.declared.id.Topic.{Topic}
 use Rattle.mcast_txn.specs.declared.draft.sent_message.SentMessage.{SentMessage}
@@ -21,7 +20,7 @@ use Rattle.stomp_session.specs.Frames.{field, has_destination, is_begin, is_send
 use Rattle.stomp_session.specs.Names.{is_known, index_of}
 use Rattle.stomp_session.specs.Open.{Held, is_ended, open_transactions, transactions_left}
 use Rattle.stomp_session.specs.Refusals.{sends_in}
-use Rattle.stomp_session.proofs.Later.{known-with_destination, topic-with_destination, with_destination-grows}
+use Rattle.stomp_session.proofs.Later.{known-with_destination, topic-with_destination, with_destination-grows, first_index, index_is_first, send_has}
 use Rattle.delivery.specs.Machine.World.{World}
 use Rattle.delivery.specs.Machine.Moves.{is_topic}
 use Rattle.delivery.specs.Core.Steps.{accepted_of}
@@ -34,20 +33,11 @@ use Rattle.delivery.proofs.Core.NamesKnown.{known_all}
 abbrev Knows : List (List ℕ) → RawFrame → Type 0
 Knows names f = is_send f.command ≡ true → is_known (field (codes "destination") f) names ≡ true
 
--- a SEND has a destination
-sends_somewhere : (command : Command) → is_send command ≡ true → has_destination command ≡ true
-sends_somewhere commands.Send sent = refl
-sends_somewhere _ sent = absurd (false≢true sent)
-
 -- ---- SENDs to topics
 
-abbrev first_place : (List ℕ → Bool) → List (List ℕ) → ℕ
-first_place p [] = 0
-first_place p (x ∷ xs) = cond (p x) 0 (1 + first_place p xs)
-
-before_end : (p : List ℕ → Bool) (xs : List (List ℕ)) → list_any p xs ≡ true → first_place p xs < length xs
+before_end : (p : List ℕ → Bool) (xs : List (List ℕ)) → list_any p xs ≡ true → first_index p xs < length xs
 before_end p [] e = absurd (false≢true e)
-before_end p (x ∷ xs) e = at_first (p x) (list_any p xs) (first_place p xs) (length xs) e (before_end p xs)
+before_end p (x ∷ xs) e = at_first (p x) (list_any p xs) (first_index p xs) (length xs) e (before_end p xs)
   where
     at_first : (b c : Bool) (m n : ℕ) → (b || c) ≡ true → (c ≡ true → m < n) → cond b 0 (1 + m) < suc n
     at_first true c m n e h = omega arith
@@ -56,7 +46,7 @@ before_end p (x ∷ xs) e = at_first (p x) (list_any p xs) (first_place p xs) (l
 place_within : (name : List ℕ) (names : List (List ℕ)) → is_known name names ≡ true → index_of name names < length names
 place_within name names e =
     let l = before_end (bytes_eq name) names e in
-    let same : first_place (bytes_eq name) names ≡ index_of name names = is_position_or_len (first_place (bytes_eq name)) (bytes_eq name) refl (λ x xs. refl) names in
+    let same : first_index (bytes_eq name) names ≡ index_of name names = index_is_first name names in
     omega (arith, l, same)
 
 -- each is to a topic that there is
@@ -69,13 +59,6 @@ topic_there w names f many known sent =
     let l = place_within (field (codes "destination") f) names (known sent) in
     lt-ltb (index_of (field (codes "destination") f) names) (length w.topics) (omega (arith, l, many))
 
-named_both : (a b : Bool) → a ≡ true → b ≡ true → (a && b) ≡ true
-named_both a b x y = λ i. x i && y i
-
-first_part : (a b : Bool) → (a && b) ≡ true → a ≡ true
-first_part true b e = refl
-first_part false b e = e
-
 sent_named : (w : World) (names : List (List ℕ)) (x : List ℕ) (fs : List RawFrame) → length names ≤ length w.topics
     → ((g : RawFrame) → In g fs → Knows names g) → AreNamed w (map (send_of names) (filter (is_send_in x) fs))
 sent_named w names x [] many known = refl
@@ -85,7 +68,7 @@ sent_named w names x (f ∷ fs) many known =
     go : (b : Bool) → is_send_in x f ≡ b → AreNamed w (map (send_of names) (filter (is_send_in x) fs))
         → AreNamed w (map (send_of names) (cond b (f ∷ filter (is_send_in x) fs) (filter (is_send_in x) fs)))
     go false e h = h
-    go true e h = named_both _ _ (topic_there w names f many (known f (inl refl)) (first_part _ _ e)) h
+    go true e h = and_from _ _ (topic_there w names f many (known f (inl refl)) (and_parts _ _ e).0) h
 
 found_named : (w : World) (names : List (List ℕ)) (x : List ℕ) (fs : List RawFrame) → length names ≤ length w.topics
     → ((g : RawFrame) → In g fs → Knows names g) → AreNamed w (sends_in x (transactions_left names fs))
@@ -133,7 +116,7 @@ made_alone : (w : World) (s : Held) (f : RawFrame) (sends : List SentMessage) (o
     → option_map_or (λ transaction. actions.Nothing) o (commit (send_of s.names f ∷ [])) ≡ actions.Commit sends
     → is_topic w (topic_of s.names f) ≡ true → AreSends w sends
 made_alone w s f sends (Some x) e h = absurd (cc)
-made_alone w s f sends None e h = made_commit w (send_of s.names f ∷ []) sends e (named_both _ _ h refl)
+made_alone w s f sends None e h = made_commit w (send_of s.names f ∷ []) sends e (and_from _ _ h refl)
 
 made_by : (command : Command) (w : World) (s : Held) (f : RawFrame) (sends : List SentMessage) → action_by command s f ≡ actions.Commit sends
     → (is_send command ≡ true → is_topic w (topic_of s.names f) ≡ true)
@@ -170,5 +153,5 @@ committed_sends k c f sends reached is =
     let more = ap (λ (z : List (List ℕ)). length z) grown.is ∙ length-append names grown.more in
     let many : length names ≤ length w.topics = omega (arith, made, more) in
     made_by f.command w (session_at k c) f sends is
-    (λ sent. topic_made k f reached (sends_somewhere f.command sent))
-    (λ x. open_named w names x (accepted_of c k.steps) many (λ g i sent. known_all k.names k.steps c g i (sends_somewhere g.command sent)))
+    (λ sent. topic_made k f reached (send_has f.command sent))
+    (λ x. open_named w names x (accepted_of c k.steps) many (λ g i sent. known_all k.names k.steps c g i (send_has g.command sent)))

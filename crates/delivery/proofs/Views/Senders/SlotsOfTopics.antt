@@ -3,6 +3,7 @@ use Rattle.std.proofs.Common.{◌≡◌, ◌≢◌, ℕ, ◌==◌, Bool, true, f
 use Rattle.std.proofs.lemmas.Bool.{eqb-true, eq-eqb, true≢false, or_parts}
 use Rattle.std.specs.List.{find}
 use Rattle.std.specs.Option.{option_map, option_and_then}
+use Rattle.stomp_frame.proofs.Names.{or_third}
 use Rattle.mcast_txn.specs.declared.id.Topic.{Topic}
 use Rattle.mcast_txn.specs.declared.stamp.Stamp.{Stamp}
 use Rattle.mcast_txn.specs.Ballot.{row_at}
@@ -55,15 +56,10 @@ pub ticket_inserted : (a : Stamp) (u : Topic) (given : List Stamp) → has_ticke
 ticket_inserted a u [] = refl
 ticket_inserted a u (b ∷ bs) = go (nat_lt a.topic.0 b.topic.0) (ticket_inserted a u bs)
   where
-    turned : (p q r : Bool) → (p || (q || r)) ≡ (q || (p || r))
-    turned true true r = refl
-    turned true false r = refl
-    turned false q r = refl
-
     go : (c : Bool) → has_ticket u (insert_ticket a bs) ≡ ((a.topic.0 == u.0) || has_ticket u bs)
         → has_ticket u (cond c (a ∷ b ∷ bs) (b ∷ insert_ticket a bs)) ≡ ((a.topic.0 == u.0) || has_ticket u (b ∷ bs))
     go true later = refl
-    go false later = ap (λ (z : Bool). (b.topic.0 == u.0) || z) later ∙ turned (b.topic.0 == u.0) (a.topic.0 == u.0) (has_ticket u bs)
+    go false later = ap (λ (z : Bool). (b.topic.0 == u.0) || z) later ∙ or_third (b.topic.0 == u.0) (a.topic.0 == u.0) (has_ticket u bs)
 
 -- a topic's number, of two that are looked at in turn
 abbrev first_of : Bool → ℕ → Option ℕ → Option ℕ

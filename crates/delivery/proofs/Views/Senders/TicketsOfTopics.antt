@@ -15,6 +15,7 @@ use Rattle.mcast_txn.specs.Slots.{Slots}
 use Rattle.mcast_txn.specs.Span.{Item}
 use Rattle.mcast_txn.specs.Transaction.{topics_of}
 use Rattle.mcast_txn.specs.TopicSet.{names}
+use Rattle.mcast_txn.proofs.Inserting.{In-insert_cases}
 use Rattle.mcast_txn.proofs.Members.{at_set}
 use Rattle.mcast_txn.proofs.TopicLemmas.{topics_rise}
 use Rattle.mcast_group.specs.declared.fault.ProposeFault.{ProposeFault}
@@ -28,7 +29,7 @@ use Rattle.delivery.specs.Theorem.Laws.{Run, final_world}
 use Rattle.delivery.specs.Core.State.{Core}
 use Rattle.delivery.specs.Inner.Stands.{IsReached}
 use Rattle.delivery.proofs.Machine.Invariant.{sender_in}
-use Rattle.delivery.proofs.Machine.ProposeStep.{In-ticket_cases, not_given}
+use Rattle.delivery.proofs.Machine.ProposeStep.{not_given}
 use Rattle.delivery.proofs.Machine.SubscriptionSteps.{at_push_two}
 use Rattle.delivery.proofs.Machine.InvariantIsKept.{Asks, asks_of, by_refusal}
 use Rattle.delivery.proofs.Core.ByRun.{by_run}
@@ -49,7 +50,7 @@ insert_rises a b bs true e ne h g =
     ((λ d i. elim i [ inl q ↦ subst (λ (z : Stamp). a.topic.0 < z.topic.0) q l | inr j ↦ (let m = h.0 d j in omega arith) ]), h)
 insert_rises a b bs false e ne h g =
     let l = ltb-false a.topic.0 b.topic.0 e in (
-      (λ d i. elim (In-ticket_cases d a bs i) [
+      (λ d i. elim (In-insert_cases _ d a bs i) [
         | inl q ↦ subst (λ (z : Stamp). b.topic.0 < z.topic.0) q (omega arith)
         | inr j ↦ h.0 d j
       ]),
@@ -89,7 +90,7 @@ proposed w c t None asks h =
     written w.senders s (record (speaker w c) { flight = Some new })
     (λ y e. subst Given (some_same new y e) (record {
       rising = rises_insert (next_ticket w c t) f.given (not_given t f.given asks.unheard) g.rising;
-      named = λ a i. elim (In-ticket_cases a (next_ticket w c t) f.given i) [
+      named = λ a i. elim (In-insert_cases _ a (next_ticket w c t) f.given i) [
         | inl q ↦ subst (λ (z : Stamp). names z.topic (topics_of f.txn.sends) ≡ true) q asks.named
         | inr j ↦ g.named a j
       ];

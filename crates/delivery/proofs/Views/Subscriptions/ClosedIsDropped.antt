@@ -1,23 +1,23 @@
 -- A subscription that is closed.
-use Rattle.std.proofs.Common.{◌≡◌, ◌≢◌, ℕ, zero, suc, ◌+◌, ◌<◌, ◌≤◌, ◌==◌, Bool, true, false, cond, not, ◌&&◌, inl, inr, List, [], ◌∷◌, filter, map, length, get_or, set, Option, Some, None, refl, sym, ap, subst, ◌∙◌, true≢false, arith}
+use Rattle.std.proofs.Common.{◌≡◌, ◌≢◌, ℕ, zero, suc, ◌+◌, ◌<◌, ◌≤◌, ◌==◌, Bool, true, false, cond, not, ◌&&◌, inl, inr, List, [], ◌∷◌, filter, map, length, get_or, set, Option, Some, None, refl, sym, ap, subst, ◌∙◌, arith}
 use Rattle.std.proofs.Common.{eq-eqb, nat_lt}
 use Rattle.std.specs.Prelude.{slice_get}
 use Rattle.std.specs.List.{position, position_or_len, remove}
 use Rattle.std.specs.Option.{is_some, option_map, option_and_then}
-use Rattle.std.proofs.lemmas.Bool.{eqb-true}
+use Rattle.std.proofs.lemmas.Bool.{eqb-true, cases_lt}
 use Rattle.std.proofs.lemmas.Option.{slice_get-get_or, get_or_from_slice_get}
 use Rattle.std.proofs.lemmas.List.{get_or-map, map-set, set-get_or, get_or-set_same, get_or-set_other}
-use Rattle.mcast_txn.specs.Lists.{In}
 use Rattle.mcast_txn.proofs.Members.{at_set}
 use Rattle.mcast_txn.specs.declared.id.Topic.{Topic}
 use Rattle.mcast_txn.specs.Stamp.{zero_stamp}
 use Rattle.stomp_frame.specs.declared.raw_frame.RawFrame.{RawFrame}
 use Rattle.stomp_frame.specs.Reader.{Unread}
-use Rattle.sub_queue.specs.Shown.{Room}
+use Rattle.sub_queue.specs.Shown.{Gauge}
 use Rattle.mcast_group.specs.Sound.{NumbersDiffer}
-use Rattle.mcast_group.specs.Group.{GroupState, room_at, rooms_without, group_after_unsubscribe}
-use Rattle.mcast_group.specs.Machine.{TopicState, Entry, EntryEnd, new_topic, find_entry, end_of, after_unsubscribe}
+use Rattle.mcast_group.specs.Group.{GroupState, gauge_at, gauges_without, group_after_unsubscribe}
+use Rattle.mcast_group.specs.Machine.{TopicState, Entry, new_topic, find_entry, end_of, after_unsubscribe}
 use Rattle.mcast_group.proofs.Numbers.{numbers_differ}
+use Rattle.mcast_group.proofs.Subscribing.{others_stay}
 use Rattle.delivery.specs.Machine.World.{World, Connection, Subscription, no_subscription, nobody, topic_at, subscription_at, entry_at}
 use Rattle.delivery.specs.Machine.Moves.{is_live, end_now, close_effect, close_effect_of}
 use Rattle.delivery.specs.Theorem.Laws.{final_world}
@@ -25,16 +25,16 @@ use Rattle.delivery.specs.Core.State.{Core, names_at}
 use Rattle.delivery.specs.Core.Reports.{each_number}
 use Rattle.delivery.specs.Inner.Stands.{IsReached}
 use Rattle.delivery.specs.Core.Connections.{live_numbers}
-use Rattle.delivery.specs.Inner.View.{View, EndpointView, SubView, LeftView, view_with, group_view, queue_room, left_view, endpoint_view, sub_view, no_group, no_endpoint, group_in}
+use Rattle.delivery.specs.Inner.View.{View, EndpointView, SubView, LeftView, view_with, group_view, queue_gauge, left_view, endpoint_view, sub_view, no_group, no_endpoint, group_in}
 use Rattle.delivery.specs.Inner.Subscriptions.{no_sub, left_with, left_in, left_at, without_number, shorter_endpoint, closed_with, closed_if_left, closed_view}
 use Rattle.delivery.proofs.Machine.SubscriptionSteps.{found_entry, beyond}
-use Rattle.delivery.proofs.Theorem.SpansAsAnswered.{within}
 use Rattle.delivery.proofs.Theorem.TopicsAreSound.{topics_are_sound}
 use Rattle.delivery.proofs.Views.Runs.ByRunOfCore.{by_world}
 use Rattle.delivery.proofs.Views.Runs.AccountOfTransactions.{has_entry}
 use Rattle.delivery.proofs.Views.Lists.ByNumber.{each_number-set, get_or-each_number, length-each_number}
-use Rattle.delivery.proofs.Views.Subscriptions.RoomsOfEntries.{room_found}
+use Rattle.delivery.proofs.Views.Subscriptions.GaugesOfEntries.{gauge_found}
 use Rattle.delivery.proofs.Views.Endpoints.StandingOfConnection.{differ}
+use Rattle.delivery.proofs.Theorem.ClosedAsAnswered.{live_unclosed}
 
 -- ---- a number that is taken out
 
@@ -108,30 +108,24 @@ same_groups v i = ap (λ (gs : List GroupState). record v { groups = gs }) (set-
 
 -- ---- a group
 
-others_stay : (s : ℕ) (es : List Entry) → ((e : Entry) → In e es → e.number ≢ s) → filter (λ (e : Entry). not (e.number == s)) es ≡ es
-others_stay s [] h = refl
-others_stay s (e ∷ es) h =
-    ap (λ (b : Bool). cond (not b) (e ∷ filter (λ (f : Entry). not (f.number == s)) es) (filter (λ (f : Entry). not (f.number == s)) es)) (differ e.number s (h e (inl refl)))
-    ∙ ap (λ (fs : List Entry). e ∷ fs) (others_stay s es (λ f i. h f (inr i)))
-
-rooms_left : (room : ℕ → Room) (s : ℕ) (es : List Entry) → NumbersDiffer es
-    → rooms_without s es (map (λ e. room e.number) es) ≡ map (λ e. room e.number) (filter (λ (e : Entry). not (e.number == s)) es)
-rooms_left room s [] h = refl
-rooms_left room s (e ∷ es) h = by (e.number == s) refl (rooms_left room s es h.1)
+gauges_left : (gauge : ℕ → Gauge) (s : ℕ) (es : List Entry) → NumbersDiffer es
+    → gauges_without s es (map (λ e. gauge e.number) es) ≡ map (λ e. gauge e.number) (filter (λ (e : Entry). not (e.number == s)) es)
+gauges_left gauge s [] h = refl
+gauges_left gauge s (e ∷ es) h = by (e.number == s) refl (gauges_left gauge s es h.1)
   where
     rest : List Entry
     rest = filter (λ (f : Entry). not (f.number == s)) es
 
-    by : (b : Bool) → (e.number == s) ≡ b → rooms_without s es (map (λ f. room f.number) es) ≡ map (λ f. room f.number) rest
-        → cond b (map (λ f. room f.number) es) (room e.number ∷ rooms_without s es (map (λ f. room f.number) es)) ≡ map (λ f. room f.number) (cond (not b) (e ∷ rest) rest)
-    by true is ih = ap (λ (fs : List Entry). map (λ f. room f.number) fs) (sym (others_stay s es (λ f i same. h.0 f i (same ∙ sym (eqb-true e.number s is)))))
-    by false is ih = ap (λ (rs : List Room). room e.number ∷ rs) ih
+    by : (b : Bool) → (e.number == s) ≡ b → gauges_without s es (map (λ f. gauge f.number) es) ≡ map (λ f. gauge f.number) rest
+        → cond b (map (λ f. gauge f.number) es) (gauge e.number ∷ gauges_without s es (map (λ f. gauge f.number) es)) ≡ map (λ f. gauge f.number) (cond (not b) (e ∷ rest) rest)
+    by true is ih = ap (λ (fs : List Entry). map (λ f. gauge f.number) fs) (sym (others_stay s es (λ f i same. h.0 f i (same ∙ sym (eqb-true e.number s is)))))
+    by false is ih = ap (λ (rs : List Gauge). gauge e.number ∷ rs) ih
 
 -- the group without an entry is that of the world's topic without it
 unsubscribed_group : (w : World) (s : ℕ) (x : TopicState) → NumbersDiffer x.subscriptions
     → group_after_unsubscribe s (group_view w x) ≡ group_view w (after_unsubscribe s x)
 unsubscribed_group w s x h =
-    ap (λ (rooms : List Room). record { topic = after_unsubscribe s x; rooms = rooms }) (rooms_left (queue_room w) s x.subscriptions h)
+    ap (λ (gauges : List Gauge). record { topic = after_unsubscribe s x; gauges = gauges }) (gauges_left (queue_gauge w) s x.subscriptions h)
 
 -- ---- live numbers
 
@@ -182,30 +176,21 @@ live_owned c x e = eqb-true x.connection c (first (x.connection == c) e)
     first true e = refl
     first false e = e
 
--- it isn't closed
-pub live_unclosed : (c : ℕ) (x : Subscription) → is_live c x ≡ true → x.closed ≡ None
-live_unclosed c x e = by (x.connection == c) x.closed e
-  where
-    by : (b : Bool) (o : Option EntryEnd) → (b && not (is_some o)) ≡ true → o ≡ None
-    by b None e = refl
-    by true (Some end) e = absurd (true≢false (sym e))
-    by false (Some end) e = absurd (true≢false (sym e))
-
 not_live : (c : ℕ) (b : Bool) → (b && false) ≡ false
 not_live c true = refl
 not_live c false = refl
 
 -- what the queue of a subscription shows of what was taken stays
-room_stays : (w : World) (s : ℕ) (x : Subscription) (topics : List TopicState) → x.taken ≡ (subscription_at w s).taken → (n : ℕ)
-    → queue_room w n ≡ queue_room (record w { topics = topics; subscriptions = set w.subscriptions s x }) n
-room_stays w s x topics same n =
+gauge_stays : (w : World) (s : ℕ) (x : Subscription) (topics : List TopicState) → x.taken ≡ (subscription_at w s).taken → (n : ℕ)
+    → queue_gauge w n ≡ queue_gauge (record w { topics = topics; subscriptions = set w.subscriptions s x }) n
+gauge_stays w s x topics same n =
     ap (λ (taken : ℕ). record { capacity = w.capacity; taken = Some taken })
     (at_set (λ (z : Subscription). (subscription_at w n).taken ≡ z.taken) w.subscriptions s n x no_subscription
     (λ e. ap (λ (m : ℕ). (subscription_at w m).taken) e ∙ sym same) refl)
 
 -- the topic of an entry is there
 entry_topic : (w : World) (s : ℕ) (e : Entry) → entry_at w s ≡ Some e → (subscription_at w s).topic.0 < length w.topics
-entry_topic w s e found = elim (within (subscription_at w s).topic.0 (length w.topics)) [
+entry_topic w s e found = elim (cases_lt (subscription_at w s).topic.0 (length w.topics)) [
   | inl l ↦ l
   | inr far ↦ no_entry (sym (ap (λ (x : TopicState). find_entry s x.subscriptions) (beyond w.topics (subscription_at w s).topic.0 (new_topic (subscription_at w s).topic 0 0) far)) ∙ found)
 ]
@@ -234,10 +219,10 @@ left_is names w s e accepted unread text ids there found =
     ∙ ap (λ (z : SubView). Some z) (get_or-each_number h 0 w.subscriptions s (h s) there ∙ ap h first) in
     let group : group_in v x.topic ≡ group_view w y = get_or-map (group_view w) w.topics x.topic.0 (new_topic x.topic 0 0) no_group (entry_topic w s e found) in
     let entry = found_entry s y.subscriptions e found in
-    let room : room_at s y.subscriptions (map (λ e. queue_room w e.number) y.subscriptions) ≡ Some (queue_room w s) =
-    room_found (queue_room w) y.subscriptions s e entry.stands (sym entry.is) in
+    let gauge : gauge_at s y.subscriptions (map (λ e. queue_gauge w e.number) y.subscriptions) ≡ Some (queue_gauge w s) =
+    gauge_found (queue_gauge w) y.subscriptions s e entry.stands (sym entry.is) in
     let left : left_in s (group_view w y) ≡ Some (leaves w s e) =
-    (λ i. left_with y.frontier (found i) (room i)) in
+    (λ i. left_with y.frontier (found i) (gauge i)) in
     (sub, close_some v s (h s) (leaves w s e) sub (ap (left_in s) group ∙ left))
 
 -- the view of a world in which a subscription with this entry is closed
@@ -257,12 +242,12 @@ closed_in names w c s e accepted unread text ids spoken there live found numbers
     let topic : t.0 < length w.topics = entry_topic w s e found in
     let from : 0 + s ≡ s = omega arith in
     let first : c ≡ 0 + c = omega arith in
-    let rooms : queue_room w ≡ queue_room u = λ i n. room_stays w s x' (set w.topics t.0 (after_unsubscribe s y)) refl n i in
+    let gauges : queue_gauge w ≡ queue_gauge u = λ i n. gauge_stays w s x' (set w.topics t.0 (after_unsubscribe s y)) refl n i in
     let groups : set v.groups t.0 (group_after_unsubscribe s (group_in v t)) ≡ map (group_view u) (set w.topics t.0 (after_unsubscribe s y)) =
     ap (λ (g : GroupState). set v.groups t.0 (group_after_unsubscribe s g)) (get_or-map (group_view w) w.topics t.0 (new_topic t 0 0) no_group topic)
     ∙ (ap (λ (g : GroupState). set v.groups t.0 g) (unsubscribed_group w s y numbers)
     ∙ (sym (map-set (group_view w) w.topics t.0 (after_unsubscribe s y))
-    ∙ ap (λ (room : ℕ → Room). map (λ (z : TopicState). record { topic = z; rooms = map (λ e. room e.number) z.subscriptions }) (set w.topics t.0 (after_unsubscribe s y))) rooms)) in
+    ∙ ap (λ (gauge : ℕ → Gauge). map (λ (z : TopicState). record { topic = z; gauges = map (λ e. gauge e.number) z.subscriptions }) (set w.topics t.0 (after_unsubscribe s y))) gauges)) in
     let f = λ (n : ℕ). endpoint_view names w n (accepted n) (unread n) (text n) in
     let g = λ (n : ℕ). endpoint_view names u n (accepted n) (unread n) (text n) in
     let endpoint_with : ℕ → List ℕ → EndpointView = λ n ns. record (f n) { live = ns } in

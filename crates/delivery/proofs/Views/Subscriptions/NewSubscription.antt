@@ -12,8 +12,8 @@ use Rattle.mcast_txn.specs.declared.stamp.Stamp.{Stamp}
 use Rattle.stomp_frame.specs.declared.raw_frame.RawFrame.{RawFrame}
 use Rattle.stomp_frame.specs.Reader.{Unread}
 use Rattle.stomp_session.specs.Frames.{id_of}
-use Rattle.sub_queue.specs.Shown.{Room}
-use Rattle.mcast_group.specs.Group.{GroupState, rooms_with, group_after_subscribe}
+use Rattle.sub_queue.specs.Shown.{Gauge}
+use Rattle.mcast_group.specs.Group.{GroupState, gauges_with, group_after_subscribe}
 use Rattle.mcast_group.specs.Machine.{TopicState, Entry, new_topic, insert_entry, after_subscribe}
 use Rattle.mcast_group.proofs.Indices.{in_range}
 use Rattle.delivery.specs.declared.event.Event.{Event}
@@ -24,8 +24,8 @@ use Rattle.delivery.specs.Core.Steps.{CoreStep, Reading}
 use Rattle.delivery.specs.Core.Output.{sub_id_text}
 use Rattle.delivery.specs.Core.Reports.{each_number}
 use Rattle.delivery.specs.Core.Connections.{live_numbers}
-use Rattle.delivery.specs.Inner.View.{EndpointView, SubView, view_with, group_view, queue_room, left_view, endpoint_view, sub_view, no_group, no_endpoint, group_in}
-use Rattle.delivery.specs.Inner.Subscriptions.{longer_endpoint, new_room, subscribed_view}
+use Rattle.delivery.specs.Inner.View.{EndpointView, SubView, view_with, group_view, queue_gauge, left_view, endpoint_view, sub_view, no_group, no_endpoint, group_in}
+use Rattle.delivery.specs.Inner.Subscriptions.{longer_endpoint, new_gauge, subscribed_view}
 use Rattle.delivery.proofs.Machine.SubscriptionSteps.{at_push_two, at_end, beyond}
 use Rattle.delivery.proofs.Views.Lists.ByNumber.{each_number-push, each_number-same, each_number-set, get_or-each_number, length-each_number, index_is, end_is}
 use Rattle.delivery.proofs.Views.Endpoints.StandingOfConnection.{differ}
@@ -50,30 +50,30 @@ live_push c i (y ∷ ys) x = by (is_live c y) (live_push c (i + 1) ys x ∙ ap (
 
 -- ---- a group
 
-rooms_added : (room : ℕ → Room) (e : Entry) (es : List Entry) → rooms_with e.number (room e.number) es (map (λ f. room f.number) es) ≡ map (λ f. room f.number) (insert_entry e es)
-rooms_added room e [] = refl
-rooms_added room e (f ∷ fs) = by (nat_lt e.number f.number) (rooms_added room e fs)
+gauges_added : (gauge : ℕ → Gauge) (e : Entry) (es : List Entry) → gauges_with e.number (gauge e.number) es (map (λ f. gauge f.number) es) ≡ map (λ f. gauge f.number) (insert_entry e es)
+gauges_added gauge e [] = refl
+gauges_added gauge e (f ∷ fs) = by (nat_lt e.number f.number) (gauges_added gauge e fs)
   where
-    by : (b : Bool) → rooms_with e.number (room e.number) fs (map (λ g. room g.number) fs) ≡ map (λ g. room g.number) (insert_entry e fs)
-        → cond b (room e.number ∷ room f.number ∷ map (λ g. room g.number) fs) (room f.number ∷ rooms_with e.number (room e.number) fs (map (λ g. room g.number) fs))
-        ≡ map (λ g. room g.number) (cond b (e ∷ f ∷ fs) (f ∷ insert_entry e fs))
+    by : (b : Bool) → gauges_with e.number (gauge e.number) fs (map (λ g. gauge g.number) fs) ≡ map (λ g. gauge g.number) (insert_entry e fs)
+        → cond b (gauge e.number ∷ gauge f.number ∷ map (λ g. gauge g.number) fs) (gauge f.number ∷ gauges_with e.number (gauge e.number) fs (map (λ g. gauge g.number) fs))
+        ≡ map (λ g. gauge g.number) (cond b (e ∷ f ∷ fs) (f ∷ insert_entry e fs))
     by true rest = refl
-    by false rest = ap (λ (rs : List Room). room f.number ∷ rs) rest
+    by false rest = ap (λ (rs : List Gauge). gauge f.number ∷ rs) rest
 
 -- the group with an entry is that of the world's topic with it
-subscribed_group : (w : World) (x : TopicState) → group_after_subscribe (length w.subscriptions) (new_room w.capacity) (group_view w x) ≡ group_view w (after_subscribe (length w.subscriptions) x)
+subscribed_group : (w : World) (x : TopicState) → group_after_subscribe (length w.subscriptions) (new_gauge w.capacity) (group_view w x) ≡ group_view w (after_subscribe (length w.subscriptions) x)
 subscribed_group w x =
     let n = length w.subscriptions in
     let none : subscription_at w n ≡ no_subscription = beyond w.subscriptions n no_subscription (omega arith) in
-    let room : new_room w.capacity ≡ queue_room w n = ap (λ (z : Subscription). record { capacity = w.capacity; taken = Some z.taken }) (sym none) in
-    ap (λ (r : Room). group_after_subscribe n r (group_view w x)) room
-    ∙ ap (λ (rooms : List Room). record { topic = after_subscribe n x; rooms = rooms }) (rooms_added (queue_room w) (record { number = n; from = x.frontier; to = None; accepted = [] }) x.subscriptions)
+    let gauge : new_gauge w.capacity ≡ queue_gauge w n = ap (λ (z : Subscription). record { capacity = w.capacity; taken = Some z.taken }) (sym none) in
+    ap (λ (r : Gauge). group_after_subscribe n r (group_view w x)) gauge
+    ∙ ap (λ (gauges : List Gauge). record { topic = after_subscribe n x; gauges = gauges }) (gauges_added (queue_gauge w) (record { number = n; from = x.frontier; to = None; accepted = [] }) x.subscriptions)
 
 -- ---- a world
 
 -- what is taken of each queue stays
 taken_stays : (w : World) (x : Subscription) (topics : List TopicState) → x.taken ≡ 0 → (n : ℕ)
-    → queue_room w n ≡ queue_room (record w { topics = topics; subscriptions = w.subscriptions ++ x ∷ [] }) n
+    → queue_gauge w n ≡ queue_gauge (record w { topics = topics; subscriptions = w.subscriptions ++ x ∷ [] }) n
 taken_stays w x topics none n =
     ap (λ (taken : ℕ). record { capacity = w.capacity; taken = Some taken })
     (at_push_two (λ (z : Subscription). (subscription_at w n).taken ≡ z.taken) w.subscriptions n x no_subscription
@@ -97,12 +97,12 @@ subscribed_is names w c id t accepted unread text ids later spoken topic same ow
     let h' : ℕ → SubView = λ m. sub_view u m (later m) in
     let count : length v.subs ≡ n = length-each_number h 0 w.subscriptions in
     let group : group_in v t ≡ group_view w y = get_or-map (group_view w) w.topics t.0 (new_topic t 0 0) no_group topic in
-    let rooms : queue_room w ≡ queue_room u = λ i m. taken_stays w x (set w.topics t.0 (after_subscribe n y)) refl m i in
-    let groups : set v.groups t.0 (group_after_subscribe (length v.subs) (new_room v.capacity) (group_in v t)) ≡ map (group_view u) (set w.topics t.0 (after_subscribe n y)) =
-    (λ i. set v.groups t.0 (group_after_subscribe (count i) (new_room w.capacity) (group i)))
+    let gauges : queue_gauge w ≡ queue_gauge u = λ i m. taken_stays w x (set w.topics t.0 (after_subscribe n y)) refl m i in
+    let groups : set v.groups t.0 (group_after_subscribe (length v.subs) (new_gauge v.capacity) (group_in v t)) ≡ map (group_view u) (set w.topics t.0 (after_subscribe n y)) =
+    (λ i. set v.groups t.0 (group_after_subscribe (count i) (new_gauge w.capacity) (group i)))
     ∙ (ap (λ (g : GroupState). set v.groups t.0 g) (subscribed_group w y)
     ∙ (sym (map-set (group_view w) w.topics t.0 (after_subscribe n y))
-    ∙ ap (λ (room : ℕ → Room). map (λ (z : TopicState). record { topic = z; rooms = map (λ e. room e.number) z.subscriptions }) (set w.topics t.0 (after_subscribe n y))) rooms)) in
+    ∙ ap (λ (gauge : ℕ → Gauge). map (λ (z : TopicState). record { topic = z; gauges = map (λ e. gauge e.number) z.subscriptions }) (set w.topics t.0 (after_subscribe n y))) gauges)) in
     let f : ℕ → EndpointView = λ m. endpoint_view names w m (accepted m) (unread m) (text m) in
     let g : ℕ → EndpointView = λ m. endpoint_view names u m (accepted m) (unread m) (text m) in
     let endpoint_with : ℕ → List ℕ → EndpointView = λ m ns. record (f m) { live = ns } in

@@ -5,7 +5,7 @@ use Rattle.std.proofs.Common.{eq-eqb, nat_lt}
 use Rattle.std.specs.List.{list_any, find}
 use Rattle.std.specs.Option.{is_some, option_map_or, option_or, option_to_list, unwrap_or}
 use Rattle.std.specs.Str.{bytes_eq}
-use Rattle.std.proofs.lemmas.Bool.{eqb-true, lt-ltb, false≢true, or_parts}
+use Rattle.std.proofs.lemmas.Bool.{eqb-true, lt-ltb, false≢true, or_parts, cases_lt}
 use Rattle.std.proofs.lemmas.List.{map-append, get_or_append_left}
 use Rattle.std.proofs.lemmas.Option.{slice_get-get_or}
 use Rattle.std.proofs.lemmas.Slice.Eq.{bytes_eq-Decides}
@@ -22,7 +22,6 @@ use Rattle.stomp_session.specs.Open.{Held, subscriptions_left, is_ended}
 use Rattle.stomp_session.specs.Refusals.{is_open, is_closed, session_fault, open_refusals}
 use Rattle.mcast_txn.specs.declared.id.Topic.{Topic}
 use Rattle.mcast_txn.specs.Lists.{In}
-use Rattle.mcast_txn.specs.Checks.{first_refusal}
 use Rattle.mcast_txn.proofs.Members.{In-push_cases, at_set}
 use Rattle.mcast_group.specs.declared.fault.NoSub.{NoSub}
 use Rattle.mcast_group.specs.Machine.{Entry}
@@ -44,18 +43,18 @@ use Rattle.delivery.specs.Inner.View.{EndpointView, SubView, view_with, endpoint
 use Rattle.delivery.specs.Inner.Subscriptions.{without_number, has_sub_id, number_in}
 use Rattle.delivery.proofs.Machine.SubscriptionSteps.{at_end}
 use Rattle.delivery.proofs.Theorem.NeverRefused.{entries_are_there}
-use Rattle.delivery.proofs.Theorem.SpansAsAnswered.{within}
 use Rattle.delivery.proofs.Core.AccountOfRun.{run_of, world_is}
 use Rattle.delivery.proofs.Core.Speaking.{open_in}
 use Rattle.delivery.proofs.Views.Lists.ByNumber.{get_or-each_number, length-each_number, map_alike}
-use Rattle.delivery.proofs.Views.Subscriptions.ClosedIsDropped.{live_of_own, live_unclosed}
+use Rattle.delivery.proofs.Views.Subscriptions.ClosedIsDropped.{live_of_own}
 use Rattle.delivery.proofs.Views.Subscriptions.NewSubscription.{live_push}
 use Rattle.delivery.proofs.Views.Endpoints.StandingOfConnection.{stays_shut, open_there, differ}
 use Rattle.delivery.proofs.Views.Endpoints.DisconnectIsLast.{unheard, unparted, not_parting}
 use Rattle.delivery.proofs.Views.Endpoints.NothingBeforeOpen.{unsubscribed}
 use Rattle.delivery.proofs.Views.Subscriptions.SubsOfStep.{StepKeeps, Reads, StepBegins, StepEnds, StepChange, step_change, left_open, left_close}
-use Rattle.delivery.proofs.Core.FramesRead.{core_steps}
 use Rattle.delivery.proofs.Core.NamesKnown.{step_left}
+use Rattle.delivery.proofs.Core.ClaimsStand.{core_steps}
+use Rattle.delivery.proofs.Theorem.ClosedAsAnswered.{live_unclosed}
 
 -- the live subscriptions of connection c
 abbrev pub live_at : Core → ℕ → List ℕ
@@ -176,7 +175,7 @@ only_one p (n ∷ ns) s here passes only = by (p n) refl here (λ h. only_one p 
 
 -- ---- what a session refuses
 
--- none of these tests applies
+-- none of these refusals applies
 abbrev NoneApplies : List (Bool × SessionFault) → Type 0
 NoneApplies [] = Unit {0}
 NoneApplies (t ∷ ts) = (t.0 ≡ false) × NoneApplies ts
@@ -400,7 +399,7 @@ agrees_run topics capacity (step ∷ older) h c e =
       going = any_none (λ f. is_disconnect f.command) (accepted_of c k.steps)
           (ap (λ (ss : List CoreStep). find (λ f. is_disconnect f.command) (accepted_of c ss)) (core_steps topics capacity older) ∙ unparted topics capacity older h.1 c o);
     }
-    before ih false o = elim (within c (length k.world.connections)) [
+    before ih false o = elim (cases_lt c (length k.world.connections)) [
       | inl l ↦ absurd (false≢true (sym (stays_shut (moves k step.event step.reading step.outcome) k.world c l o) ∙ e))
       | inr far ↦ absent topics capacity older h.1 c far (ap (accepted_of c) (core_steps topics capacity older) ∙ unheard topics capacity older h.1 c far)
     ]

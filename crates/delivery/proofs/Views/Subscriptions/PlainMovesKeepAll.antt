@@ -1,7 +1,7 @@
 -- Moves that begin and end no subscription, but for the steps of a leaving: of a connection that is still open they
 -- change none.
 use Rattle.std.proofs.Common.{◌≡◌, ◌≢◌, ℕ, zero, suc, ◌+◌, ◌<◌, ◌≤◌, ◌==◌, true, false, cond, not, ◌&&◌, List, [], ◌∷◌, length, get_or, set, Option, Some, None, refl, sym, ap, subst, ◌∙◌, arith, ltb}
-use Rattle.std.proofs.lemmas.Bool.{ltb-true, false≢true}
+use Rattle.std.proofs.lemmas.Bool.{ltb-true, false≢true, not-false}
 use Rattle.std.specs.Option.{is_some}
 use Rattle.mcast_txn.specs.declared.id.Topic.{Topic}
 use Rattle.mcast_txn.specs.declared.id.TxnId.{TxnId}
@@ -17,7 +17,7 @@ use Rattle.delivery.specs.Machine.Moves.Move.{Commits, Subscribes, Unsubscribes,
 use Rattle.delivery.specs.Machine.Runs.{run}
 use Rattle.delivery.specs.Core.Connections.{live_numbers}
 use Rattle.delivery.proofs.Machine.SubscriptionSteps.{set_length}
-use Rattle.delivery.proofs.Machine.InvariantIsKept.{by_refusal, checked, false_not}
+use Rattle.delivery.proofs.Machine.InvariantIsKept.{by_refusal, checked}
 use Rattle.delivery.proofs.Theorem.ClosedIsSilent.{oldest_found}
 use Rattle.delivery.proofs.Core.Speaking.{open_in}
 use Rattle.delivery.proofs.Views.Subscriptions.ClosedIsDropped.{live_of_others, live_owned}
@@ -118,7 +118,7 @@ happens w (Unsubscribes d s) c plain shut n = absurd plain
 happens w (Leaves d) c plain shut n =
     let k = checked w (Leaves d) n in
     left w c d (oldest_live d 0 w.subscriptions) refl
-    (λ same. shut (subst (λ m. m < length w.connections) same (ltb-true d (length w.connections) (false_not (ltb d (length w.connections)) k.0)))
+    (λ same. shut (subst (λ m. m < length w.connections) same (ltb-true d (length w.connections) (not-false (ltb d (length w.connections)) k.0)))
     (subst (λ m. open_in w.connections m ≡ false) same k.1.1.0))
 happens w (Proposes d t memory) c plain shut n = kept w _ c (proposed w d t (proposal_fault w d t memory))
 happens w (Cancels d t) c plain shut n = kept w _ c (cancelled w d t (find_leftover t (speaker w d).leftovers))

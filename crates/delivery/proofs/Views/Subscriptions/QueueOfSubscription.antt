@@ -2,12 +2,12 @@
 use Rattle.std.proofs.Common.{◌≡◌, ◌≢◌, ℕ, zero, suc, ◌+◌, ◌<◌, ◌==◌, Bool, true, false, cond, inl, inr, List, [], ◌∷◌, map, length, get_or, set, Option, Some, None, refl, sym, ap, subst, ◌∙◌, arith, eq-eqb}
 use Rattle.std.specs.Prelude.{slice_get}
 use Rattle.std.specs.Option.{is_some, option_map}
-use Rattle.std.proofs.lemmas.Bool.{eqb-true, true≢false, lt-ltb}
+use Rattle.std.proofs.lemmas.Bool.{eqb-true, true≢false, lt-ltb, cases_lt}
 use Rattle.std.proofs.lemmas.List.{get_or-set_same, get_or-set_other, get_or_past, get_or_default}
 use Rattle.mcast_txn.specs.Lists.{In}
 use Rattle.mcast_txn.specs.declared.id.Topic.{Topic}
-use Rattle.sub_queue.specs.Shown.{Room, room_after_take}
-use Rattle.mcast_group.specs.Counted.{rooms_after_take, group_after_take}
+use Rattle.sub_queue.specs.Shown.{Gauge, gauge_after_take}
+use Rattle.mcast_group.specs.Counted.{gauges_after_take, group_after_take}
 use Rattle.mcast_group.specs.Group.{GroupState, shows}
 use Rattle.mcast_group.specs.Machine.{TopicState, Entry, EntryEnd, new_topic, find_entry}
 use Rattle.mcast_group.specs.Sound.{NumbersDiffer}
@@ -22,15 +22,14 @@ use Rattle.delivery.specs.Core.Reports.{each_number}
 use Rattle.delivery.specs.Inner.Stands.{IsReached}
 use Rattle.delivery.specs.Inner.Takes.{sub_held, next_shown, next_of, has_lagged, group_held, next_held}
 use Rattle.delivery.specs.Core.Connections.{live_numbers}
-use Rattle.delivery.specs.Inner.View.{SubView, view_of, group_view, no_group, queue_room, sub_view, left_view as left_in_view}
+use Rattle.delivery.specs.Inner.View.{SubView, view_of, group_view, no_group, queue_gauge, sub_view, left_view as left_in_view}
 use Rattle.delivery.proofs.Machine.SubscriptionSteps.{found_entry}
 use Rattle.delivery.proofs.Theorem.AcceptedIsDue.{reached}
-use Rattle.delivery.proofs.Theorem.SpansAsAnswered.{within}
 use Rattle.delivery.proofs.Views.Runs.AccountOfTransactions.{has_entry}
 use Rattle.delivery.proofs.Views.Lists.ByNumber.{get_or-each_number}
 use Rattle.delivery.proofs.Views.Runs.ByRunOfCore.{by_world}
 use Rattle.delivery.proofs.Views.Events.ReleaseStep.{group_at}
-use Rattle.delivery.proofs.Views.Subscriptions.RoomsOfEntries.{shown_found}
+use Rattle.delivery.proofs.Views.Subscriptions.GaugesOfEntries.{shown_found}
 use Rattle.delivery.proofs.Views.Endpoints.StandingOfConnection.{same_or}
 use Rattle.delivery.specs.Inner.Subscriptions.{no_sub}
 
@@ -56,7 +55,7 @@ has_queue k s reached l unclosed = by_case (entry_at k.world s) refl
       there = l;
       entry = entry;
       found = e;
-      topic = elim (within t.0 (length k.world.topics)) [
+      topic = elim (cases_lt t.0 (length k.world.topics)) [
         | inl m ↦ m
         | inr m ↦ none_some entry (sym (ap (λ (x : TopicState). find_entry s x.subscriptions) (get_or_past k.world.topics t.0 (new_topic t 0 0) m)) ∙ e)
       ];
@@ -100,40 +99,40 @@ pub this_taken : (w : World) (s : ℕ) → s < length w.subscriptions
     → subscription_at (taken_world w s) s ≡ record (subscription_at w s) { taken = (subscription_at w s).taken + 1 }
 this_taken w s l = get_or-set_same w.subscriptions s (record (subscription_at w s) { taken = (subscription_at w s).taken + 1 }) no_subscription l
 
-others_rooms : (w : World) (s : ℕ) (es : List Entry) → ((e : Entry) → In e es → e.number ≢ s)
-    → map (λ e. queue_room w e.number) es ≡ map (λ e. queue_room (taken_world w s) e.number) es
-others_rooms w s [] h = refl
-others_rooms w s (e ∷ es) h =
-    ap (λ (x : Subscription). record { capacity = w.capacity; taken = Some x.taken } ∷ map (λ (f : Entry). queue_room w f.number) es) (sym (other_stays w s e.number (h e (inl refl))))
-    ∙ ap (λ (rs : List Room). queue_room (taken_world w s) e.number ∷ rs) (others_rooms w s es (λ f i. h f (inr i)))
+others_gauges : (w : World) (s : ℕ) (es : List Entry) → ((e : Entry) → In e es → e.number ≢ s)
+    → map (λ e. queue_gauge w e.number) es ≡ map (λ e. queue_gauge (taken_world w s) e.number) es
+others_gauges w s [] h = refl
+others_gauges w s (e ∷ es) h =
+    ap (λ (x : Subscription). record { capacity = w.capacity; taken = Some x.taken } ∷ map (λ (f : Entry). queue_gauge w f.number) es) (sym (other_stays w s e.number (h e (inl refl))))
+    ∙ ap (λ (rs : List Gauge). queue_gauge (taken_world w s) e.number ∷ rs) (others_gauges w s es (λ f i. h f (inr i)))
 
--- the rooms after a take, where the entry of this number has a further item
-taken_rooms : (w : World) (s : ℕ) (es : List Entry) → s < length w.subscriptions → NumbersDiffer es
+-- the gauges after a take, where the entry of this number has a further item
+taken_gauges : (w : World) (s : ℕ) (es : List Entry) → s < length w.subscriptions → NumbersDiffer es
     → ((e : Entry) → In e es → e.number ≡ s → (subscription_at w s).taken < length e.accepted)
-    → rooms_after_take s es (map (λ e. queue_room w e.number) es) ≡ map (λ e. queue_room (taken_world w s) e.number) es
-taken_rooms w s [] l d h = refl
-taken_rooms w s (e ∷ es) l d h = by_case (taken_rooms w s es l d.1 (λ f i. h f (inr i))) (s == e.number) refl
+    → gauges_after_take s es (map (λ e. queue_gauge w e.number) es) ≡ map (λ e. queue_gauge (taken_world w s) e.number) es
+taken_gauges w s [] l d h = refl
+taken_gauges w s (e ∷ es) l d h = by_case (taken_gauges w s es l d.1 (λ f i. h f (inr i))) (s == e.number) refl
   where
-    rest : List Room
-    rest = map (λ f. queue_room w f.number) es
+    rest : List Gauge
+    rest = map (λ f. queue_gauge w f.number) es
 
-    by_case : rooms_after_take s es rest ≡ map (λ f. queue_room (taken_world w s) f.number) es → (b : Bool) → (s == e.number) ≡ b
-        → cond b (room_after_take (shows e (queue_room w e.number)) ∷ rest) (queue_room w e.number ∷ rooms_after_take s es rest)
-        ≡ queue_room (taken_world w s) e.number ∷ map (λ f. queue_room (taken_world w s) f.number) es
+    by_case : gauges_after_take s es rest ≡ map (λ f. queue_gauge (taken_world w s) f.number) es → (b : Bool) → (s == e.number) ≡ b
+        → cond b (gauge_after_take (shows e (queue_gauge w e.number)) ∷ rest) (queue_gauge w e.number ∷ gauges_after_take s es rest)
+        ≡ queue_gauge (taken_world w s) e.number ∷ map (λ f. queue_gauge (taken_world w s) f.number) es
     by_case ih true k =
         let same : e.number ≡ s = sym (eqb-true s e.number k) in
         let m : (subscription_at w e.number).taken < length e.accepted = subst (λ (n : ℕ). (subscription_at w n).taken < length e.accepted) (sym same) (h e (inl refl) same) in
-        let one : room_after_take (shows e (queue_room w e.number)) ≡ queue_room (taken_world w s) e.number =
+        let one : gauge_after_take (shows e (queue_gauge w e.number)) ≡ queue_gauge (taken_world w s) e.number =
         ap (λ (b : Bool). record { capacity = w.capacity; taken = Some (cond b ((subscription_at w e.number).taken + 1) (subscription_at w e.number).taken) }) (lt-ltb (subscription_at w e.number).taken (length e.accepted) m)
         ∙ (ap (λ (n : ℕ). record { capacity = w.capacity; taken = Some ((subscription_at w n).taken + 1) }) same
         ∙ (ap (λ (x : Subscription). record { capacity = w.capacity; taken = Some x.taken }) (sym (this_taken w s l))
-        ∙ ap (queue_room (taken_world w s)) (sym same))) in
-        ap (λ (r : Room). r ∷ rest) one
-        ∙ ap (λ (rs : List Room). queue_room (taken_world w s) e.number ∷ rs) (others_rooms w s es (λ f i n. d.0 f i (n ∙ sym same)))
+        ∙ ap (queue_gauge (taken_world w s)) (sym same))) in
+        ap (λ (r : Gauge). r ∷ rest) one
+        ∙ ap (λ (rs : List Gauge). queue_gauge (taken_world w s) e.number ∷ rs) (others_gauges w s es (λ f i n. d.0 f i (n ∙ sym same)))
     by_case ih false k =
         let differ : e.number ≢ s = λ n. true≢false (sym (eq-eqb s e.number (sym n)) ∙ k) in
-        ap (λ (x : Subscription). record { capacity = w.capacity; taken = Some x.taken } ∷ rooms_after_take s es rest) (sym (other_stays w s e.number differ))
-        ∙ ap (λ (rs : List Room). queue_room (taken_world w s) e.number ∷ rs) ih
+        ap (λ (x : Subscription). record { capacity = w.capacity; taken = Some x.taken } ∷ gauges_after_take s es rest) (sym (other_stays w s e.number differ))
+        ∙ ap (λ (rs : List Gauge). queue_gauge (taken_world w s) e.number ∷ rs) ih
 
 -- one value is another, and the others are the same
 map_but_one : {X Y : Type 0} (f g : X → Y) (xs : List X) (i : ℕ) (d : X) → ((n : ℕ) → n < length xs → n ≢ i → f (get_or xs n d) ≡ g (get_or xs n d))
@@ -179,14 +178,14 @@ taken_groups k s q at l =
         subst (λ (z : Entry). (subscription_at w s).taken < length z.accepted) same l
 
     own : group_after_take s (group_view w x) ≡ group_view (taken_world w s) x
-    own = ap (λ (rs : List Room). record { topic = x; rooms = rs }) (taken_rooms w s x.subscriptions q.there numbers further)
+    own = ap (λ (rs : List Gauge). record { topic = x; gauges = rs }) (taken_gauges w s x.subscriptions q.there numbers further)
 
     elsewhere : (n : ℕ) → n < length w.topics → n ≢ t.0 → group_view w (get_or w.topics n d) ≡ group_view (taken_world w s) (get_or w.topics n d)
     elsewhere n m differ =
         let u : Topic = record { 0 = n } in
         let read : topic_at w u ≡ get_or w.topics n d = get_or_default w.topics n (new_topic u 0 0) d m in
         subst (λ (y : TopicState). group_view w y ≡ group_view (taken_world w s) y) read
-        (ap (λ (rs : List Room). record { topic = topic_at w u; rooms = rs }) (others_rooms w s (topic_at w u).subscriptions
+        (ap (λ (rs : List Gauge). record { topic = topic_at w u; gauges = rs }) (others_gauges w s (topic_at w u).subscriptions
         (λ e i z. differ (ap (λ (v : Topic). v.0)
         (sym (by_world (λ v. In e (topic_at v u).subscriptions → (subscription_at v e.number).topic ≡ u) k at (λ r a. ((reached r).inv.subscribes.owned u e a).topic) i)
         ∙ ap (λ (j : ℕ). (subscription_at w j).topic) z)))))

@@ -1,9 +1,8 @@
 -- What a step does to the subscriptions of a connection that is still open: it changes none, begins one or ends one.
 use Rattle.std.proofs.Common.{◌≡◌, ◌≢◌, ℕ, ◌+◌, ◌<◌, ◌==◌, Bool, true, false, cond, not, ◌&&◌, ◌||◌, ◌⊎◌, inl, inr, List, [], ◌∷◌, ◌++◌, length, get_or, set, Option, Some, None, refl, sym, ap, subst, ◌∙◌, arith}
 use Rattle.std.proofs.Common.{eq-eqb}
-use Rattle.std.proofs.lemmas.Bool.{eqb-true, ltb-true, false≢true, and_parts}
+use Rattle.std.proofs.lemmas.Bool.{eqb-true, ltb-true, false≢true, and_parts, not-false}
 use Rattle.std.proofs.lemmas.List.{append-nil, get_or_append_left}
-use Rattle.std.specs.List.{list_any}
 use Rattle.std.specs.Option.{is_some, option_map, option_map_or, option_or, option_and_then, option_to_list, unwrap_or}
 use Rattle.std.specs.Str.{bytes_eq}
 use Rattle.stomp_frame.specs.declared.command.Command.{Command}
@@ -41,18 +40,19 @@ use Rattle.delivery.specs.Core.Claims.{claims_of, claimed_sender}
 use Rattle.delivery.specs.Core.Steps.{CoreStep, Reading, frame_in, has_effect, frame_from, accepted_of, has_id, begun_by, number_by}
 use Rattle.delivery.specs.Core.Output.{sub_id_text, is_cut}
 use Rattle.delivery.specs.Core.State.{Core, core_after, moves, frame_move, session_at, is_faulted, is_no_memory, unread_at, core_for, names_at, topic_moves}
+use Rattle.delivery.proofs.Machine.Effects.{made_world, made_answer}
 use Rattle.delivery.proofs.Core.ByRun.{run_append}
 use Rattle.delivery.proofs.Core.FrameWorld.{framed_none, no_topic, subs_for}
 use Rattle.stomp_session.specs.Names.{is_known}
+use Rattle.stomp_session.proofs.History.{subscriptions_left-opened, subscription_by_id}
 use Rattle.delivery.specs.Core.Outcomes.{claim_fault, outcome_of, move_outcome, unless, frame_no_memory, frame_fault, fault_outcomes, frame_outcome, reading_outcomes, outcomes, accepted_outcomes, is_any, wants_memory}
 use Rattle.delivery.specs.Inner.Stands.{step_of}
 use Rattle.delivery.specs.Core.Connections.{live_numbers}
-use Rattle.delivery.proofs.Machine.InvariantIsKept.{checked, false_not}
+use Rattle.delivery.proofs.Machine.InvariantIsKept.{checked}
 use Rattle.delivery.proofs.Machine.SenderSteps.{In-append_cases}
 use Rattle.delivery.proofs.Core.Speaking.{open_in}
 use Rattle.delivery.proofs.Core.AccountOfRun.{in_option, refusal_some, by_answer, was_wanted}
 use Rattle.delivery.proofs.Views.Endpoints.EndpointsStay.{if_same}
-use Rattle.delivery.proofs.Views.Events.OneMove.{made_world, made_answer}
 use Rattle.delivery.proofs.Views.Subscriptions.ClosedIsDropped.{live_of_others, live_owned}
 use Rattle.delivery.proofs.Views.Subscriptions.NewSubscription.{live_push}
 use Rattle.delivery.proofs.Views.Subscriptions.PlainMovesKeepAll.{ArePlain, kept_but, run_keeps}
@@ -61,41 +61,32 @@ use Rattle.delivery.proofs.Views.Endpoints.StandingOfConnection.{differ}
 
 -- ---- the subscriptions that frames left open
 
-left_opened : (names : List (List ℕ)) (frames : List RawFrame)
-    → subscriptions_left names frames ≡ opened (λ f. is_subscribe f.command) names_subscription id_of (λ f after. topic_of names f) frames
-left_opened names [] = refl
-left_opened names (f ∷ after) =
-    λ i. cond (is_subscribe f.command && not (list_any (names_subscription (id_of f)) after)) ((id_of f, topic_of names f) ∷ left_opened names after i) (left_opened names after i)
-
-by_id : (x : List ℕ) (g : RawFrame) → is_subscribe g.command ≡ true → names_subscription x g ≡ bytes_eq (id_of g) x
-by_id x g opens = ap (λ b. (b || is_unsubscribe g.command) && bytes_eq (id_of g) x) opens
-
 -- after a frame that is neither a SUBSCRIBE nor an UNSUBSCRIBE
 pub left_quiet : (names : List (List ℕ)) (frames : List RawFrame) (f : RawFrame) → is_subscribe f.command ≡ false → is_unsubscribe f.command ≡ false
     → subscriptions_left names (frames ++ f ∷ []) ≡ subscriptions_left names frames
 left_quiet names frames f no_subscribe no_unsubscribe =
     let none : (x : List ℕ) → names_subscription x f ≡ false = λ x i. (no_subscribe i || no_unsubscribe i) && bytes_eq (id_of f) x in
-    left_opened names (frames ++ f ∷ [])
+    subscriptions_left-opened names (frames ++ f ∷ [])
     ∙ (opened-quiet (λ f. is_subscribe f.command) names_subscription id_of (λ f after. topic_of names f) f no_subscribe none (λ g after. refl) frames
-    ∙ sym (left_opened names frames))
+    ∙ sym (subscriptions_left-opened names frames))
 
 -- after a SUBSCRIBE of an id that isn't open
 pub left_open : (names : List (List ℕ)) (frames : List RawFrame) (f : RawFrame) → is_subscribe f.command ≡ true → is_open (id_of f) (subscriptions_left names frames) ≡ false
     → subscriptions_left names (frames ++ f ∷ []) ≡ subscriptions_left names frames ++ (id_of f, topic_of names f) ∷ []
 left_open names frames f opens shut =
-    let shut_here : is_open (id_of f) (opened (λ f. is_subscribe f.command) names_subscription id_of (λ f after. topic_of names f) frames) ≡ false = ap (is_open (id_of f)) (sym (left_opened names frames)) ∙ shut in
-    left_opened names (frames ++ f ∷ [])
-    ∙ (opened-open (λ f. is_subscribe f.command) names_subscription id_of (λ f after. topic_of names f) f opens (λ x. by_id x f opens) (λ g after. refl) frames shut_here
-    ∙ ap (λ (them : List (List ℕ × Topic)). them ++ (id_of f, topic_of names f) ∷ []) (sym (left_opened names frames)))
+    let shut_here : is_open (id_of f) (opened (λ f. is_subscribe f.command) names_subscription id_of (λ f after. topic_of names f) frames) ≡ false = ap (is_open (id_of f)) (sym (subscriptions_left-opened names frames)) ∙ shut in
+    subscriptions_left-opened names (frames ++ f ∷ [])
+    ∙ (opened-open (λ f. is_subscribe f.command) names_subscription id_of (λ f after. topic_of names f) f opens (λ x. subscription_by_id x f opens) (λ g after. refl) frames shut_here
+    ∙ ap (λ (them : List (List ℕ × Topic)). them ++ (id_of f, topic_of names f) ∷ []) (sym (subscriptions_left-opened names frames)))
 
 -- after an UNSUBSCRIBE
 pub left_close : (names : List (List ℕ)) (frames : List RawFrame) (f : RawFrame) → is_subscribe f.command ≡ false → is_unsubscribe f.command ≡ true
     → subscriptions_left names (frames ++ f ∷ []) ≡ entries_without (id_of f) (subscriptions_left names frames)
 left_close names frames f no_subscribe closes =
     let named : (x : List ℕ) → names_subscription x f ≡ bytes_eq (id_of f) x = λ x i. (no_subscribe i || closes i) && bytes_eq (id_of f) x in
-    left_opened names (frames ++ f ∷ [])
-    ∙ (opened-close (λ f. is_subscribe f.command) names_subscription id_of (λ f after. topic_of names f) f by_id no_subscribe named (λ g after. refl) frames
-    ∙ ap (entries_without (id_of f)) (sym (left_opened names frames)))
+    subscriptions_left-opened names (frames ++ f ∷ [])
+    ∙ (opened-close (λ f. is_subscribe f.command) names_subscription id_of (λ f after. topic_of names f) f subscription_by_id no_subscribe named (λ g after. refl) frames
+    ∙ ap (entries_without (id_of f)) (sym (subscriptions_left-opened names frames)))
 
 -- ---- what a step does
 
@@ -465,7 +456,7 @@ record CanEnd (w : World) (d s : ℕ) : Type 0 where
 
 can_end : (w : World) (d s : ℕ) → move_refusal w (Move.Unsubscribes d s) ≡ None → CanEnd w d s
 can_end w d s free =
-    let k = and_parts _ _ (false_not _ (checked w (Move.Unsubscribes d s) free).1.1.1.0) in
+    let k = and_parts _ _ (not-false _ (checked w (Move.Unsubscribes d s) free).1.1.1.0) in
     record { there = ltb-true s (length w.subscriptions) k.0; live = k.1 }
 
 -- the subscriptions once one with an entry, or without, is closed

@@ -1,32 +1,27 @@
 -- A turn and a release ask only about entries with the numbers of their topic's, and about pending parts.
-use Rattle.std.proofs.Common.{◌≡◌, ℕ, zero, suc, Bool, cond, List, [], ◌∷◌, ◌++◌, map, length, Option, Some, None, inl, inr, refl, sym, ap, subst, ◌∙◌}
+use Rattle.std.proofs.Common.{◌≡◌, ℕ, zero, suc, Bool, List, [], ◌∷◌, map, length, Option, Some, None, inl, inr, refl, sym, ap, subst, ◌∙◌}
 use Rattle.mcast_txn.specs.declared.id.TxnId.{TxnId}
 use Rattle.mcast_txn.specs.declared.stamp.Stamp.{Stamp}
 use Rattle.mcast_txn.specs.Ballot.{Decision}
 use Rattle.mcast_txn.specs.Lists.{In}
 use Rattle.mcast_txn.specs.Span.{Item}
 use Rattle.mcast_txn.proofs.Members.{In-map_cases}
-use Rattle.mcast_group.specs.Machine.{TopicState, Pending, Entry, item_of, due_part, entry_after, after_release_of, after_release, after_try, after_tries, after_releases, after_turn}
+use Rattle.mcast_group.specs.Machine.{TopicState, Pending, Entry, item_of, due_part, entry_after, after_release_of, after_release, after_tries, after_releases, after_turn}
 use Rattle.mcast_group.proofs.Queues.{delivered_number}
 use Rattle.mcast_group.proofs.Counting.{tried_all_subs}
 use Rattle.mcast_group.proofs.Parts.{after_release_if}
+use Rattle.mcast_group.proofs.Releasing.{delivered_by}
+use Rattle.mcast_group.proofs.Waits.{same_found}
 
 -- two answers are one for entries with these numbers
 abbrev AreOne : (Entry → Bool) → (Entry → Bool) → List Entry → Type 0
 AreOne takes takes' es = (e f : Entry) → In f es → e.number ≡ f.number → takes e ≡ takes' e
 
-entry_same : (takes takes' : Entry → Bool) (frontier : Stamp) (item : Item) (e : Entry) → takes e ≡ takes' e → entry_after takes frontier item e ≡ entry_after takes' frontier item e
-entry_same takes takes' frontier item e h =
-    ap (λ (b : Bool). elim e.to [
-      | Some end ↦ e
-      | None ↦ cond b (record e { accepted = e.accepted ++ item ∷ [] }) (record e { to = Some frontier })
-    ]) h
-
 entries_same : (takes takes' : Entry → Bool) (frontier : Stamp) (item : Item) (es : List Entry) → AreOne takes takes' es
     → map (entry_after takes frontier item) es ≡ map (entry_after takes' frontier item) es
 entries_same takes takes' frontier item [] h = refl
 entries_same takes takes' frontier item (e ∷ es) h =
-    ap (λ (z : Entry). z ∷ map (entry_after takes frontier item) es) (entry_same takes takes' frontier item e (h e e (inl refl) refl))
+    ap (λ (z : Entry). z ∷ map (entry_after takes frontier item) es) (delivered_by takes takes' frontier item e (h e e (inl refl) refl))
     ∙ ap (λ (zs : List Entry). entry_after takes' frontier item e ∷ zs) (entries_same takes takes' frontier item es (λ d f i. h d f (inr i)))
 
 release_case : (takes takes' : Entry → Bool) (x : TopicState) (o : Option Pending) → AreOne takes takes' x.subscriptions → after_release_if takes x o ≡ after_release_if takes' x o
@@ -52,13 +47,6 @@ releases_same takes takes' (suc n) x h =
     releases_same takes takes' n (after_release takes x) (one_after takes takes' x (due_part x) h)
     ∙ ap (λ (z : TopicState). after_releases takes' n z) (release_same takes takes' x h)
 
-tries_same : (finds finds' : TxnId → Option Decision) (ps : List Pending) (x : TopicState) → ((p : Pending) → In p ps → finds p.part.id ≡ finds' p.part.id)
-    → after_tries finds ps x ≡ after_tries finds' ps x
-tries_same finds finds' [] x h = refl
-tries_same finds finds' (p ∷ ps) x h =
-    ap (λ (o : Option Decision). after_tries finds ps (after_try p.part.id o x)) (h p (inl refl))
-    ∙ tries_same finds finds' ps (after_try p.part.id (finds' p.part.id) x) (λ q i. h q (inr i))
-
 -- a turn asks only about entries with these numbers, and about pending parts
 pub turn_same : (takes takes' : Entry → Bool) (finds finds' : TxnId → Option Decision) (x : TopicState)
     → ((e f : Entry) → In f x.subscriptions → e.number ≡ f.number → takes e ≡ takes' e)
@@ -68,4 +56,4 @@ turn_same takes takes' finds finds' x same found =
     let y = after_tries finds x.pending x in
     releases_same takes takes' (length y.pending) y
     (subst (AreOne takes takes') (sym (tried_all_subs finds x.pending x)) same)
-    ∙ ap (λ (z : TopicState). after_releases takes' (length z.pending) z) (tries_same finds finds' x.pending x found)
+    ∙ ap (λ (z : TopicState). after_releases takes' (length z.pending) z) (same_found finds finds' x.pending x found)

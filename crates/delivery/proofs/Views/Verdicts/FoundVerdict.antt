@@ -1,6 +1,6 @@
 -- The verdict of a transaction by its sender and seq is the one that a search finds.
 use Rattle.std.proofs.Common.{◌≡◌, ◌≢◌, ℕ, zero, suc, ◌+◌, ◌-◌, ◌<◌, ◌≤◌, ◌==◌, Bool, true, false, cond, inl, inr, List, [], ◌∷◌, length, Option, Some, None, refl, sym, ap, subst, ◌∙◌, arith}
-use Rattle.std.proofs.lemmas.Bool.{eqb-true, eq-eqb, false≢true}
+use Rattle.std.proofs.lemmas.Bool.{eqb-true, eq-eqb, false≢true, cases_lt}
 use Rattle.std.proofs.lemmas.Option.{slice_get-get_or, slice_get_past}
 use Rattle.std.proofs.lemmas.List.FromFn.{length-map-range_with_len, get_or-map-range_with_len}
 use Rattle.std.specs.Prelude.{slice_get}
@@ -34,7 +34,6 @@ use Rattle.delivery.proofs.Machine.SenderSteps.{In-append_cases}
 use Rattle.delivery.proofs.Machine.InvariantIsKept.{by_refusal, checked, in_flight, verdict_found}
 use Rattle.delivery.proofs.Theorem.AcceptedIsDue.{reached}
 use Rattle.delivery.proofs.Theorem.SeqsCount.{seqs_count}
-use Rattle.delivery.proofs.Theorem.SpansAsAnswered.{within}
 use Rattle.delivery.proofs.Core.ByRun.{by_run}
 use Rattle.delivery.proofs.Views.Lists.ByNumber.{get_or-each_number, length-each_number}
 use Rattle.delivery.proofs.Views.Runs.ByRunOfCore.{by_world}
@@ -138,7 +137,7 @@ found_stands r id u e =
     let last : id.seq ≤ (sender_in w.senders id.sender.0).seq = subst (λ (z : TxnId). z.seq ≤ (sender_in w.senders z.sender.0).seq) same used in
     let first : id.seq ≢ 0 = subst (λ (z : TxnId). z.seq ≢ 0) f.1 (of_transactions r u f.0) in
     record {
-      there = elim (within id.sender.0 (length w.senders)) [
+      there = elim (cases_lt id.sender.0 (length w.senders)) [
         | inl l ↦ l
         | inr l ↦ absurd (first (let b : (sender_in w.senders id.sender.0).seq ≡ 0 = ap (λ (z : SenderState). z.seq) (beyond w.senders id.sender.0 new_sender l) in omega arith))
       ];
@@ -199,11 +198,11 @@ seq_case : (r : Run) (id : TxnId) (b : Bool) → (id.seq == 0) ≡ b
 seq_case r id true e = none_found r id (λ h. h.first (eqb-true id.seq 0 e))
 seq_case r id false e =
     let w = final_world r in let s = id.sender.0 in
-    elim (within s (length w.senders)) [
+    elim (cases_lt s (length w.senders)) [
       | inr l ↦ ap (λ (o : Option (List (Option Decision))). option_and_then (λ found. found) (option_and_then (λ verdicts. slice_get verdicts (id.seq - 1)) o)) (no_list w s l)
           ∙ none_found r id (λ h. (let t = h.there in absurd (omega arith)))
       | inl l ↦ ap (λ (o : Option (List (Option Decision))). option_and_then (λ found. found) (option_and_then (λ verdicts. slice_get verdicts (id.seq - 1)) o)) (list_of w s l)
-          ∙ elim (within (sender_at w s).seq id.seq) [
+          ∙ elim (cases_lt (sender_at w s).seq id.seq) [
             | inl m ↦ ap (λ (o : Option (Option Decision)). option_and_then (λ found. found) o) (not_in_list w s id.seq m)
                 ∙ none_found r id (λ h. (let t = h.last in absurd (omega arith)))
             | inr m ↦ ap (λ (o : Option (Option Decision)). option_and_then (λ found. found) o)

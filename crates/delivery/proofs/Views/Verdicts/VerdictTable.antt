@@ -66,7 +66,8 @@ slot_filled xs v s q new old d slot is there found filled =
 
 -- ---- a slot that is added and dropped again
 
-last_dropped : {X : Type 0} (xs : List X) (x : X) → take (length (xs ++ x ∷ []) - 1) (xs ++ x ∷ []) ≡ xs
+-- a list without the item that was pushed
+pub last_dropped : {X : Type 0} (xs : List X) (x : X) → take (length (xs ++ x ∷ []) - 1) (xs ++ x ∷ []) ≡ xs
 last_dropped xs x =
     let n = length-append xs (x ∷ []) in
     let m : length (xs ++ x ∷ []) - 1 ≡ length xs = omega (arith, n) in

@@ -1,12 +1,12 @@
 use Rattle.std.proofs.Common.{◌≡◌, ◌≢◌, ℕ, suc, ◌+◌, ◌≤◌, [], ◌∷◌, ◌++◌, length, get_or, set, take, None, not, refl, sym, ap, subst, ◌∙◌, arith, get_or-set_other}
 use Rattle.std.proofs.lemmas.List.{length-set, length_push}
 use Rattle.mcast_group.specs.declared.subscription.Subscription.{Subscription}
-use Rattle.mcast_group.specs.Inner.GroupInvariant.{entry_of, room_of}
+use Rattle.mcast_group.specs.Inner.GroupInvariant.{entry_of, gauge_of}
 use Rattle.mcast_group.specs.Inner.Subscriptions.{endless_count}
 use Rattle.mcast_group.specs.Machine.{entry_after, item_of}
 use Rattle.mcast_group.proofs.Endless.{endless_front, unended, unended_most, unended_none, unended_some}
 use Rattle.mcast_group.proofs.Opens.{left_after, open_at}
-use Rattle.mcast_group.proofs.Giving.{told_more, rooms_more, may_more, spare_more}
+use Rattle.mcast_group.proofs.Giving.{told_more, mapped_more, may_more, spare_more}
 use Rattle.mcast_group.proofs.subscriptions.give_each.Goals as goal
 use Rattle.mcast_group.proofs.subscriptions.give_each.Goals.{then-is_none, else-is_none}
 use Rattle.mcast_group.proofs.subscriptions.give_each.Given as given
@@ -18,7 +18,7 @@ loop-i-init g c = record {
   size = refl;
   answered = tt;
   entries = refl;
-  rooms = refl;
+  gauges = refl;
   rest = λ k d l. refl;
   spare = λ k d l. omega arith;
   copies = c.requires.copies;
@@ -82,7 +82,7 @@ loop-i-preserved g c =
       size = length-set subs i new ∙ inv.size;
       answered = may_more shown g.Q.Outlet.may_accept inv.answers c.give.result i old d inv.many (omega arith) inv.answered (subst (λ (z : Subscription g.row.Q.Denot). z.to ≡ None → g.Q.Outlet.may_accept (shown z.outlet) c.give.result) (is ∙ same) c.give.ensures.answer);
       entries = told_more (entry_of shown) c.args.frontier (item_of c.args.part.now) inv.answers c.give.result i subs old new d inv.many (omega arith) inv.entries same (c.give.ensures.entry ∙ ap (λ (z : Subscription g.row.Q.Denot). entry_after (λ _. c.give.result) c.args.frontier (item_of c.args.part.now) (entry_of shown z)) is);
-      rooms = rooms_more (room_of shown) i subs old new d (omega arith) inv.rooms (c.give.ensures.room ∙ ap (room_of shown) is);
+      gauges = mapped_more (gauge_of shown) i subs old new d (omega arith) inv.gauges (c.give.ensures.gauge ∙ ap (gauge_of shown) is);
       rest = λ k e m. let ne : k ≢ i = omega arith in get_or-set_other subs i k new e ne ∙ inv.rest k e (omega arith);
       spare = spare_more (λ (z : Subscription g.row.Q.Denot). g.Q.Outlet.spare z.outlet) (length old) i subs old new d (omega arith) refl (sym size) inv.spare (subst (λ (z : Subscription g.row.Q.Denot). g.Q.Outlet.spare z.outlet ≤ g.Q.Outlet.spare new.outlet + 1) (is ∙ same) c.give.ensures.spare);
       copies = c.give.ensures.copies;

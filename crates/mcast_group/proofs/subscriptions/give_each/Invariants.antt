@@ -3,7 +3,7 @@ use Rattle.mcast_group.specs.declared.subscription.Subscription.{Subscription}
 use Rattle.mcast_group.specs.Machine.{item_of}
 use Rattle.mcast_group.specs.Group.{entries_after}
 use Rattle.mcast_group.specs.Inner.Copies.{AreOf}
-use Rattle.mcast_group.specs.Inner.GroupInvariant.{MayGive, entry_of, room_of}
+use Rattle.mcast_group.specs.Inner.GroupInvariant.{MayGive, entry_of, gauge_of}
 use Rattle.mcast_group.specs.Inner.Subscriptions.{endless_count}
 use Rattle.mcast_group.proofs.Opens.{open_rest}
 use Rattle.mcast_group.proofs.subscriptions.give_each.Given as goal
@@ -19,7 +19,7 @@ invariant-loop-i g l =
       size : length now ≡ length old;
       answered : MayGive shown g.Q.Outlet.may_accept answers old;
       entries : map (entry_of shown) now ≡ entries_after l.frontier (item_of l.part) answers (map (entry_of shown) old);
-      rooms : map (room_of shown) now ≡ map (room_of shown) old;
+      gauges : map (gauge_of shown) now ≡ map (gauge_of shown) old;
       rest : (k : ℕ) (d : Subscription g.row.Q.Denot) → l.i ≤ k → slice_index_or now k d ≡ slice_index_or old k d;
       spare : (k : ℕ) (d : Subscription g.row.Q.Denot) → k < length old → g.Q.Outlet.spare (slice_index_or old k d).outlet ≤ g.Q.Outlet.spare (slice_index_or now k d).outlet + 1;
       copies : AreOf l.part.part l.copies;

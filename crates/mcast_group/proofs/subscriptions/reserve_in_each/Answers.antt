@@ -1,8 +1,8 @@
 use Rattle.std.proofs.Common.{◌≡◌, ◌≤◌, length, None, sym, ap, subst, ◌∙◌, arith}
 use Rattle.mcast_group.specs.declared.subscription.Subscription.{Subscription}
-use Rattle.mcast_group.specs.Inner.GroupInvariant.{entry_of, room_of}
+use Rattle.mcast_group.specs.Inner.GroupInvariant.{entry_of, gauge_of}
 use Rattle.mcast_group.proofs.Entering.{same_many}
-use Rattle.mcast_group.proofs.Giving.{at_each, rooms_more, spare_kept}
+use Rattle.mcast_group.proofs.Giving.{at_each, mapped_more, spare_kept}
 use Rattle.mcast_group.proofs.subscriptions.reserve_in_each.Goals as goal
 
 pub loop-i-preserved : goal.loop-i-preserved
@@ -20,8 +20,8 @@ loop-i-preserved g c =
     let test = c.loop-i-test.true in
     let end = c.len-i-end.ensures in
     record {
-      entries = rooms_more (entry_of shown) i subs old new d (omega arith) inv.entries (c.in_ok-reserve.ensures.entry ∙ ap (entry_of shown) is);
-      rooms = rooms_more (room_of shown) i subs old new d (omega arith) inv.rooms (c.in_ok-reserve.ensures.room ∙ ap (room_of shown) is);
+      entries = mapped_more (entry_of shown) i subs old new d (omega arith) inv.entries (c.in_ok-reserve.ensures.entry ∙ ap (entry_of shown) is);
+      gauges = mapped_more (gauge_of shown) i subs old new d (omega arith) inv.gauges (c.in_ok-reserve.ensures.gauge ∙ ap (gauge_of shown) is);
       spares = spare_kept (λ (z : Subscription g.row.Q.Denot). g.Q.Outlet.spare z.outlet) (length old) i subs old new d (omega arith) (sym many) inv.spares (subst (λ (z : Subscription g.row.Q.Denot). g.Q.Outlet.spare z.outlet ≤ g.Q.Outlet.spare new.outlet) is c.in_ok-reserve.ensures.spare);
       done = λ k e l. at_each (λ (z : Subscription g.row.Q.Denot). z.to ≡ None → c.args.more ≤ g.Q.Outlet.spare z.outlet) subs i new k e (omega arith) c.in_ok-reserve.ensures.ok (λ ne. inv.done k e (omega arith));
     }
@@ -34,14 +34,14 @@ returns-in_err-reserve-clause-entries g c =
     let l : c.args.subs.now.len ≡ length c.args.subs.now.items = c.args.subs.now.ok.0 in
     let test = c.loop-i-test.true in
     let end = c.len-i-end.ensures in
-    rooms_more (entry_of shown) c.loop-i.i c.loop-i.subs.items c.args.subs.now.items c.reserve.new.self c.index_mut.result.now (omega arith) inv.entries (c.reserve.ensures.entry ∙ ap (entry_of shown) c.index_mut.ensures.value)
+    mapped_more (entry_of shown) c.loop-i.i c.loop-i.subs.items c.args.subs.now.items c.reserve.new.self c.index_mut.result.now (omega arith) inv.entries (c.reserve.ensures.entry ∙ ap (entry_of shown) c.index_mut.ensures.value)
 
-pub returns-in_err-reserve-clause-rooms : goal.returns-in_err-reserve-clause-rooms
-returns-in_err-reserve-clause-rooms g c =
+pub returns-in_err-reserve-clause-gauges : goal.returns-in_err-reserve-clause-gauges
+returns-in_err-reserve-clause-gauges g c =
     let shown = g.Q.Outlet.shown in
     let inv = c.loop-i.invariant in
     let many = same_many shown c.args.subs.now.items c.loop-i.subs.items inv.entries in
     let l : c.args.subs.now.len ≡ length c.args.subs.now.items = c.args.subs.now.ok.0 in
     let test = c.loop-i-test.true in
     let end = c.len-i-end.ensures in
-    rooms_more (room_of shown) c.loop-i.i c.loop-i.subs.items c.args.subs.now.items c.reserve.new.self c.index_mut.result.now (omega arith) inv.rooms (c.reserve.ensures.room ∙ ap (room_of shown) c.index_mut.ensures.value)
+    mapped_more (gauge_of shown) c.loop-i.i c.loop-i.subs.items c.args.subs.now.items c.reserve.new.self c.index_mut.result.now (omega arith) inv.gauges (c.reserve.ensures.gauge ∙ ap (gauge_of shown) c.index_mut.ensures.value)

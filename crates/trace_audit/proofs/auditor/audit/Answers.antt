@@ -2,7 +2,7 @@ use Rattle.std.proofs.Common.{◌≡◌, true, sym, ◌∙◌, ap, subst, refl, 
 use Rattle.std.specs.List.{list_all}
 use Rattle.trace_audit.specs.Explained.{IsExplainedBy}
 use Rattle.trace_audit.specs.Faults.{is_whole}
-use Rattle.trace_audit.specs.Logs.{LogLine}
+use Rattle.trace_audit.specs.Logs.{TopicRow}
 use Rattle.trace_audit.specs.Trace.{TraceData, fits, rows_of}
 use Rattle.trace_audit.specs.Inner.Orders.{IsOrdersOf}
 use Rattle.trace_audit.specs.Inner.Sorting.{IsSortingOf}
@@ -17,12 +17,12 @@ returns-in-Ok-Some-clause-refused c = λ no.
 
 explained_here : (c : goal.In-Ok-agree) → IsExplainedBy c.in-Ok-agree.agreed.rows c.args.trace.now
 explained_here c =
-    let lines = c.args.trace.now in
-    let logs : c.trace.inside.logs.items ≡ lines.logs = ap (λ (z : TraceData). z.logs) c.trace.view_is in
-    explains lines lines.logs c.in-Ok-agree.agreed.rows refl
-    (subst (λ (z : List LogLine). list_all (λ (line : LogLine). fits line) z ≡ true) logs c.trace.invariant.0)
+    let trace = c.args.trace.now in
+    let logs : c.trace.inside.logs.items ≡ trace.logs = ap (λ (z : TraceData). z.logs) c.trace.view_is in
+    explains trace trace.logs c.in-Ok-agree.agreed.rows refl
+    (subst (λ (z : List TopicRow). list_all (λ (logged : TopicRow). fits logged) z ≡ true) logs c.trace.invariant.0)
     (sym c.in-Ok-None.ensures ∙ c.in-Ok-None.field-0-is)
-    (subst (λ (z : List LogLine). IsSortingOf c.in-Ok-agree.agreed.rows (rows_of z)) (c.deref-2.ensures.value ∙ logs) c.in-Ok-agree.ensures.sorted)
+    (subst (λ (z : List TopicRow). IsSortingOf c.in-Ok-agree.agreed.rows (rows_of z)) (c.deref-2.ensures.value ∙ logs) c.in-Ok-agree.ensures.sorted)
 
 complete_is : (c : goal.In-Ok-agree) → c.in-Ok-agree.agreed.complete ≡ is_whole c.args.trace.now.logs
 complete_is c =

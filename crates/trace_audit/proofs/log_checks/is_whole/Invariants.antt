@@ -6,4 +6,4 @@ use Rattle.trace_audit.proofs.log_checks.is_whole.Given as goal
 -- the rows that are left are whole exactly where all are
 abbrev pub invariant-loop-row : goal.invariant-loop-row
 invariant-loop-row l =
-    list_all (λ line. list_all (λ t. log_has_row t line.row.id l.fn.logs) line.row.topics) (drop l.row-index l.logs) ≡ is_whole l.fn.logs
+    list_all (λ logged. list_all (λ t. log_has_row t logged.row.id l.fn.logs) logged.row.topics) (drop l.row-index l.logs) ≡ is_whole l.fn.logs

@@ -9,5 +9,5 @@ use Rattle.trace_audit.proofs.queue_checks.are_marks.Given as goal
 -- what is left is the same exactly where all is
 abbrev pub invariant-loop-index : goal.invariant-loop-index
 invariant-loop-index l =
-    pointwise same_mark (map queue_mark (rows_of_refs (drop l.index l.queue))) (map (λ line. row_mark line.row) (rows_of_refs (drop l.index l.log)))
-    ≡ pointwise same_mark (map queue_mark (rows_of_refs l.fn.queue)) (map (λ line. row_mark line.row) (rows_of_refs l.fn.log))
+    pointwise same_mark (map queue_mark (rows_of_refs (drop l.index l.queue))) (map (λ logged. row_mark logged.row) (rows_of_refs (drop l.index l.log)))
+    ≡ pointwise same_mark (map queue_mark (rows_of_refs l.fn.queue)) (map (λ logged. row_mark logged.row) (rows_of_refs l.fn.log))

@@ -11,4 +11,4 @@ returns-clause-rises c = λ k d low high.
 
 pub returns-clause-kept : goal.returns-clause-kept
 returns-clause-kept c = λ sub.
-    kept_shown (λ line. line.sub) (queue_row sub) c.args.queues.now c.in_ok-rows.rows.items c.sort_by_key.new.self.items c.in_ok-rows.ensures (c.sort_by_key.ensures.stable (λ p. p.now.sub) (answers_always _ _ _ (λ f a r g h. search rules)))
+    kept_shown (λ queued. queued.sub) (queue_row sub) c.args.queues.now c.in_ok-rows.rows.items c.sort_by_key.new.self.items c.in_ok-rows.ensures (c.sort_by_key.ensures.stable (λ p. p.now.sub) (answers_always _ _ _ (λ f a r g h. search rules)))

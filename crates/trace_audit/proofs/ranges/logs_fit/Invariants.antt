@@ -6,4 +6,4 @@ use Rattle.trace_audit.proofs.ranges.logs_fit.Given as goal
 
 -- the numbers of the rows so far fit
 abbrev pub invariant-loop-row : goal.invariant-loop-row
-invariant-loop-row l = AllByRecursion IsRowInRange (map (λ line. row_kind.Log line) (take l.row-index l.fn.logs))
+invariant-loop-row l = AllByRecursion IsRowInRange (map (λ logged. row_kind.Log logged) (take l.row-index l.fn.logs))

@@ -6,4 +6,4 @@ use Rattle.trace_audit.proofs.ranges.queues_fit.Given as goal
 
 -- the numbers of the rows so far fit
 abbrev pub invariant-loop-row : goal.invariant-loop-row
-invariant-loop-row l = AllByRecursion IsRowInRange (map (λ line. row_kind.Queue line) (take l.row-index l.fn.queues))
+invariant-loop-row l = AllByRecursion IsRowInRange (map (λ queued. row_kind.Queue queued) (take l.row-index l.fn.queues))

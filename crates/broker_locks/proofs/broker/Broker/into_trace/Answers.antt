@@ -18,7 +18,7 @@ returns-in_err-rows-clause-refused g c =
       places = inv.places ++ place ∷ [];
       few = omega (arith, inv.many, step, length_push inv.places place);
       each = balanced_more inv.places place inv.each c.rows.ensures.balanced;
-      why = inl (record { lines = c.rows.new.trace; first = gathered_first fault inv.places place c.loop-lock.trace c.rows.new.trace inv.adds c.in_err-rows.ensures.err });
+      why = inl (record { trace = c.rows.new.trace; first = gathered_first fault inv.places place c.loop-lock.trace c.rows.new.trace inv.adds c.in_err-rows.ensures.err });
     })
 
 pub loop-lock-preserved : goal.loop-lock-preserved

@@ -19,7 +19,7 @@ invariant_of-self g c =
     let x = c.self.inside.group.group.topic in
     let some = c.in-Some.is in
     let s = c.subscribe in
-    balanced_subscribed c.self.inside.group c.self.inside.tickets c.self.inside.released c.self.inside.cancelled c.self.inside.kept c.self.invariant s.result s.new.group (Some s.new.self) c.args.number (shown_of_source c.args.source).room
+    balanced_subscribed c.self.inside.group c.self.inside.tickets c.self.inside.released c.self.inside.cancelled c.self.inside.kept c.self.invariant s.result s.new.group (Some s.new.self) c.args.number (shown_of_source c.args.source).gauge
     (on_ok_two s.result (λ unused allowed. subst (λ (o : Option RowsKept). place_subscribe_fault c.args.number (place_with c.self.inside.group c.self.inside.tickets c.self.inside.released c.self.inside.cancelled o) ≡ None) (sym some) (allowed_some c.self.inside.group c.self.inside.tickets c.self.inside.released c.self.inside.cancelled c.args.number c.in-Some.kept unused allowed)) s.ensures.unused s.ensures.allowed)
     s.ensures.group
     (on_ok s.result (λ spans. ap (λ (z : RowsKept). Some z) spans ∙ sym (ap (λ (o : Option RowsKept). option_map (rows_subscribed c.args.number x.frontier) o) some)) s.ensures.spans)
@@ -30,7 +30,7 @@ invariant_of-self-in-None g c =
     let x = c.self.inside.group.group.topic in
     let none = c.in-None.is in
     let s = c.subscribe-in-None in
-    balanced_subscribed c.self.inside.group c.self.inside.tickets c.self.inside.released c.self.inside.cancelled c.self.inside.kept c.self.invariant s.result s.new.self c.self.inside.kept c.args.number (shown_of_source c.args.source).room
+    balanced_subscribed c.self.inside.group c.self.inside.tickets c.self.inside.released c.self.inside.cancelled c.self.inside.kept c.self.invariant s.result s.new.self c.self.inside.kept c.args.number (shown_of_source c.args.source).gauge
     (on_ok s.result (λ allowed. ap (λ (o : Option RowsKept). place_subscribe_fault c.args.number (place_with c.self.inside.group c.self.inside.tickets c.self.inside.released c.self.inside.cancelled o)) none ∙ allowed) s.ensures.allowed)
     s.ensures.ok
     (on_ok s.result (λ allowed. none ∙ sym (ap (λ (o : Option RowsKept). option_map (rows_subscribed c.args.number x.frontier) o) none)) s.ensures.allowed)
@@ -44,12 +44,12 @@ returns-in-Some-clause-allowed g c =
 pub returns-in-Some-clause-ok : goal.returns-in-Some-clause-ok
 returns-in-Some-clause-ok g c =
     let base : place_with c.self.inside.group c.self.inside.tickets c.self.inside.released c.self.inside.cancelled (Some c.in-Some.kept) ≡ c.args.self.now = ap (λ (o : Option RowsKept). place_with c.self.inside.group c.self.inside.tickets c.self.inside.released c.self.inside.cancelled o) (sym c.in-Some.is) ∙ c.self.view_is in
-    let room = (shown_of_source c.args.source).room in
+    let gauge = (shown_of_source c.args.source).gauge in
     on_ok_two c.subscribe.result (λ group spans.
     ap (λ (z : CellGroupState). place_with z c.self.inside.tickets c.self.inside.released c.self.inside.cancelled (Some c.subscribe.new.self)) group
-    ∙ (ap (λ (z : RowsKept). place_with (record c.self.inside.group { group = group_after_subscribe c.args.number room c.self.inside.group.group }) c.self.inside.tickets c.self.inside.released c.self.inside.cancelled (Some z)) spans
-    ∙ (viewed_subscribed c.self.inside.group c.self.inside.tickets c.self.inside.released c.self.inside.cancelled c.args.number room c.in-Some.kept
-    ∙ ap (place_after_subscribe c.args.number room) base))) c.subscribe.ensures.group c.subscribe.ensures.spans
+    ∙ (ap (λ (z : RowsKept). place_with (record c.self.inside.group { group = group_after_subscribe c.args.number gauge c.self.inside.group.group }) c.self.inside.tickets c.self.inside.released c.self.inside.cancelled (Some z)) spans
+    ∙ (viewed_subscribed c.self.inside.group c.self.inside.tickets c.self.inside.released c.self.inside.cancelled c.args.number gauge c.in-Some.kept
+    ∙ ap (place_after_subscribe c.args.number gauge) base))) c.subscribe.ensures.group c.subscribe.ensures.spans
 
 pub returns-in-Some-clause-fault : goal.returns-in-Some-clause-fault
 returns-in-Some-clause-fault g c =

@@ -2,7 +2,7 @@ use Rattle.std.proofs.Common.{◌≡◌, rules, List, true, false, [], ◌++◌,
 use Rattle.std.proofs.lemmas.List.{places, with_items_is}
 use Rattle.std.specs.Vec.{with_items}
 use Rattle.broker_server.specs.declared.conversation.drained.Taking.{Taking}
-use Rattle.broker_server.specs.BrokerRows.{AsksInTurn}
+use Rattle.broker_server.specs.BrokerRows.{AsksInOrder}
 use Rattle.broker_server.specs.Conversations.{ConversationState, EndsByError, OpenSubState, closing_rows}
 use Rattle.broker_server.specs.Delivering.{Settles, has_item}
 use Rattle.broker_server.proofs.ConversationLemmas.{asks_on}
@@ -14,7 +14,7 @@ returns-in-Emptied g c =
     let held = c.self.inside in
     let did = c.drain_queues-next.ensures in
     let new = c.drain_queues-next.new in
-    let turn = c.drain_queues-next.result.1 in
+    let next = c.drain_queues-next.result.1 in
     let end = c.drain_queues-next.result.0.end in
     let with : List OpenSubState → ConversationState = λ subs. record {
       reader = held.reader;
@@ -27,26 +27,26 @@ returns-in-Emptied g c =
       cut = held.cut;
       more = false;
       capacity = held.capacity;
-      turn = turn;
+      next = next;
     } in
     let old = c.args.self.now in
-    let after : ConversationState = record old { subs = new.queues; wire = new.wire; turn = turn } in
+    let after : ConversationState = record old { subs = new.queues; wire = new.wire; next = next } in
     let left = with (with_items held.subs new.queues).items in
     let changed : left ≡ record after { more = false } =
     ap with (with_items_is held.subs new.queues (search (rules, places)))
-    ∙ ap (λ (s : ConversationState). record s { subs = new.queues; wire = new.wire; turn = turn; more = false }) c.self.view_is in
-    let drains = drains_whole held.capacity old.capacity held.first old.turn did.0 c.as_mut_slice-queues.result.now old.subs held.wire old.wire end new.queues new.wire turn
-    (ap (λ (s : ConversationState). s.capacity) c.self.view_is) (ap (λ (s : ConversationState). s.turn) c.self.view_is) (c.as_mut_slice-queues.ensures.value ∙ ap (λ (s : ConversationState). s.subs) c.self.view_is) (ap (λ (s : ConversationState). s.wire) c.self.view_is) did.2 in
+    ∙ ap (λ (s : ConversationState). record s { subs = new.queues; wire = new.wire; next = next; more = false }) c.self.view_is in
+    let drains = drains_whole held.capacity old.capacity held.next old.next did.0 c.as_mut_slice-queues.result.now old.subs held.wire old.wire end new.queues new.wire next
+    (ap (λ (s : ConversationState). s.capacity) c.self.view_is) (ap (λ (s : ConversationState). s.next) c.self.view_is) (c.as_mut_slice-queues.ensures.value ∙ ap (λ (s : ConversationState). s.subs) c.self.view_is) (ap (λ (s : ConversationState). s.wire) c.self.view_is) did.2 in
     let any = c.drain_queues-next.result.0.any in
     let settles = subst (λ (t : Taking). Settles t (has_item did.0) after [] any left) (sym c.in-Emptied.is) (refl, did.3, changed) in
-    (did.0, did.1, inr (search rules, did.0, [], sym (append-nil did.0), end, new.queues, new.wire, turn, drains, settles))
+    (did.0, did.1, inr (search rules, did.0, [], sym (append-nil did.0), end, new.queues, new.wire, next, drains, settles))
 
 pub returns-in-Stopped : goal.returns-in-Stopped
 returns-in-Stopped g c =
     let held = c.self.inside in
     let did = c.drain_queues-next.ensures in
     let new = c.drain_queues-next.new in
-    let turn = c.drain_queues-next.result.1 in
+    let next = c.drain_queues-next.result.1 in
     let end = c.drain_queues-next.result.0.end in
     let with : List OpenSubState → ConversationState = λ subs. record {
       reader = held.reader;
@@ -59,19 +59,19 @@ returns-in-Stopped g c =
       cut = held.cut;
       more = true;
       capacity = held.capacity;
-      turn = turn;
+      next = next;
     } in
     let old = c.args.self.now in
-    let after : ConversationState = record old { subs = new.queues; wire = new.wire; turn = turn } in
+    let after : ConversationState = record old { subs = new.queues; wire = new.wire; next = next } in
     let left = with (with_items held.subs new.queues).items in
     let changed : left ≡ record after { more = true } =
     ap with (with_items_is held.subs new.queues (search (rules, places)))
-    ∙ ap (λ (s : ConversationState). record s { subs = new.queues; wire = new.wire; turn = turn; more = true }) c.self.view_is in
-    let drains = drains_whole held.capacity old.capacity held.first old.turn did.0 c.as_mut_slice-queues.result.now old.subs held.wire old.wire end new.queues new.wire turn
-    (ap (λ (s : ConversationState). s.capacity) c.self.view_is) (ap (λ (s : ConversationState). s.turn) c.self.view_is) (c.as_mut_slice-queues.ensures.value ∙ ap (λ (s : ConversationState). s.subs) c.self.view_is) (ap (λ (s : ConversationState). s.wire) c.self.view_is) did.2 in
+    ∙ ap (λ (s : ConversationState). record s { subs = new.queues; wire = new.wire; next = next; more = true }) c.self.view_is in
+    let drains = drains_whole held.capacity old.capacity held.next old.next did.0 c.as_mut_slice-queues.result.now old.subs held.wire old.wire end new.queues new.wire next
+    (ap (λ (s : ConversationState). s.capacity) c.self.view_is) (ap (λ (s : ConversationState). s.next) c.self.view_is) (c.as_mut_slice-queues.ensures.value ∙ ap (λ (s : ConversationState). s.subs) c.self.view_is) (ap (λ (s : ConversationState). s.wire) c.self.view_is) did.2 in
     let any = c.drain_queues-next.result.0.any in
     let settles = subst (λ (t : Taking). Settles t (has_item did.0) after [] any left) (sym c.in-Stopped.is) (refl, did.3, changed) in
-    (did.0, did.1, inr (search rules, did.0, [], sym (append-nil did.0), end, new.queues, new.wire, turn, drains, settles))
+    (did.0, did.1, inr (search rules, did.0, [], sym (append-nil did.0), end, new.queues, new.wire, next, drains, settles))
 
 pub returns-in-Failed : goal.returns-in-Failed
 returns-in-Failed g c =
@@ -79,7 +79,7 @@ returns-in-Failed g c =
     let held = c.self.inside in
     let did = c.drain_queues-next.ensures in
     let new = c.drain_queues-next.new in
-    let turn = c.drain_queues-next.result.1 in
+    let next = c.drain_queues-next.result.1 in
     let end = c.drain_queues-next.result.0.end in
     let with : List OpenSubState → ConversationState = λ subs. record {
       reader = held.reader;
@@ -92,23 +92,23 @@ returns-in-Failed g c =
       cut = held.cut;
       more = false;
       capacity = held.capacity;
-      turn = turn;
+      next = next;
     } in
     let old = c.args.self.now in
-    let after : ConversationState = record old { subs = new.queues; wire = new.wire; turn = turn } in
+    let after : ConversationState = record old { subs = new.queues; wire = new.wire; next = next } in
     let left = with (with_items held.subs new.queues).items in
     let changed : left ≡ record after { more = false } =
     ap with (with_items_is held.subs new.queues (search (rules, places)))
-    ∙ ap (λ (s : ConversationState). record s { subs = new.queues; wire = new.wire; turn = turn; more = false }) c.self.view_is in
-    let drains = drains_whole held.capacity old.capacity held.first old.turn did.0 c.as_mut_slice-queues.result.now old.subs held.wire old.wire end new.queues new.wire turn
-    (ap (λ (s : ConversationState). s.capacity) c.self.view_is) (ap (λ (s : ConversationState). s.turn) c.self.view_is) (c.as_mut_slice-queues.ensures.value ∙ ap (λ (s : ConversationState). s.subs) c.self.view_is) (ap (λ (s : ConversationState). s.wire) c.self.view_is) did.2 in
+    ∙ ap (λ (s : ConversationState). record s { subs = new.queues; wire = new.wire; next = next; more = false }) c.self.view_is in
+    let drains = drains_whole held.capacity old.capacity held.next old.next did.0 c.as_mut_slice-queues.result.now old.subs held.wire old.wire end new.queues new.wire next
+    (ap (λ (s : ConversationState). s.capacity) c.self.view_is) (ap (λ (s : ConversationState). s.next) c.self.view_is) (c.as_mut_slice-queues.ensures.value ∙ ap (λ (s : ConversationState). s.subs) c.self.view_is) (ap (λ (s : ConversationState). s.wire) c.self.view_is) did.2 in
     let why = c.in-Failed.fault in
     let last = c.fail.new in
     let rest = closing_rows after in
-    let rows = subst (λ (s : ConversationState). AsksInTurn called new.calls (closing_rows s) last.calls) changed c.fail.ensures.rows in
+    let rows = subst (λ (s : ConversationState). AsksInOrder called new.calls (closing_rows s) last.calls) changed c.fail.ensures.rows in
     let fails = subst (λ (s : ConversationState). EndsByError why None s last.self) changed c.fail.ensures.fails in
     let settles = subst (λ (t : Taking). Settles t (has_item did.0) after rest true last.self) (sym c.in-Failed.is) (refl, refl, fails) in (
       did.0 ++ rest,
       asks_on called c.args.calls.now new.calls last.calls did.0 rest did.1 rows,
-      inr (search rules, did.0, rest, refl, end, new.queues, new.wire, turn, drains, settles),
+      inr (search rules, did.0, rest, refl, end, new.queues, new.wire, next, drains, settles),
     )

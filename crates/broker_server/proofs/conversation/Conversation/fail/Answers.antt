@@ -25,7 +25,7 @@ returns-in-Ok-clause-fails g c =
       cut = held.cut;
       more = held.more;
       capacity = held.capacity;
-      turn = held.first;
+      next = held.next;
     } in
     let was = c.self.view_is ∙ c.close.ensures.closed in
     let told = ap (λ (t : List ℕ). held.wire ++ spelling_of (error_frame t receipt c.says_version.result)) c.title.ensures
@@ -49,7 +49,7 @@ returns-in-Err-clause-fails g c =
       cut = true;
       more = held.more;
       capacity = held.capacity;
-      turn = held.first;
+      next = held.next;
     } in
     let was = c.self.view_is ∙ c.close.ensures.closed in
     let err = on_err c.put_frame.result _ _ c.in-Err.is c.put_frame.ensures.err in

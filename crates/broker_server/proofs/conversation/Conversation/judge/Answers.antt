@@ -24,7 +24,7 @@ returns-in-Ok-clause-accepted g c =
       cut = held.cut;
       more = held.more;
       capacity = held.capacity;
-      turn = held.first;
+      next = held.next;
     } in (
       [],
       refl,
@@ -51,7 +51,7 @@ returns-in-Err-clause-refused g c =
       cut = held.cut;
       more = held.more;
       capacity = held.capacity;
-      turn = held.first;
+      next = held.next;
     } in (
       [],
       refl,
@@ -82,7 +82,7 @@ returns-in-Ok-step-clause-accepted g c =
       cut = held.cut;
       more = held.more;
       capacity = held.capacity;
-      turn = held.first;
+      next = held.next;
     } in (
       row ∷ [],
       asks_one g.C.BrokerCalls.called c.args.calls.now c.step-2.new.self row c.in-Ok-step.ensures.called,
@@ -111,7 +111,7 @@ returns-in-Err-step-clause-refused g c =
       cut = held.cut;
       more = held.more;
       capacity = held.capacity;
-      turn = held.first;
+      next = held.next;
     } in (
       row ∷ [],
       asks_one g.C.BrokerCalls.called c.args.calls.now c.step-2.new.self row c.in-Err-step.ensures.called,

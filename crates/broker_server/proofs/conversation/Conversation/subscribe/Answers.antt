@@ -22,7 +22,7 @@ returns-in-Ok g c =
       cut = held.cut;
       more = held.more;
       capacity = held.capacity;
-      turn = held.first;
+      next = held.next;
     } in (
       row ∷ [],
       asks_one called c.args.calls.now c.subscribe.new.self row c.in-Ok.ensures.begun,
@@ -51,7 +51,7 @@ returns-in-Err g c =
       cut = held.cut;
       more = held.more;
       capacity = held.capacity;
-      turn = held.first;
+      next = held.next;
     } in (
       row ∷ [],
       asks_one called c.args.calls.now c.subscribe.new.self row c.in-Err.ensures.refused,

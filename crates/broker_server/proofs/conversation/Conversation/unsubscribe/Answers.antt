@@ -6,7 +6,7 @@ use Rattle.std.specs.List.{list_any, position}
 use Rattle.std.proofs.lemmas.List.Quantifiers.{position-Some}
 use Rattle.mcast_group.proofs.Indices.{none_at}
 use Rattle.broker_server.specs.BrokerRows.{SubName, Unsubscribes}
-use Rattle.broker_server.specs.Conversations.{ConversationState, OpenSubState, is_of_id, turn_without}
+use Rattle.broker_server.specs.Conversations.{ConversationState, OpenSubState, is_of_id, next_without}
 use Rattle.broker_server.proofs.ConversationLemmas.{asks_one, none_before}
 use Rattle.broker_server.proofs.conversation.Conversation.unsubscribe.Goals as goal
 
@@ -37,9 +37,9 @@ returns g c =
     let cut : subs ≡ front ++ it ∷ back = split_at subs i it there
     ∙ ap (λ (n : ℕ). front ++ get_or subs i it ∷ drop n subs) next
     ∙ ap (λ (o : OpenSubState). front ++ o ∷ back) (sym c.remove-open.ensures.value) in
-    let place : length front ≡ i = length-take-le i subs (omega arith) in
-    let turns = c.turn_without-self-inside.ensures ∙ ap (λ (n : ℕ). turn_without n held.first) (sym place) in
-    let with : List OpenSubState → ℕ → ConversationState = λ xs turn. record {
+    let index : length front ≡ i = length-take-le i subs (omega arith) in
+    let is_next = c.next_without-self-inside.ensures ∙ ap (λ (n : ℕ). next_without n held.next) (sym index) in
+    let with : List OpenSubState → ℕ → ConversationState = λ xs next. record {
       reader = held.reader;
       session = held.session;
       names = held.names;
@@ -50,7 +50,7 @@ returns g c =
       cut = held.cut;
       more = held.more;
       capacity = held.capacity;
-      turn = turn;
+      next = next;
     } in (
       Unsubscribes it.sub ∷ [],
       asks_one called c.args.calls.now c.unsubscribe.new.self (Unsubscribes it.sub) one,
@@ -64,8 +64,8 @@ returns g c =
           ap (is_of_id id) c.remove-open.ensures.value ∙ found.1,
           none_before (is_of_id id) subs i it found.2,
           refl,
-          ap (λ (xs : List OpenSubState). with xs c.turn_without-self-inside.result) c.remove-open.ensures.by_index.2
-              ∙ (ap (with (front ++ back)) turns ∙ ap (λ (s : ConversationState). record s { subs = front ++ back; turn = turn_without (length front) s.turn }) c.self.view_is),
+          ap (λ (xs : List OpenSubState). with xs c.next_without-self-inside.result) c.remove-open.ensures.by_index.2
+              ∙ (ap (with (front ++ back)) is_next ∙ ap (λ (s : ConversationState). record s { subs = front ++ back; next = next_without (length front) s.next }) c.self.view_is),
         ),
       ),
     )

@@ -1,7 +1,7 @@
 use Rattle.std.proofs.Common.{◌≡◌, ◌+◌, ◌<◌, ℕ, true, length, map, get_or, ap, subst, ◌∙◌, arith}
 use Rattle.std.specs.List.{list_all}
 use Rattle.mcast_group.specs.Group.{GroupState}
-use Rattle.trace_audit.specs.Logs.{LogLine}
+use Rattle.trace_audit.specs.Logs.{TopicRow}
 use Rattle.trace_audit.specs.Trace.{fits}
 use Rattle.delivery.specs.Inner.View.{View}
 use Rattle.delivery.specs.Traces.{traced_log}
@@ -16,8 +16,8 @@ add_log-requires c =
     let read : c.index.result.now ≡ get_or groups c.loop-i.i c.index.result.now = c.index.ensures ∙ ap (λ (v : View). get_or v.groups c.loop-i.i c.index.result.now) c.self.view_is in
     let log = c.index.result.now.topic.held in
     let first : 0 + c.loop-i.i ≡ c.loop-i.i = omega arith in
-    subst (λ (n : ℕ). list_all (λ (line : LogLine). fits line) (traced_log n log) ≡ true) first
-    (passes_made (λ (line : LogLine). fits line) traced_log 0 (map (λ (g : GroupState). g.topic.held) groups) c.loop-i.i log c.requires.fit
+    subst (λ (n : ℕ). list_all (λ (logged : TopicRow). fits logged) (traced_log n log) ≡ true) first
+    (passes_made (λ (logged : TopicRow). fits logged) traced_log 0 (map (λ (g : GroupState). g.topic.held) groups) c.loop-i.i log c.requires.fit
     (held_at groups c.loop-i.i c.index.result.now there read))
 
 pub loop-i-preserved : goal.loop-i-preserved

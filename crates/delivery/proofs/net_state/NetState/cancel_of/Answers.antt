@@ -27,7 +27,7 @@ unreachable-requires c =
     let g = c.index_mut-group.result.now in
     let grouped : is_group t c.self.inside.groups.items ≡ true = sym (c.if-not-has_group.ensures ∙ ap (is_group t) c.deref.ensures.value) in
     let group = group_read k t c.self.inside.groups.items g (ap (λ (v : View). v.groups) view) grouped c.index_mut-group.ensures.value in
-    cancel_never k s t c.in-Some.place c.in-Some.id x g c.in-Err-NotPending.field-0 c.cancel.result c.requires.1 held.0 held.1 group.0 group.1
+    cancel_never k s t c.in-Some.at c.in-Some.id x g c.in-Err-NotPending.field-0 c.cancel.result c.requires.1 held.0 held.1 group.0 group.1
     c.in-Some.ensures.at c.in-Some.ensures.id c.cancel.ensures.answer c.in-Err-NotPending.is
 
 pub unreachable-requires-in-Err-Decided : goal.unreachable-requires-in-Err-Decided
@@ -43,5 +43,5 @@ unreachable-requires-in-Err-Decided c =
     let g = c.index_mut-group.result.now in
     let grouped : is_group t c.self.inside.groups.items ≡ true = sym (c.if-not-has_group.ensures ∙ ap (is_group t) c.deref.ensures.value) in
     let group = group_read k t c.self.inside.groups.items g (ap (λ (v : View). v.groups) view) grouped c.index_mut-group.ensures.value in
-    cancel_never k s t c.in-Some.place c.in-Some.id x g c.in-Err-Decided.field-0 c.cancel.result c.requires.1 held.0 held.1 group.0 group.1
+    cancel_never k s t c.in-Some.at c.in-Some.id x g c.in-Err-Decided.field-0 c.cancel.result c.requires.1 held.0 held.1 group.0 group.1
     c.in-Some.ensures.at c.in-Some.ensures.id c.cancel.ensures.answer c.in-Err-Decided.is

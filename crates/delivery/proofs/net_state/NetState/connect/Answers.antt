@@ -50,7 +50,7 @@ returns-in-Ok-claim-clause-ok c k f left receipt asks kept =
     let clients = c.args.clients.now in
     let id = c.id_of-id.ensures in
     connect_both k c.args.connection f left c.args.client.now receipt c.args.self.now clients asks kept
-    c.write.new.self c.claim.new.self c.speak_for.new.self c.in-Ok-claim.sender c.claim.new.clients no_endpoint
+    c.write.new.self c.claim.new.self c.speak_for.new.self c.in-Ok-claim.sender.0 c.claim.new.clients no_endpoint
     (ap (λ (o : Option (List ℕ)). claim_refusal o clients) (sym id) ∙ sym c.in_default.ensures)
     (c.in-Ok.ensures.ok no_endpoint)
     (ap (λ (o : Option (List ℕ)). (claimed_gate o clients).sender.0) (sym id) ∙ h.ok)

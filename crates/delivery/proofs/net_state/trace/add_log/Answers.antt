@@ -1,20 +1,20 @@
 use Rattle.std.proofs.Common.{◌≡◌, Some, not, ap, sym, ◌∙◌}
 use Rattle.std.specs.Prelude.{slice_get}
 use Rattle.std.specs.Option.{option_map}
-use Rattle.trace_audit.specs.Logs.{LogLine}
+use Rattle.trace_audit.specs.Logs.{TopicRow}
 use Rattle.trace_audit.specs.Trace.{fits}
-use Rattle.delivery.proofs.Traces.Made.{line_fits, log_grows}
+use Rattle.delivery.proofs.Traces.Made.{logged_fits, log_grows}
 use Rattle.delivery.proofs.net_state.trace.add_log.Goals as goal
 
 pub put-requires : goal.put-requires
 put-requires c =
     let rows = c.args.group.now.topic.held in
     let is : slice_get rows c.loop-i.i ≡ Some c.unwrap.result.now = sym c.held.ensures ∙ ap (option_map _) c.unwrap.ensures in
-    ap not (ap (λ (line : LogLine). fits line) c.in_ok-line.ensures ∙ line_fits c.args.topic rows c.loop-i.i c.unwrap.result.now c.requires is)
+    ap not (ap (λ (logged : TopicRow). fits logged) c.in_ok-logged.ensures ∙ logged_fits c.args.topic rows c.loop-i.i c.unwrap.result.now c.requires is)
 
 pub loop-i-preserved : goal.loop-i-preserved
 loop-i-preserved c =
     let rows = c.args.group.now.topic.held in
     let is : slice_get rows c.loop-i.i ≡ Some c.unwrap.result.now = sym c.held.ensures ∙ ap (option_map _) c.unwrap.ensures in
-    log_grows c.args.trace.now c.loop-i.trace c.put.new.trace c.args.topic rows c.loop-i.i c.unwrap.result.now c.in_ok-line.line
-    is c.loop-i.invariant c.in_ok-line.ensures c.in_ok-put.ensures
+    log_grows c.args.trace.now c.loop-i.trace c.put.new.trace c.args.topic rows c.loop-i.i c.unwrap.result.now c.in_ok-logged.logged
+    is c.loop-i.invariant c.in_ok-logged.ensures c.in_ok-put.ensures

@@ -2,12 +2,13 @@ use Rattle.std.proofs.Common.{◌≡◌, List, length, None, refl, sym, ap, subs
 use Rattle.mcast_txn.specs.Ids.{id_lt}
 use Rattle.mcast_txn.specs.Lists.{In}
 use Rattle.mcast_txn.specs.Transaction.{TopicPart}
+use Rattle.mcast_txn.proofs.Inserting.{insert_length}
 use Rattle.mcast_group.specs.CellGroup.{Waiting, insert_waiting, waiting_ids}
 use Rattle.mcast_group.specs.Group.{GroupState}
 use Rattle.mcast_group.specs.Inner.Keys.{IsIndexPast}
 use Rattle.mcast_group.specs.Machine.{Pending, next_number, propose_fault}
 use Rattle.mcast_group.specs.Inner.CellGroup.{RisesInId}
-use Rattle.mcast_group.proofs.Waits.{entered_ids, free_of, ids, insert_waiting_length, none_waits, rises_in_id}
+use Rattle.mcast_group.proofs.Waits.{entered_ids, free_of, ids, none_waits, rises_in_id}
 use Rattle.mcast_group.proofs.cell_group.CellGroup.enter.Goals as goal
 
 pub enter_allowed-requires-clause-at : goal.enter_allowed-requires-clause-at
@@ -37,7 +38,7 @@ invariant_of-self-2 g c =
     let part = c.into_parts-prepared.result.0 in
     let same : c.id.result ≡ part.id = c.id.ensures ∙ ap (λ (z : TopicPart). z.id) c.part-2.ensures in
     let put = c.put.ensures ∙ ap (insert_waiting _) c.make_room.ensures.waiting in
-    let many = ap (λ (ws : List Waiting). length ws) put ∙ insert_waiting_length _ s.waiting.items in
+    let many = ap (λ (ws : List Waiting). length ws) put ∙ insert_length _ _ s.waiting.items in
     let notes = ap (λ ns. length ns) c.make_room.ensures.notes in
     let room = c.in-Ok.ensures.noted in
     record {

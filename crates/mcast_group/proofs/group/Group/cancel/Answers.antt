@@ -1,6 +1,6 @@
 use Rattle.std.proofs.Common.{◌≡◌, map, sym, ap, ◌∙◌, arith}
 use Rattle.mcast_group.specs.Group.{GroupState, result_of, topic_state}
-use Rattle.mcast_group.specs.Inner.GroupInvariant.{entry_of, room_of}
+use Rattle.mcast_group.specs.Inner.GroupInvariant.{entry_of, gauge_of}
 use Rattle.mcast_group.specs.Machine.{TopicState, cancel_fault, cancel_fault_of, after_cancel}
 use Rattle.mcast_group.proofs.Indices.{found_at, none_found, part_at, without_found}
 use Rattle.mcast_group.proofs.Groups.{cancel_decided, cancel_none, cancelled_state}
@@ -57,5 +57,5 @@ returns-clause-answer g c =
 
 pub returns-clause-ok : goal.returns-clause-ok
 returns-clause-ok g c =
-    ap (λ (x : TopicState). record { topic = x; rooms = map (room_of g.Q.Outlet.shown) c.self.inside.subscriptions }) (gone g c)
-    ∙ ap (λ (z : GroupState). record { topic = after_cancel c.args.id z.topic; rooms = z.rooms }) c.self.view_is
+    ap (λ (x : TopicState). record { topic = x; gauges = map (gauge_of g.Q.Outlet.shown) c.self.inside.subscriptions }) (gone g c)
+    ∙ ap (λ (z : GroupState). record { topic = after_cancel c.args.id z.topic; gauges = z.gauges }) c.self.view_is

@@ -36,8 +36,8 @@ loop-index-preserved g c =
       same = ap (λ (z : GroupState). parts z.topic.pending) t.2 ∙ (same_parts (get_or x.pending i some_part).part.id t.0 x ∙ inv.same);
       each = found_push (MayBeFound (g.V.Verdicts.finds c.args.verdicts.now)) inv.found t.0 old.pending i some_part inv.many within inv.each (subst (λ (z : TopicPart). MayBeFound (g.V.Verdicts.finds c.args.verdicts.now) z t.0) here t.1);
       is = t.2
-          ∙ (ap (λ (z : GroupState). record { topic = after_try (get_or x.pending i some_part).part.id t.0 z.topic; rooms = z.rooms }) inv.is
-          ∙ ap (λ (z : TopicState). record { topic = z; rooms = c.args.self.now.rooms })
+          ∙ (ap (λ (z : GroupState). record { topic = after_try (get_or x.pending i some_part).part.id t.0 z.topic; gauges = z.gauges }) inv.is
+          ∙ ap (λ (z : TopicState). record { topic = z; gauges = c.args.self.now.gauges })
           (ap (λ (z : TopicPart). after_try z.id t.0 (tried_each inv.found old.pending old)) here ∙ sym (tried_push inv.found t.0 old.pending i some_part old inv.many within)));
     }
 

@@ -11,5 +11,5 @@ invariant-loop-index g l = record {
   many : length found ≡ l.index;
   same : parts l.self.topic.pending ≡ parts l.fn.self.topic.pending;
   each : FoundEach (MayBeFound (g.V.Verdicts.finds l.verdicts)) found l.fn.self.topic.pending;
-  is : l.self ≡ record { topic = tried_each found l.fn.self.topic.pending l.fn.self.topic; rooms = l.fn.self.rooms };
+  is : l.self ≡ record { topic = tried_each found l.fn.self.topic.pending l.fn.self.topic; gauges = l.fn.self.gauges };
 }

@@ -34,16 +34,16 @@ put-requires g c =
     let x = topic_state s.topic s.clock s.log_limit s.pending s.base s.rows.items s.frontier (map (entry_of g.Q.Outlet.shown) s.subscriptions) in
     let part = c.args.prepared in
     let may = c.requires.may in
-    let entry : c.in_ok-entry.entry ≡ record { part = part; number = c.args.n; learnt = None } = c.in_ok-entry.ensures.entry in
+    let numbered : c.in_ok-part.part ≡ record { part = part; number = c.args.n; learnt = None } = c.in_ok-part.ensures.part in
     let greatest = is_greatest may.0 part c.args.n x c.self.invariant.sound
     (may.1 ∙ ap (λ (z : GroupState). next_number may.0 z.topic) (sym c.self.view_is))
     (ap (λ (z : GroupState). propose_fault may.0 part z.topic) c.self.view_is ∙ may.2) in
     record {
       same = sym (copies_length _ s.pending s.copies.items c.self.invariant.copied);
-      at = subst (λ (z : Pending). IsIndexPast (λ (q : Pending). id_lt q.part.id z.part.id) s.pending c.args.index) (sym entry)
+      at = subst (λ (z : Pending). IsIndexPast (λ (q : Pending). id_lt q.part.id z.part.id) s.pending c.args.index) (sym numbered)
           (subst (λ (z : GroupState). IsIndexPast (λ (q : Pending). id_lt q.part.id part.id) z.topic.pending c.args.index) (sym c.self.view_is) c.requires.at);
-      free = ap (λ (z : Pending). is_pending z.part.id s.pending) entry ∙ greatest.free;
-      above = λ q k. ap (λ (z : Pending). stamp_lt (key q) (key z)) entry ∙ greatest.above q k;
+      free = ap (λ (z : Pending). is_pending z.part.id s.pending) numbered ∙ greatest.free;
+      above = λ q k. ap (λ (z : Pending). stamp_lt (key q) (key z)) numbered ∙ greatest.above q k;
     }
 
 pub invariant_of-self-in_err-put : goal.invariant_of-self-in_err-put
@@ -73,12 +73,12 @@ invariant_of-self-2 g c =
     let rows : c.reserve.new.self.items ≡ s.rows.items = c.in_ok-reserve.ensures.items in
     let part = c.args.prepared in
     let may = c.requires.may in
-    let entry : c.in_ok-entry.entry ≡ record { part = part; number = c.args.n; learnt = None } = c.in_ok-entry.ensures.entry in
-    let pending : c.put.new.pending ≡ insert_pending (record { part = part; number = c.args.n; learnt = None }) s.pending = c.in_ok-put.ensures.ok ∙ ap (λ (z : Pending). insert_pending z s.pending) entry in
+    let numbered : c.in_ok-part.part ≡ record { part = part; number = c.args.n; learnt = None } = c.in_ok-part.ensures.part in
+    let pending : c.put.new.pending ≡ insert_pending (record { part = part; number = c.args.n; learnt = None }) s.pending = c.in_ok-put.ensures.ok ∙ ap (λ (z : Pending). insert_pending z s.pending) numbered in
     let y = topic_state s.topic c.args.n s.log_limit c.put.new.pending s.base c.reserve.new.self.items s.frontier (map (entry_of shown) news) in
     let is : y ≡ after_enter c.args.n part x = rw (pending, rows, entries) refl in
     let left : (k : ℕ) (d : Subscription g.row.Q.Denot) → k < length olds → (get_or news k d).to ≡ None → length s.pending + 1 ≤ g.Q.Outlet.spare (get_or news k d).outlet = λ k d l o. (let all = c.in_ok-reserve_each.ensures.ok in let a = all k d l o in let e = c.len-2.ensures in omega arith) in
-    let copied : HaveCopies (open_count (map (entry_of shown) olds)) c.put.new.pending c.put.new.copies.items = c.in_ok-put.ensures.copies (open_count (map (entry_of shown) olds)) c.self.invariant.copied (c.in_ok-entry.ensures.many ∙ c.open_len.ensures) (subst (λ (z : TopicPart). AreOf z c.in_ok-entry.made) (sym (ap (λ (z : Pending). z.part) entry)) c.in_ok-entry.ensures.copies) in
+    let copied : HaveCopies (open_count (map (entry_of shown) olds)) c.put.new.pending c.put.new.copies.items = c.in_ok-put.ensures.copies (open_count (map (entry_of shown) olds)) c.self.invariant.copied (c.in_ok-part.ensures.many ∙ c.open_len.ensures) (subst (λ (z : TopicPart). AreOf z c.in_ok-part.made) (sym (ap (λ (z : Pending). z.part) numbered)) c.in_ok-part.ensures.copies) in
     kept_entered shown g.Q.Outlet.spare x y s.rows.capacity (c.reserve.new.self.capacity) c.args.n s.copies.items c.put.new.copies.items olds news may.0 part c.self.invariant
     (c.requires.own ∙ ap (λ (z : GroupState). z.topic.topic) (sym c.self.view_is))
     (may.1 ∙ ap (λ (z : GroupState). next_number may.0 z.topic) (sym c.self.view_is))

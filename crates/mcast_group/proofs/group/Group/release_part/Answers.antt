@@ -7,7 +7,7 @@ use Rattle.mcast_group.specs.declared.subscription.Subscription.{Subscription}
 use Rattle.mcast_group.specs.CellGroup.{open_count}
 use Rattle.mcast_group.specs.Inner.Copies.{HaveCopies}
 use Rattle.mcast_group.specs.Group.{GroupState, Releases, topic_state}
-use Rattle.mcast_group.specs.Inner.GroupInvariant.{Gave, entry_of, room_of}
+use Rattle.mcast_group.specs.Inner.GroupInvariant.{Gave, entry_of, gauge_of}
 use Rattle.mcast_group.specs.Machine.{Pending, due_part, item_of, key, after_release_of}
 use Rattle.mcast_group.proofs.Indices.{without_at}
 use Rattle.mcast_group.proofs.Groups.{released_state}
@@ -87,9 +87,9 @@ cut_copies-requires g c =
 
 many : (g : given.Over) (c : goal.After-drop-copies g) → length c.give_all.new.self ≡ length c.self.inside.subscriptions
 many g c =
-    sym (map_length (room_of g.Q.Outlet.shown) c.give_all.new.self) ∙ (ap (λ (rs : List _). length rs) (gave g c).rooms ∙ map_length (room_of g.Q.Outlet.shown) c.self.inside.subscriptions)
+    sym (map_length (gauge_of g.Q.Outlet.shown) c.give_all.new.self) ∙ (ap (λ (rs : List _). length rs) (gave g c).gauges ∙ map_length (gauge_of g.Q.Outlet.shown) c.self.inside.subscriptions)
 
-took : (g : given.Over) (c : goal.After-drop-copies g) → Taken g.Q.Outlet.may_accept c.self.inside.frontier (item_of c.remove_least-part.result) (map (entry_of g.Q.Outlet.shown) c.self.inside.subscriptions) (map (entry_of g.Q.Outlet.shown) c.give_all.new.self) (map (room_of g.Q.Outlet.shown) c.self.inside.subscriptions)
+took : (g : given.Over) (c : goal.After-drop-copies g) → Taken g.Q.Outlet.may_accept c.self.inside.frontier (item_of c.remove_least-part.result) (map (entry_of g.Q.Outlet.shown) c.self.inside.subscriptions) (map (entry_of g.Q.Outlet.shown) c.give_all.new.self) (map (gauge_of g.Q.Outlet.shown) c.self.inside.subscriptions)
 took g c = taken g.Q.Outlet.shown g.Q.Outlet.may_accept c.self.inside.frontier (item_of c.remove_least-part.result) c.self.inside.subscriptions c.give_all.new.self (numbers_differ _ c.self.invariant.sound.numbers) (gave g c)
 
 gone : (g : given.Over) (c : goal.After-drop-copies g) → c.in_ok-index.index < length c.self.inside.pending
@@ -140,5 +140,5 @@ returns-clause-released g c =
     let shown = g.Q.Outlet.shown in
     let x = topic_state s.topic s.clock s.log_limit s.pending s.base s.rows.items s.frontier (map (entry_of shown) s.subscriptions) in
     let y = λ (zs : List (Subscription g.row.Q.Denot)). topic_state s.topic s.clock s.log_limit c.remove_least-part.new.self s.base c.push.new.self.items c.stamp-self-inside.result (map (entry_of shown) zs) in
-    let done = some_released g.Q.Outlet.may_accept x (y c.give_all.new.self) (map (room_of shown) s.subscriptions) (map (room_of shown) c.give_all.new.self) c.remove_least-part.result (map (entry_of shown) c.give_all.new.self) (due g c) (took g c) (moved g c) (gave g c).rooms in
-    subst (λ (z : GroupState). Releases g.Q.Outlet.may_accept z (record { topic = y c.give_all.new.self; rooms = map (room_of shown) c.give_all.new.self })) c.self.view_is done
+    let done = some_released g.Q.Outlet.may_accept x (y c.give_all.new.self) (map (gauge_of shown) s.subscriptions) (map (gauge_of shown) c.give_all.new.self) c.remove_least-part.result (map (entry_of shown) c.give_all.new.self) (due g c) (took g c) (moved g c) (gave g c).gauges in
+    subst (λ (z : GroupState). Releases g.Q.Outlet.may_accept z (record { topic = y c.give_all.new.self; gauges = map (gauge_of shown) c.give_all.new.self })) c.self.view_is done

@@ -2,7 +2,7 @@ use Rattle.std.proofs.Common.{◌≡◌, get_or, map, Some, refl, sym, ap, subst
 use Rattle.std.proofs.lemmas.List.{get_or_default}
 use Rattle.mcast_group.proofs.Turns.{some_part}
 use Rattle.mcast_group.specs.Group.{CanLearn, GroupState, topic_state}
-use Rattle.mcast_group.specs.Inner.GroupInvariant.{entry_of, room_of}
+use Rattle.mcast_group.specs.Inner.GroupInvariant.{entry_of, gauge_of}
 use Rattle.mcast_group.specs.Machine.{TopicState, after_learn}
 use Rattle.mcast_group.proofs.Indices.{part_at, told_found}
 use Rattle.mcast_group.proofs.Groups.{learned_state}
@@ -41,5 +41,5 @@ invariant_of-self g c =
 
 pub returns : goal.returns
 returns g c =
-    ap (λ (x : TopicState). record { topic = x; rooms = map (room_of g.Q.Outlet.shown) c.self.inside.subscriptions }) (written g c)
-    ∙ ap (λ (z : GroupState). record { topic = after_learn c.args.id c.args.stamp z.topic; rooms = z.rooms }) c.self.view_is
+    ap (λ (x : TopicState). record { topic = x; gauges = map (gauge_of g.Q.Outlet.shown) c.self.inside.subscriptions }) (written g c)
+    ∙ ap (λ (z : GroupState). record { topic = after_learn c.args.id c.args.stamp z.topic; gauges = z.gauges }) c.self.view_is

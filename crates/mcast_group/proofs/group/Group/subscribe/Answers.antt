@@ -1,14 +1,14 @@
 use Rattle.std.proofs.Common.{◌≡◌, ◌≤◌, ℕ, ◌+◌, [], List, map, length, None, refl, sym, ap, subst, ◌∙◌}
 use Rattle.mcast_group.specs.CellGroup.{open_count}
-use Rattle.mcast_group.specs.Group.{GroupState, group_after_subscribe, rooms_with, topic_state, sub_refusal}
+use Rattle.mcast_group.specs.Group.{GroupState, group_after_subscribe, gauges_with, topic_state, sub_refusal}
 use Rattle.mcast_txn.specs.Span.{Item}
-use Rattle.sub_queue.specs.Shown.{Room, Shown}
+use Rattle.sub_queue.specs.Shown.{Gauge, Shown}
 use Rattle.mcast_group.specs.declared.subscription.Subscription.{Subscription}
 use Rattle.mcast_group.specs.Inner.Copies.{HaveCopies}
-use Rattle.mcast_group.specs.Inner.GroupInvariant.{IsKept, entry_of, room_of}
+use Rattle.mcast_group.specs.Inner.GroupInvariant.{IsKept, entry_of, gauge_of}
 use Rattle.mcast_group.specs.Machine.{Entry, TopicState, after_subscribe, subscribe_fault}
 use Rattle.mcast_group.proofs.Releasing.{copies_length}
-use Rattle.mcast_group.proofs.Subscribing.{in_use, not_in_use, kept_subscribed, rooms_are_with, subscribed_state}
+use Rattle.mcast_group.proofs.Subscribing.{in_use, not_in_use, kept_subscribed, gauges_are_with, subscribed_state}
 use Rattle.mcast_group.proofs.group.Group.subscribe.Given as given
 use Rattle.mcast_group.proofs.group.Group.subscribe.Goals as goal
 
@@ -85,12 +85,12 @@ returns-clause-ok g c =
     let new = c.make_room.new.sub in
     let x = topic_state s.topic s.clock s.log_limit s.pending s.base s.rows.items s.frontier (map (entry_of shown) s.subscriptions) in
     let number : new.number ≡ c.args.number = ap (λ (z : Entry). z.number) (numbered g c) in
-    let room : room_of shown new ≡ (shown c.args.outlet).room = ap (λ (z : Shown). z.room) c.in-Ok.ensures.shown in
-    let rooms : map (room_of shown) c.insert.new.self ≡ rooms_with c.args.number (shown c.args.outlet).room (map (entry_of shown) s.subscriptions) (map (room_of shown) s.subscriptions) =
-    ap (map (room_of shown)) c.in_default-insert.ensures.ok
-    ∙ (rooms_are_with shown new s.subscriptions
-    ∙ (ap (λ (n : ℕ). rooms_with n (room_of shown new) (map (entry_of shown) s.subscriptions) (map (room_of shown) s.subscriptions)) number
-    ∙ ap (λ (r : Room). rooms_with c.args.number r (map (entry_of shown) s.subscriptions) (map (room_of shown) s.subscriptions)) room)) in
-    ap (λ (y : TopicState). record { topic = y; rooms = map (room_of shown) c.insert.new.self }) (begun g c)
-    ∙ (ap (λ (rs : List Room). record { topic = after_subscribe c.args.number x; rooms = rs }) rooms
-    ∙ ap (group_after_subscribe c.args.number (shown c.args.outlet).room) c.self.view_is)
+    let gauge : gauge_of shown new ≡ (shown c.args.outlet).gauge = ap (λ (z : Shown). z.gauge) c.in-Ok.ensures.shown in
+    let gauges : map (gauge_of shown) c.insert.new.self ≡ gauges_with c.args.number (shown c.args.outlet).gauge (map (entry_of shown) s.subscriptions) (map (gauge_of shown) s.subscriptions) =
+    ap (map (gauge_of shown)) c.in_default-insert.ensures.ok
+    ∙ (gauges_are_with shown new s.subscriptions
+    ∙ (ap (λ (n : ℕ). gauges_with n (gauge_of shown new) (map (entry_of shown) s.subscriptions) (map (gauge_of shown) s.subscriptions)) number
+    ∙ ap (λ (r : Gauge). gauges_with c.args.number r (map (entry_of shown) s.subscriptions) (map (gauge_of shown) s.subscriptions)) gauge)) in
+    ap (λ (y : TopicState). record { topic = y; gauges = map (gauge_of shown) c.insert.new.self }) (begun g c)
+    ∙ (ap (λ (rs : List Gauge). record { topic = after_subscribe c.args.number x; gauges = rs }) gauges
+    ∙ ap (group_after_subscribe c.args.number (shown c.args.outlet).gauge) c.self.view_is)

@@ -1,11 +1,11 @@
 use Rattle.std.proofs.Common.{◌≡◌, ◌==◌, not, get_or, List, map, Some, refl, sym, ap, subst, ◌∙◌, arith}
 use Rattle.std.specs.List.{filter}
-use Rattle.sub_queue.specs.Shown.{Room}
+use Rattle.sub_queue.specs.Shown.{Gauge}
 use Rattle.mcast_group.specs.declared.subscription.Subscription.{Subscription}
 use Rattle.mcast_group.specs.CellGroup.{open_count}
 use Rattle.mcast_group.specs.Inner.Copies.{HaveCopies}
 use Rattle.mcast_group.specs.Group.{GroupState, HasLeft, topic_state, group_after_unsubscribe}
-use Rattle.mcast_group.specs.Inner.GroupInvariant.{IsKept, entry_of, room_of}
+use Rattle.mcast_group.specs.Inner.GroupInvariant.{IsKept, entry_of, gauge_of}
 use Rattle.mcast_group.specs.Machine.{Entry, unsubscribe_fault}
 use Rattle.mcast_group.proofs.Numbers.{numbers_differ}
 use Rattle.mcast_group.proofs.Opens.{open_filtered}
@@ -63,9 +63,9 @@ returns-clause-left g c =
     let v : get_or subs c.in-Some.index sub ≡ sub = sym c.remove-sub.ensures.value in
     subst (λ (z : GroupState). HasLeft c.args.number z (shown c.end.result.outlet) c.end.result.to c.end.result.cause) c.self.view_is (record {
       entry = entry_of shown sub;
-      room = room_of shown sub;
+      gauge = gauge_of shown sub;
       found = ends.1.found ∙ ap (λ (z : Subscription g.row.Q.Denot). Some (entry_of shown z)) v;
-      roomed = ends.1.roomed ∙ ap (λ (z : Subscription g.row.Q.Denot). Some (room_of shown z)) v;
+      gauged = ends.1.gauged ∙ ap (λ (z : Subscription g.row.Q.Denot). Some (gauge_of shown z)) v;
       shows_it = ap shown c.end.ensures.outlet;
       end = c.end.ensures.to;
       why = c.end.ensures.cause;
@@ -80,7 +80,7 @@ returns-clause-ok g c =
     let at = c.index_of.ensures in
     let ends = ends_found shown c.args.number subs c.in-Some.index c.remove-sub.result (sym at ∙ c.in-Some.is) in
     let es : map (entry_of shown) c.remove-sub.new.self ≡ filter (λ (e : Entry). not (e.number == c.args.number)) (map (entry_of shown) subs) = ap (map (entry_of shown)) c.remove-sub.ensures.items ∙ sym (ends.1.left (numbers_differ _ c.self.invariant.sound.numbers)) in
-    let rooms = ap (map (room_of shown)) c.remove-sub.ensures.items ∙ sym ends.1.rooms in
-    ap (λ (zs : List Entry). record { topic = topic_state s.topic s.clock s.log_limit s.pending s.base s.rows.items s.frontier zs; rooms = map (room_of shown) c.remove-sub.new.self }) es
-    ∙ (ap (λ (rs : List Room). record { topic = topic_state s.topic s.clock s.log_limit s.pending s.base s.rows.items s.frontier (filter (λ (e : Entry). not (e.number == c.args.number)) (map (entry_of shown) subs)); rooms = rs }) rooms
+    let gauges = ap (map (gauge_of shown)) c.remove-sub.ensures.items ∙ sym ends.1.gauges in
+    ap (λ (zs : List Entry). record { topic = topic_state s.topic s.clock s.log_limit s.pending s.base s.rows.items s.frontier zs; gauges = map (gauge_of shown) c.remove-sub.new.self }) es
+    ∙ (ap (λ (rs : List Gauge). record { topic = topic_state s.topic s.clock s.log_limit s.pending s.base s.rows.items s.frontier (filter (λ (e : Entry). not (e.number == c.args.number)) (map (entry_of shown) subs)); gauges = rs }) gauges
     ∙ ap (group_after_unsubscribe c.args.number) c.self.view_is)

@@ -5,9 +5,9 @@ use Rattle.mcast_txn.specs.Lists.{In}
 use Rattle.mcast_txn.proofs.Members.{In-get_or}
 use Rattle.mcast_txn.specs.declared.id.TxnId.{TxnId}
 use Rattle.mcast_txn.specs.declared.stamp.Stamp.{Stamp}
+use Rattle.mcast_txn.proofs.Orders.{same_stamp_is}
 use Rattle.mcast_group.specs.Machine.{Pending, clashes, decided_stamp, has_learnt_other, key}
 use Rattle.mcast_group.specs.Inner.Keys.{AreKeysOf}
-use Rattle.mcast_group.proofs.Parts.{same_stamp_is}
 use Rattle.mcast_group.proofs.ByKey.{any_keys, own_key, part_at_stamp}
 use Rattle.mcast_group.proofs.pending_parts.PendingParts.clashes.Goals as goal
 

@@ -1,9 +1,9 @@
-use Rattle.std.proofs.Common.{◌≡◌, ◌+◌, length, List, true, sym, ap, subst, arith}
+use Rattle.std.proofs.Common.{◌≡◌, ◌+◌, length, List, sym, ap, subst, arith}
 use Rattle.std.specs.List.{insert}
 use Rattle.mcast_txn.specs.Lists.{RisesBy}
 use Rattle.mcast_group.specs.declared.subscription.Subscription.{Subscription}
 use Rattle.mcast_group.specs.Inner.Subscriptions.{AreCounted, IsIndexFor}
-use Rattle.mcast_group.proofs.ByNumber.{number_of, rises_tried}
+use Rattle.mcast_group.proofs.ByNumber.{number_of, rises_put}
 use Rattle.mcast_group.proofs.Endless.{endless_inserted, endless_most, unended}
 use Rattle.mcast_group.proofs.subscriptions.Subscriptions.insert.Goals as goal
 
@@ -23,7 +23,7 @@ invariant_of-self-2 g c =
     let i = c.args.index in
     let index = subst (λ (zs : List (Subscription g.row.Q.Denot)). IsIndexFor c.args.sub.number zs i) (sym c.self.view_is) c.requires.at in
     let new = insert subs i c.args.sub in
-    let rises : RisesBy number_of new = rises_tried g.Q.Outlet.shown subs i c.args.sub true index c.self.invariant.rises in
+    let rises : RisesBy number_of new = rises_put subs i c.args.sub index c.self.invariant.rises in
     let more = endless_inserted subs i c.args.sub index.within in
     let one = ap unended c.requires.begins in
     let counted = c.self.invariant.counted in

@@ -11,21 +11,21 @@ use Rattle.sender_gate.proofs.senders.Senders.judge.Goals.{else-is_some-via-then
 pub returns-then-is_none-clause-fault : goal.returns-then-is_none-clause-fault
 returns-then-is_none-clause-fault c =
     let at = c.in-Some.ensures.at in
-    let gate = gate_same c.self.inside.kept.entries c.in-Some.place c.index.result.now at.kept c.index.ensures (rw (← c.self.view_is) at at.at) in
+    let gate = gate_same c.self.inside.kept.entries c.in-Some.index c.index.result.now at.kept c.index.ensures (rw (← c.self.view_is) at at.at) in
     let used : is_some at.kept.gate ≡ false = ap is_some (sym gate) ∙ c.if-is_none.ensures in
     sym (refused_in_use (option_map (λ id. id.now) c.args.client) c.args.self.now at.kept at.found used)
 
 pub returns-in-Some-clause-fault : goal.returns-in-Some-clause-fault
 returns-in-Some-clause-fault c =
     let at = c.in-Some.ensures.at in
-    let gate = gate_same c.self.inside.kept.entries c.in-Some.place c.index.result.now at.kept c.index.ensures (rw (← c.self.view_is) at at.at) in
+    let gate = gate_same c.self.inside.kept.entries c.in-Some.index c.index.result.now at.kept c.index.ensures (rw (← c.self.view_is) at at.at) in
     let free : is_some at.kept.gate ≡ true = ap is_some (sym gate) ∙ c.if-is_none.ensures in
     sym (not_refused (option_map (λ id. id.now) c.args.client) c.args.self.now at.kept at.found free)
 
 pub returns-in-Some-clause-claim : goal.returns-in-Some-clause-claim
 returns-in-Some-clause-claim c =
     let at = c.in-Some.ensures.at in
-    let gate = gate_same c.self.inside.kept.entries c.in-Some.place c.index.result.now at.kept c.index.ensures (rw (← c.self.view_is) at at.at) in
+    let gate = gate_same c.self.inside.kept.entries c.in-Some.index c.index.result.now at.kept c.index.ensures (rw (← c.self.view_is) at at.at) in
     (at, ap is_some (sym gate) ∙ c.if-is_none.ensures)
 
 pub returns-in-Some-next-clause-fault : goal.returns-in-Some-next-clause-fault

@@ -2,7 +2,8 @@ use Rattle.std.proofs.Common.{◌≡◌, ◌+◌, drop, Some, Ok, Err, None, Lis
 use Rattle.std.proofs.lemmas.List.{take_rest, drop-drop}
 use Rattle.stomp_frame.specs.Inner.Parser.{after_eols, frame_at}
 use Rattle.stomp_frame.specs.Reader.{Unread, ReadsNext}
-use Rattle.stomp_frame.proofs.PartialFrames.{eols_once, same_skipped, same_frame}
+use Rattle.stomp_frame.proofs.PartialFrames.{same_skipped, same_frame}
+use Rattle.stomp_frame.proofs.Sound.{eols_once}
 use Rattle.stomp_frame.proofs.Whole.{answers_frame, answers_none, answers_fault}
 use Rattle.stomp_frame.proofs.reading.reader.FrameReader.read_next.Goals as goal
 

@@ -2,7 +2,7 @@ use Rattle.std.proofs.Common.{ap, sym, subst, ◌∙◌}
 use Rattle.mcast_txn.specs.Transaction.{TopicPart}
 use Rattle.mcast_group.specs.Inner.Copies.{AreOf}
 use Rattle.mcast_group.specs.Machine.{Pending}
-use Rattle.mcast_group.proofs.prepared.Prepared.into_entry.Goals as goal
+use Rattle.mcast_group.proofs.prepared.Prepared.into_numbered.Goals as goal
 
 pub enough-requires-clause-of : goal.enough-requires-clause-of
 enough-requires-clause-of c = subst (λ (z : Pending). AreOf z.part c.self.inside.copies) (sym c.part.ensures) c.self.invariant.copied

@@ -7,7 +7,7 @@ use Rattle.mcast_txn.specs.Span.{Item, LogRow, row_mark}
 use Rattle.mcast_txn.proofs.Members.{In-map, In-map_cases, In-filter, In-filter_cases}
 use Rattle.trace_audit.specs.declared.row.SpanRow.{SpanRow}
 use Rattle.trace_audit.specs.declared.row.QueueRow.{QueueRow}
-use Rattle.trace_audit.specs.Logs.{LogLine}
+use Rattle.trace_audit.specs.Logs.{TopicRow}
 use Rattle.trace_audit.specs.Trace.{rows_of, log_of, queue_mark, queue_of}
 use Rattle.std.proofs.lemmas.Bool.{eq-eqb}
 use Rattle.delivery.specs.Core.Reports.{QueueReport, Report, log_in}
@@ -19,9 +19,9 @@ use Rattle.delivery.proofs.Traces.Lists.{made_at}
 abbrev pub item_row : Item → LogRow
 item_row item = record { id = item.id; topics = []; stamp = item.stamp }
 
-of_topic : (i : ℕ) (rows : List LogRow) (line : LogLine) → In line (traced_log i rows) → line.topic.0 ≡ i
-of_topic i rows line k =
-    let m = In-map_cases _ line rows k in ap (λ (z : LogLine). z.topic.0) (sym m.is)
+of_topic : (i : ℕ) (rows : List LogRow) (logged : TopicRow) → In logged (traced_log i rows) → logged.topic.0 ≡ i
+of_topic i rows logged k =
+    let m = In-map_cases _ logged rows k in ap (λ (z : TopicRow). z.topic.0) (sym m.is)
 
 rows_back : (t : ℕ) (rows : List LogRow) → rows_of (traced_log t rows) ≡ rows
 rows_back t [] = refl
@@ -30,28 +30,28 @@ rows_back t (row ∷ rows) = ap (λ z. row ∷ z) (rows_back t rows)
 -- the log of a topic is the report's
 pub log_is : (r : Report) (t : Topic) → log_of t (trace_of r).logs ≡ log_in r t
 log_is r t =
-    ap rows_of (made_at traced_log (λ (line : LogLine). line.topic.0) of_topic 0 t.0 t.0 r.logs [] (omega arith) refl)
+    ap rows_of (made_at traced_log (λ (logged : TopicRow). logged.topic.0) of_topic 0 t.0 t.0 r.logs [] (omega arith) refl)
     ∙ rows_back t.0 (log_in r t)
 
--- a row of a log is in the log of its line's topic
-pub row_in_log : (logs : List LogLine) (row : LogRow) → In row (rows_of logs) → (t : Topic) × In row (log_of t logs)
+-- a row of a log is in the log of a topic
+pub row_in_log : (logs : List TopicRow) (row : LogRow) → In row (rows_of logs) → (t : Topic) × In row (log_of t logs)
 row_in_log logs row k =
-    let m = In-map_cases (λ (line : LogLine). line.row) row logs k in (
+    let m = In-map_cases (λ (logged : TopicRow). logged.row) row logs k in (
       m.from.topic,
       subst (λ z. In z (log_of m.from.topic logs)) m.is
-          (In-map (λ (line : LogLine). line.row) m.from _ (In-filter (λ (line : LogLine). line.topic.0 == m.from.topic.0) m.from logs m.stands (eq-eqb m.from.topic.0 m.from.topic.0 refl))),
+          (In-map (λ (logged : TopicRow). logged.row) m.from _ (In-filter (λ (logged : TopicRow). logged.topic.0 == m.from.topic.0) m.from logs m.stands (eq-eqb m.from.topic.0 m.from.topic.0 refl))),
     )
 
 -- a row of a topic's log is a row of the logs
-pub row_of_log : (t : Topic) (logs : List LogLine) (row : LogRow) → In row (log_of t logs) → In row (rows_of logs)
+pub row_of_log : (t : Topic) (logs : List TopicRow) (row : LogRow) → In row (log_of t logs) → In row (rows_of logs)
 row_of_log t logs row k =
-    let m = In-map_cases (λ (line : LogLine). line.row) row _ k in
-    let n = In-filter_cases (λ (line : LogLine). line.topic.0 == t.0) m.from logs m.stands in
-    subst (λ z. In z (rows_of logs)) m.is (In-map (λ (line : LogLine). line.row) m.from logs n.stands)
+    let m = In-map_cases (λ (logged : TopicRow). logged.row) row _ k in
+    let n = In-filter_cases (λ (logged : TopicRow). logged.topic.0 == t.0) m.from logs m.stands in
+    subst (λ z. In z (rows_of logs)) m.is (In-map (λ (logged : TopicRow). logged.row) m.from logs n.stands)
 
-of_sub : (i : ℕ) (q : QueueReport) (line : QueueRow) → In line (traced_queue i q) → line.sub ≡ i
-of_sub i q line k =
-    let m = In-map_cases _ line q.queued k in ap (λ (z : QueueRow). z.sub) (sym m.is)
+of_sub : (i : ℕ) (q : QueueReport) (queued : QueueRow) → In queued (traced_queue i q) → queued.sub ≡ i
+of_sub i q queued k =
+    let m = In-map_cases _ queued q.queued k in ap (λ (z : QueueRow). z.sub) (sym m.is)
 
 marks_back : (s : ℕ) (items : List Item) (q : QueueReport) → q.queued ≡ items → map queue_mark (traced_queue s q) ≡ map (λ item. row_mark (item_row item)) items
 marks_back s items q e = ap (λ z. map queue_mark (map (λ (item : Item). record { sub = s; id = item.id; stamp = item.stamp }) z)) e ∙ each items
@@ -63,27 +63,27 @@ marks_back s items q e = ap (λ z. map queue_mark (map (λ (item : Item). record
 -- the queue of a subscription is what the report's accepted
 pub queue_is : (r : Report) (s : ℕ) → queue_of s (trace_of r).queues ≡ map (λ item. row_mark (item_row item)) (queue_in r s).queued
 queue_is r s =
-    ap (map queue_mark) (made_at traced_queue (λ (line : QueueRow). line.sub) of_sub 0 s s r.subscriptions no_queue (omega arith) refl)
+    ap (map queue_mark) (made_at traced_queue (λ (queued : QueueRow). queued.sub) of_sub 0 s s r.subscriptions no_queue (omega arith) refl)
     ∙ marks_back s (queue_in r s).queued (queue_in r s) refl
 
 -- of a span: its subscription is reported, and it is that one's
-pub record Spanned (r : Report) (line : SpanRow) : Type 0 where
-  pub within : line.sub < length r.subscriptions
-  pub is : line ≡ traced_span line.sub (queue_in r line.sub)
+pub record Spanned (r : Report) (span : SpanRow) : Type 0 where
+  pub within : span.sub < length r.subscriptions
+  pub is : span ≡ traced_span span.sub (queue_in r span.sub)
 
-spanned_from : (i : ℕ) (qs : List QueueReport) (line : SpanRow) → In line (map (λ p. traced_span p.0 p.1) (enumerate_from i qs))
-    → (j : ℕ) × (j < length qs) × (line ≡ traced_span (i + j) (get_or qs j no_queue))
-spanned_from i [] line k = absurd k
-spanned_from i (q ∷ qs) line (inl e) = (0, omega arith, sym e ∙ ap (λ n. traced_span n q) (omega arith))
-spanned_from i (q ∷ qs) line (inr k) =
-    let h = spanned_from (i + 1) qs line k in
+spanned_from : (i : ℕ) (qs : List QueueReport) (span : SpanRow) → In span (map (λ p. traced_span p.0 p.1) (enumerate_from i qs))
+    → (j : ℕ) × (j < length qs) × (span ≡ traced_span (i + j) (get_or qs j no_queue))
+spanned_from i [] span k = absurd k
+spanned_from i (q ∷ qs) span (inl e) = (0, omega arith, sym e ∙ ap (λ n. traced_span n q) (omega arith))
+spanned_from i (q ∷ qs) span (inr k) =
+    let h = spanned_from (i + 1) qs span k in
     (suc h.0, omega (arith, h.1), h.2 ∙ ap (λ n. traced_span n (get_or qs h.0 no_queue)) (omega arith))
 
 -- each span is that of a reported subscription
-pub spanned : (r : Report) (line : SpanRow) → In line (trace_of r).spans → Spanned r line
-spanned r line k =
-    let h = spanned_from 0 r.subscriptions line k in
-    let number : line.sub ≡ h.0 = ap (λ (z : SpanRow). z.sub) h.2 ∙ omega arith in
+pub spanned : (r : Report) (span : SpanRow) → In span (trace_of r).spans → Spanned r span
+spanned r span k =
+    let h = spanned_from 0 r.subscriptions span k in
+    let number : span.sub ≡ h.0 = ap (λ (z : SpanRow). z.sub) h.2 ∙ omega arith in
     record {
       within = subst (λ n. n < length r.subscriptions) (sym number) h.1;
       is = h.2 ∙ (ap (λ n. traced_span n (queue_in r h.0)) (omega arith) ∙ ap (λ n. traced_span n (queue_in r n)) (sym number));

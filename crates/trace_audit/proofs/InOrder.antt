@@ -1,22 +1,22 @@
 -- Lines that are added to a state one by one: what adding gives is the state that they lead to, or the number of
 -- the first that isn't added.
 use Rattle.std.proofs.Common.{◌≡◌, ℕ, ◌+◌, List, [], ◌∷◌, ◌++◌, length, Option, Some, None, Ok, Err, refl, sym, ap, ◌∙◌, arith}
-use Rattle.trace_audit.specs.Inner.InTurn.{added_from, AddsInTurn, IsFirstRefused}
+use Rattle.trace_audit.specs.Inner.InOrder.{added_from, AddsInOrder, IsFirstRefused}
 
 module _ {S : Type 0} (add : List ℕ → S → Option S) where
   -- where adding gives a state, the lines lead to it
-  pub in_turn : (n : ℕ) (lines : List (List ℕ)) (old new : S) → added_from add n lines old ≡ Ok new → AddsInTurn add lines old new
-  in_turn n [] old new e = cc
-  in_turn n (line ∷ lines) old new e = go (add line old) refl (λ mid f. in_turn (n + 1) lines mid new f)
+  pub adds_in_order : (n : ℕ) (lines : List (List ℕ)) (old new : S) → added_from add n lines old ≡ Ok new → AddsInOrder add lines old new
+  adds_in_order n [] old new e = cc
+  adds_in_order n (line ∷ lines) old new e = go (add line old) refl (λ mid f. adds_in_order (n + 1) lines mid new f)
     where
-      go : (o : Option S) → add line old ≡ o → ((mid : S) → added_from add (n + 1) lines mid ≡ Ok new → AddsInTurn add lines mid new) → AddsInTurn add (line ∷ lines) old new
+      go : (o : Option S) → add line old ≡ o → ((mid : S) → added_from add (n + 1) lines mid ≡ Ok new → AddsInOrder add lines mid new) → AddsInOrder add (line ∷ lines) old new
       go None k later = absurd (let f : Err n ≡ Ok new = sym (rw k refl) ∙ e in cc)
       go (Some mid) k later = (mid, k, later mid (sym (rw k refl) ∙ e))
 
   -- where the lines lead to a state, adding gives it
-  pub in_turn_again : (n : ℕ) (lines : List (List ℕ)) (old new : S) → AddsInTurn add lines old new → added_from add n lines old ≡ Ok new
-  in_turn_again n [] old new a = ap Ok (sym a)
-  in_turn_again n (line ∷ lines) old new a = rw a.1 (in_turn_again (n + 1) lines a.0 new a.2)
+  pub adds_in_order_again : (n : ℕ) (lines : List (List ℕ)) (old new : S) → AddsInOrder add lines old new → added_from add n lines old ≡ Ok new
+  adds_in_order_again n [] old new a = ap Ok (sym a)
+  adds_in_order_again n (line ∷ lines) old new a = rw a.1 (adds_in_order_again (n + 1) lines a.0 new a.2)
 
   -- where adding fails with a number, it is that of the first line that isn't added
   pub first_refused : (n : ℕ) (lines : List (List ℕ)) (old : S) (m : ℕ) → added_from add n lines old ≡ Err m → IsFirstRefused add n lines old m
@@ -47,7 +47,7 @@ module _ {S : Type 0} (add : List ℕ → S → Option S) where
             refused = b.refused;
           }
 
-  refused_after : (n : ℕ) (front : List (List ℕ)) (line : List ℕ) (back : List (List ℕ)) (old state : S) → AddsInTurn add front old state → add line state ≡ None
+  refused_after : (n : ℕ) (front : List (List ℕ)) (line : List ℕ) (back : List (List ℕ)) (old state : S) → AddsInOrder add front old state → add line state ≡ None
       → added_from add n (front ++ line ∷ back) old ≡ Err (length front + n)
   refused_after n [] line back old state a refused =
       let e : add line old ≡ None = ap (add line) (sym a) ∙ refused in

@@ -3,8 +3,8 @@ use Rattle.std.specs.List.{find}
 use Rattle.std.specs.Str.{bytes_eq}
 use Rattle.sender_gate.specs.Inner.Stored.{begun_before, kept_sender_of}
 use Rattle.sender_gate.proofs.KeptLemmas.{begun_alone, begun_with, insert_behind, numbered_after_begin, numbered_with}
-use Rattle.sender_gate.proofs.senders.Senders.begin.Goals as goal
-use Rattle.sender_gate.proofs.senders.Senders.begin.Goals.{in-Some+in-Ok+in-Ok-insert, in_default}
+use Rattle.sender_gate.proofs.senders.Senders.add.Goals as goal
+use Rattle.sender_gate.proofs.senders.Senders.add.Goals.{in-Some+in-Ok+in-Ok-insert, in_default}
 
 pub invariant_of-self-2 : goal.invariant_of-self-2
 invariant_of-self-2 c =

@@ -9,9 +9,9 @@ added_from add n (line ∷ lines) old =
     option_map_or (λ new. added_from add (n + 1) lines new) (add line old) (Err n)
 
 -- each of these lines is added, and in order they lead from one state to the other
-abbrev pub AddsInTurn : {S : Type 0} → (List ℕ → S → Option S) → List (List ℕ) → S → S → Type 0
-AddsInTurn add [] old new = new ≡ old
-AddsInTurn add (line ∷ lines) old new = (mid : _) × (add line old ≡ Some mid) × AddsInTurn add lines mid new
+abbrev pub AddsInOrder : {S : Type 0} → (List ℕ → S → Option S) → List (List ℕ) → S → S → Type 0
+AddsInOrder add [] old new = new ≡ old
+AddsInOrder add (line ∷ lines) old new = (mid : _) × (add line old ≡ Some mid) × AddsInOrder add lines mid new
 
 -- line m, counted from n, is the first that isn't added
 pub record IsFirstRefused {S : Type 0} (add : List ℕ → S → Option S) (n : ℕ) (lines : List (List ℕ)) (old : S)
@@ -22,5 +22,5 @@ pub record IsFirstRefused {S : Type 0} (add : List ℕ → S → Option S) (n : 
   pub state : S
   pub cut : lines ≡ front ++ line ∷ back
   pub number : m ≡ length front + n
-  pub added : AddsInTurn add front old state
+  pub added : AddsInOrder add front old state
   pub refused : add line state ≡ None
