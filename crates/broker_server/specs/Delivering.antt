@@ -17,6 +17,10 @@ use Rattle.broker_server.specs.Conversations.{ConversationState, EndsByError, Op
 abbrev pub full_wire : ℕ
 full_wire = 65536
 
+-- where so many octets wait, nothing is read, either (own)
+abbrev pub most_waiting : ℕ
+most_waiting = 1048576
+
 -- so many calls are made of one queue before another is taken, at most (own); each item writes an octet
 -- or more, so the wire is full before
 abbrev pub most_calls : ℕ

@@ -8,7 +8,7 @@ ghost use Rattle.stomp_frame.specs.declared.raw_frame.RawFrame.{RawFrame};
 ghost use Rattle.stomp_frame.specs.ClientFrames.{raw_of};
 ghost use Rattle.broker_server.specs.BrokerRows.{AsksInOrder, BrokerRow, Unsubscribes};
 ghost use Rattle.broker_server.specs.Conversations.{PutsFrames, EndsByError, Performs, Connects, Begins, EndsSub, CommitsSends, CommitsBy, Acts, Answers, IsLost};
-ghost use Rattle.broker_server.specs.Delivering.{DeliversRound, Drains, DrainsAll, DrainsQueues, begins_at, has_item};
+ghost use Rattle.broker_server.specs.Delivering.{DeliversRound, Drains, DrainsAll, DrainsQueues, begins_at, has_item, most_waiting};
 ghost use Rattle.delivery.specs.Core.Outcomes.{is_any};
 ghost use Rattle.stomp_session.specs.Open.{IsKnownTo};
 ghost use Rattle.broker_server.specs.Hearing.{AcceptsFrame, DeniesFrame, Hears, IsNewTo, Rests, TakesAll, TakesFrame, TakesFrames};
@@ -199,7 +199,7 @@ impl<C: BrokerCalls> Conversation<C> {
 
     /// Whether more may be read: it doesn't leave, and fewer than 1,048,576 octets wait to be written.
     pub fn may_read(&self) -> bool
-        ensures { result ≡ is_none self.now.exit && nat_lt (length self.now.wire) 1048576 }
+        ensures { result ≡ is_none self.now.exit && nat_lt (length self.now.wire) most_waiting }
     {
         self.exit.is_none() && self.wire.len() < MOST
     }

@@ -5,6 +5,7 @@ ghost use Rattle.std.specs.List.{flat_map};
 ghost use Rattle.stomp_frame.specs.Writing.{spelling_of};
 ghost use Rattle.stomp_frame.specs.ServerFrames.{raw_of_server};
 ghost use Rattle.delivery.specs.Core.Output.{item_messages};
+ghost use Rattle.broker_server.specs.Delivering.{full_wire};
 
 use delivery::write_messages;
 use mcast_txn::Released;
@@ -129,7 +130,7 @@ impl Wire {
 
     /// Whether a further item may be taken: fewer than 65,536 octets wait.
     pub fn may_take(&self) -> bool
-        ensures { IsTrue result ↔ (length self.now < 65536) }
+        ensures { IsTrue result ↔ (length self.now < full_wire) }
     {
         self.len() < FULL
     }

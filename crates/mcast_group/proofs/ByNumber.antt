@@ -16,7 +16,6 @@ use Rattle.mcast_group.specs.Inner.GroupInvariant.{Gave, entry_of}
 use Rattle.mcast_group.specs.Inner.Subscriptions.{IsIndexFor}
 use Rattle.mcast_group.proofs.Parts.{map_length}
 use Rattle.mcast_group.proofs.Queues.{delivered_number}
-use Rattle.mcast_group.proofs.Subscribing.{entries_with}
 use Rattle.mcast_group.proofs.Taking.{map_set}
 
 -- the number of a subscription

@@ -1,6 +1,5 @@
 -- Parts that wait to learn their stamp, and what they learn from cells.
 use Rattle.std.proofs.Common.{◌≡◌, ℕ, zero, suc, ◌+◌, ◌<◌, ◌≤◌, Bool, true, false, cond, inl, inr, List, [], ◌∷◌, ◌++◌, map, length, get_or, Option, Some, None, IfSome, refl, sym, ap, subst, ◌∙◌, arith, append-nil, append_assoc}
-use Rattle.std.specs.List.{insert}
 use Rattle.std.specs.List.Sorted.{IsPartitionedBy}
 use Rattle.std.specs.Option.{is_some}
 use Rattle.std.proofs.lemmas.Bool.{true≢false}
@@ -20,7 +19,6 @@ use Rattle.mcast_group.specs.Inner.CellGroup.{LearnsFirst, LearnsWaiting, RisesI
 use Rattle.mcast_group.specs.Group.{GroupState, MayBeFound}
 use Rattle.mcast_group.specs.Machine.{TopicState, Pending, HasOneRowEach, insert_pending, parts_without, with_stamp, after_try, after_tries, learn_fault}
 use Rattle.mcast_group.specs.Sound.{RisesById}
-use Rattle.mcast_group.proofs.ByKey.{not_earlier, earlier_not_later}
 use Rattle.mcast_group.proofs.Indices.{later_differs, told_others, without_others}
 use Rattle.mcast_group.proofs.Parts.{due_is, not_true, id_lt_trans, earlier_differs}
 use Rattle.mcast_group.proofs.Groups.{release_is, release_none}

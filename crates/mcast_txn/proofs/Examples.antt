@@ -11,6 +11,7 @@ use Rattle.mcast_txn.specs.Agreed.{CommitRow, agreed}
 use Rattle.mcast_txn.specs.Ballot.{BallotState, put_answer, row_at, slots_of_rows, tickets_put}
 use Rattle.mcast_txn.specs.Checks.{first_refusal}
 use Rattle.mcast_txn.specs.Ids.{id_lt, same_id}
+use Rattle.mcast_txn.specs.Lists.{insert_by, insert_by_number, sorted_by}
 use Rattle.mcast_txn.specs.Slots.{free_slots, held_at, slot_at, with_slot}
 use Rattle.mcast_txn.specs.Span.{in_span}
 use Rattle.mcast_txn.specs.Stamp.{greatest, stamp_lt, zero_stamp}
@@ -45,6 +46,17 @@ seqs_of_two_senders = refl
 
 senders_go_first : id_lt (id 0 9) (id 1 1) ≡ true
 senders_go_first = refl
+
+-- ---- lists that rise
+
+put_between : insert_by_number (λ n. n) 2 (1 ∷ 3 ∷ []) ≡ 1 ∷ 2 ∷ 3 ∷ []
+put_between = refl
+
+put_last : insert_by (λ s. s) (stamp 3 1) (stamp 2 4 ∷ stamp 3 0 ∷ []) ≡ stamp 2 4 ∷ stamp 3 0 ∷ stamp 3 1 ∷ []
+put_last = refl
+
+sorted_by_stamp : sorted_by (λ s. s) (stamp 5 1 ∷ stamp 3 0 ∷ stamp 5 0 ∷ []) ≡ stamp 3 0 ∷ stamp 5 0 ∷ stamp 5 1 ∷ []
+sorted_by_stamp = refl
 
 -- ---- a transaction of three SENDs: to topic 2, to topic 0, and to topic 2 again
 
@@ -125,6 +137,11 @@ committed seq s = record { txn = record { id = id 0 seq; sends = sends }; stamp 
 agreed_goes_by_stamp : map (λ row. row.txn.id.seq)
     (agreed (committed 1 (stamp 9 0) ∷ committed 2 (stamp 4 1) ∷ committed 3 (stamp 4 0) ∷ [])) ≡ 3 ∷ 2 ∷ 1 ∷ []
 agreed_goes_by_stamp = refl
+
+put_behind_its_like : map (λ row. row.txn.id.seq)
+    (insert_by (λ row. row.stamp) (committed 2 (stamp 4 0)) (committed 1 (stamp 4 0) ∷ committed 3 (stamp 9 0) ∷ []))
+    ≡ 1 ∷ 2 ∷ 3 ∷ []
+put_behind_its_like = refl
 
 -- ---- spans
 

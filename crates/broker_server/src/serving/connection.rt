@@ -18,6 +18,7 @@ use log::{Log, info, warn};
 use memchr::memchr;
 use std::alloc::Global;
 use std::sync::{Arc, Wait};
+use std::thread::yield_now;
 use std::time::{Clock, Duration, Instant};
 
 /// So many reads are heard in a row, at most, before what is there for the connection is looked for again (our choice).
@@ -25,6 +26,11 @@ const MAX_READS: u32 = 16;
 
 /// After so many rounds in a row that found something to do, the poll is asked what else is there (our choice).
 const MAX_ROUNDS: u32 = 16;
+
+/// A thread that found something to do in so many rounds in a row lets others run once, before it sleeps: they may have
+/// more for it, and needn't wake it then. One that had a single round, as for a message that comes alone, sleeps at once
+/// (our choice).
+const ROUNDS_TO_YIELD: u32 = 2;
 
 /// The octets of the shortest SEND: its command, a destination of one octet, two ends of lines, and NULL.
 const LEAST_SEND: u64 = 21;
@@ -308,14 +314,17 @@ impl<'a, 'b, R: Wait + Log + Clock, W: Side, T: Side> Connection<'a, 'b, R, W, T
         for _ in rt.forever() {
             match self.round(desk) {
                 Round::Busy => {
-                    rounds = rounds.saturating_add(1);
-                    if desk.socket.is_blocked() || rounds >= MAX_ROUNDS {
-                        rounds = 0;
+                    rounds = rounds.wrapping_add(1);
+                    if desk.socket.is_blocked() || rounds % MAX_ROUNDS == 0 {
                         self.look(desk)?;
                     }
                 }
                 Round::Leaving => return Ok(None),
                 Round::Ended(left) => return Err(left),
+                Round::Idle if rounds >= ROUNDS_TO_YIELD => {
+                    rounds = 0;
+                    yield_now();
+                }
                 Round::Idle => {
                     rounds = 0;
                     if self.outfit.bell.sleeps() {
