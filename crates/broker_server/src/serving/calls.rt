@@ -132,11 +132,13 @@ impl<'a, R: Wait + Log + Clock, W: Side, T: Side> Calls<'a, R, W, T> {
     }
 
     /// Ends this subscription at its topic where it has lagged: it would cost others something there at each SEND. Its
-    /// queue still gives what it accepted. Whether it has lagged.
+    /// queue still gives what it accepted; who put that there may find the seat gone, and not tell of it, so the thread
+    /// tells itself. Whether it has lagged.
     pub(crate) fn end_lagged(&mut self, sub: &SeatedSub) -> bool {
         let has_lagged = self.has_lagged(sub);
-        if has_lagged {
+        if has_lagged && !sub.over.load(Ordering::SeqCst) {
             self.end(sub);
+            self.bell.ring();
         }
         has_lagged
     }

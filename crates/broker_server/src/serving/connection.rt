@@ -27,9 +27,8 @@ const MAX_READS: u32 = 16;
 /// After so many rounds in a row that found something to do, the poll is asked what else is there (our choice).
 const MAX_ROUNDS: u32 = 16;
 
-/// A thread that found something to do in so many rounds in a row lets others run once, before it sleeps: they may have
-/// more for it, and needn't wake it then. One that had a single round, as for a message that comes alone, sleeps at once
-/// (our choice).
+/// A thread that found something to do in so many rounds lets others run once, before it sleeps: they may have more for
+/// it, and needn't wake it then (our choice).
 const ROUNDS_TO_YIELD: u32 = 2;
 
 /// The octets of the shortest SEND: its command, a destination of one octet, two ends of lines, and NULL.
@@ -311,6 +310,7 @@ impl<'a, 'b, R: Wait + Log + Clock, W: Side, T: Side> Connection<'a, 'b, R, W, T
         };
         desk.socket.note_waited(&self.outfit.events);
         let mut rounds = 0u32;
+        let mut yielded_at = 0u32;
         for _ in rt.forever() {
             match self.round(desk) {
                 Round::Busy => {
@@ -321,12 +321,13 @@ impl<'a, 'b, R: Wait + Log + Clock, W: Side, T: Side> Connection<'a, 'b, R, W, T
                 }
                 Round::Leaving => return Ok(None),
                 Round::Ended(left) => return Err(left),
-                Round::Idle if rounds >= ROUNDS_TO_YIELD => {
-                    rounds = 0;
+                Round::Idle if rounds.wrapping_sub(yielded_at) >= ROUNDS_TO_YIELD => {
+                    yielded_at = rounds;
                     yield_now();
                 }
                 Round::Idle => {
                     rounds = 0;
+                    yielded_at = 0;
                     if self.outfit.bell.sleeps() {
                         return self.sleep_of(desk);
                     }

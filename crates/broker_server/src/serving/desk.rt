@@ -18,7 +18,8 @@ fn untaken_time() -> Duration {
     Duration::from_secs(60)
 }
 
-/// So many waits of a connection of whose octets the system takes nothing are a second (our choice).
+/// So many waits of a connection of whose octets the system takes nothing are a second, or less where it is woken (our
+/// choice).
 const WAITS: u32 = 10;
 
 /// What a connection's thread works at: what the connection says and is told, what it asks of the broker, and its
@@ -124,9 +125,9 @@ impl<'a, R: Wait + Log + Clock, W: Side, T: Side> Desk<'a, R, W, T> {
             && !self.talk.is_leaving()
     }
 
-    /// It is about to wait, since the system takes nothing of what waits for it: once a second it ends the
-    /// subscriptions that have lagged. Whether there is one, and the system has taken nothing for a minute: the
-    /// connection would be told of the lag behind that.
+    /// It is about to wait, since the system takes nothing of what waits for it: once a second, or more often where it
+    /// is woken meanwhile, it ends the subscriptions that have lagged. Whether there is one, and the system has taken
+    /// nothing for a minute: the connection would be told of the lag behind that.
     pub(crate) fn is_lost(&mut self) -> bool {
         let is_untaken = self.is_untaken();
         self.waits = self.waits.wrapping_add(1) % WAITS;

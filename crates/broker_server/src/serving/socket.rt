@@ -94,16 +94,14 @@ impl Socket {
         }
     }
 
-    /// Notes what the poll told when it was waited for. Where it told nothing the time is over, and a write is tried
-    /// again: the system tells of room only once a third of what it holds has gone, which takes a slow peer long.
+    /// Notes what the poll told when it was waited for, whatever that is. A write is tried again then: the system tells
+    /// of room only once a third of what it holds has gone, which takes a slow peer long.
     pub(crate) fn note_waited(&mut self, events: &Events)
         ensures readable { self.old.readable ≡ true → self.new.readable ≡ true }
         ensures hung_up { self.old.hung_up ≡ true → self.new.hung_up ≡ true }
-        ensures blocked { self.old.blocked ≡ false → self.new.blocked ≡ false }
+        ensures blocked { self.new.blocked ≡ false }
     {
-        if events.is_empty() {
-            self.blocked = false;
-        }
+        self.blocked = false;
         self.note(events);
     }
 
