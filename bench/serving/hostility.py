@@ -145,6 +145,41 @@ def flood(trial, seconds):
     return sent, rates[0] if rates else 0.0
 
 
+def slow_and_talking(trial, seconds=70):
+    """A subscriber that has lagged, reads 2,000 octets a second, and sends an end of line each millisecond. It takes some all the time,
+    so it isn't closed as one that takes nothing for a minute: it gets what was accepted for it, and 74."""
+    (slow,), ended = trial.open(1, receive_room=4096), threading.Event()
+    slow.ask(subscribe(TOPICS[0]))
+    with Client(trial.address) as sender:
+        sender.connect()
+        sender.ask(send_frame(TOPICS[0], b"x" * 100000) * (2 * MOST_OPEN + 12), seconds=60)
+    talker = threading.Thread(target=talk, args=(slow, ended))
+    talker.start()
+    try:
+        for _ in range(20 * seconds):
+            slow.came += slow.socket.recv(100)
+            time.sleep(0.05)
+    finally:
+        ended.set()
+        talker.join()
+    read, text = len(slow.came), slow.read_to_end(60)
+    slow.close()
+    came, number = text.count(b"MESSAGE\n"), error_of(text)
+    trial.expect(number == 74, f"it was answered by {number} and not 74")
+    trial.expect(came >= MOST_OPEN, f"only {came} MESSAGEs came")
+    return f"it read {read:,} octets in {seconds} s, and in all {came} MESSAGEs and ERROR {number}"
+
+
+def talk(client, ended):
+    """Sends ends of lines until this is set, or the server ends the connection."""
+    while not ended.is_set():
+        try:
+            client.send(b"\n")
+        except OSError:
+            return
+        time.sleep(0.001)
+
+
 def bursts(trial, count=20, sends=200):
     """SENDs that come at once, three times as many as a queue holds, to one that reads all the time: its own, and another's."""
     frames = send_frame(TOPICS[0], b"one") * (sends - 1) + send_frame(TOPICS[0], b"the last")
@@ -346,5 +381,5 @@ def expect_no_more_topics(trial):
 
 # The rows that one server has, one after another, behind plain use; and those that have one of their own: how many descriptors it may
 # have, and whether what they leave stays.
-ROWS = [one_octet_a_second, bursts, never_read, opened_and_reset, begins, every_limit, half_closed]
+ROWS = [one_octet_a_second, bursts, never_read, slow_and_talking, opened_and_reset, begins, every_limit, half_closed]
 OF_THEIR_OWN = [(few_descriptors, 64, False), (named_topics, None, True), (claimed_ids, None, True)]
