@@ -15,6 +15,19 @@ FAULTS = ("lost", "doubled", "changed", "reordered")
 LEAST_OF_RATE, MOST_HELD = 0.95, 0.01
 
 
+def processor_times():
+    """The processors' time so far, in ticks: all of it, and what the machine's host took for others (*steal*)."""
+    with open("/proc/stat", encoding="ascii") as lines:
+        times = [int(it) for it in lines.readline().split()[1:9]]
+    return sum(times), times[7]
+
+
+def share_stolen(begun):
+    """What part of the processors' time the host took since then."""
+    passed, stolen = (now - then for now, then in zip(processor_times(), begun))
+    return stolen / passed if passed else 0.0
+
+
 def load(server, row, prefix, words):
     """The load generator's report of one run; one with a trouble where it gave none."""
     plan = [f"port={server.address[1]}", f"process={server.number}", f"prefix={prefix}", *row.words.split(), *words]
