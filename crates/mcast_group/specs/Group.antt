@@ -206,6 +206,20 @@ pub record HasLeft (number : ℕ) (g : GroupState) (shown : Shown) (to : Stamp) 
   pub end : to ≡ (end_of g.topic.frontier entry).to
   pub why : cause ≡ (end_of g.topic.frontier entry).cause
 
+-- ---- room
+
+-- the gauges, where the outlet of the subscription of this number knows now that so many items were taken
+abbrev pub gauges_told : ℕ → ℕ → List Entry → List Gauge → List Gauge
+gauges_told number taken [] gauges = gauges
+gauges_told number taken (e ∷ es) [] = []
+gauges_told number taken (e ∷ es) (own ∷ gauges) =
+    if number == e.number then record own { taken = Some taken } ∷ gauges
+    else own ∷ gauges_told number taken es gauges
+
+-- the same of a whole group
+abbrev pub group_told : ℕ → ℕ → GroupState → GroupState
+group_told number taken g = record g { gauges = gauges_told number taken g.topic.subscriptions g.gauges }
+
 -- ---- propose
 
 -- a part is pending with this number, which is now the clock's

@@ -43,6 +43,14 @@ has_room s = nat_lt (untaken s) s.gauge.capacity
 abbrev pub IsFull : Shown → Type 0
 IsFull s = s.gauge.capacity ≤ untaken s
 
+-- how many more items it takes, by what it knows: of 5 items of which 3 were taken, at capacity 4, 2
+abbrev pub room : Shown → ℕ
+room s = s.gauge.capacity - untaken s
+
+-- the outlet knows now that so many of its items were taken
+abbrev pub shown_told : ℕ → Shown → Shown
+shown_told taken s = record s { gauge = record s.gauge { taken = Some taken } }
+
 -- the index of the next item to take, where one isn't known to be taken: of 5 items of which 3 were taken, 3
 abbrev pub next_index : Shown → Option ℕ
 next_index s =
