@@ -14,6 +14,7 @@ pub mod Opens
 pub mod Endless
 pub mod Subscribing
 pub mod Taking
+pub mod Telling
 pub mod ByNumber
 pub mod Entering
 pub mod Counting

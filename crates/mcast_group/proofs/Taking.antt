@@ -76,15 +76,20 @@ none_taken {Q = Q} shown n (s ∷ subs) h = go (none_taken shown n subs) (s.numb
 pub untouched : {Q : Type 0} (shown : Q → Shown) (n : ℕ) (subs : List (Subscription Q)) → position (λ (z : Subscription Q). z.number == n) subs ≡ None → gauges_after_take n (map (entry_of shown) subs) (map (gauge_of shown) subs) ≡ map (gauge_of shown) subs
 untouched {Q = Q} shown n subs e = none_taken shown n subs (none_at (λ (z : Subscription Q). z.number == n) subs e)
 
--- a group keeps what it keeps where the outlet of one subscription has changed, and not its spare
-pub kept_taken : {Q : Type 0} (spare : Q → ℕ) (x y : TopicState) (capacity : ℕ) (copies : List (List TopicPart)) (subs : List (Subscription Q)) (i : ℕ) (d new : Subscription Q) → IsKept spare x capacity copies subs → y ≡ x → i < length subs → new.to ≡ (get_or subs i d).to → spare new.outlet ≡ spare (get_or subs i d).outlet → IsKept spare y capacity copies (set subs i new)
-kept_taken {Q = Q} spare x y capacity copies subs i d new h e l t m =
+-- a group keeps what it keeps where the outlet of one subscription has changed, and its spare hasn't fallen
+pub kept_changed : {Q : Type 0} (spare : Q → ℕ) (x y : TopicState) (capacity : ℕ) (copies : List (List TopicPart)) (subs : List (Subscription Q)) (i : ℕ) (d new : Subscription Q) → IsKept spare x capacity copies subs → y ≡ x → i < length subs → new.to ≡ (get_or subs i d).to → spare (get_or subs i d).outlet ≤ spare new.outlet → IsKept spare y capacity copies (set subs i new)
+kept_changed {Q = Q} spare x y capacity copies subs i d new h e l t m =
     subst (λ (z : TopicState). IsKept spare z capacity copies (set subs i new)) (sym e) (record {
       sound = h.sound;
       room = h.room;
       spares = λ s k o. elim (In-set_cases s new subs i k) [
         | inl a ↦ h.spares s a o
-        | inr b ↦ subst (λ (w : Subscription Q). length x.pending ≤ spare w.outlet) b (subst (λ (w : ℕ). length x.pending ≤ w) (sym m) (h.spares (get_or subs i d) (In-get_or subs i d l) (sym t ∙ subst (λ (w : Subscription Q). w.to ≡ None) (sym b) o)))
+        | inr b ↦ subst (λ (w : Subscription Q). length x.pending ≤ spare w.outlet) b (let had = h.spares (get_or subs i d) (In-get_or subs i d l) (sym t ∙ subst (λ (w : Subscription Q). w.to ≡ None) (sym b) o) in omega arith)
       ];
       copied = h.copied;
     })
+
+-- so it does where the spare is as it was
+pub kept_taken : {Q : Type 0} (spare : Q → ℕ) (x y : TopicState) (capacity : ℕ) (copies : List (List TopicPart)) (subs : List (Subscription Q)) (i : ℕ) (d new : Subscription Q) → IsKept spare x capacity copies subs → y ≡ x → i < length subs → new.to ≡ (get_or subs i d).to → spare new.outlet ≡ spare (get_or subs i d).outlet → IsKept spare y capacity copies (set subs i new)
+kept_taken spare x y capacity copies subs i d new h e l t m =
+    kept_changed spare x y capacity copies subs i d new h e l t (omega arith)

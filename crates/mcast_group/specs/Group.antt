@@ -1,5 +1,5 @@
 -- What a topic's group shows, and what its calls answer.
-use Rattle.std.specs.Prelude.{◌≡◌, ◌⊎◌, ℕ, ◌==◌, nat_lt, Bool, List, [], ◌∷◌, length, Option, Some, None, Result, Ok, Err, IfSome, if◌then◌else◌}
+use Rattle.std.specs.Prelude.{◌≡◌, ◌⊎◌, ℕ, ◌==◌, ◌≤◌, nat_lt, Bool, List, [], ◌∷◌, length, Option, Some, None, Result, Ok, Err, IfSome, if◌then◌else◌}
 use Rattle.std.specs.List.{position}
 use Rattle.mcast_txn.specs.declared.id.Topic.{Topic}
 use Rattle.mcast_txn.specs.declared.id.TxnId.{TxnId}
@@ -9,7 +9,7 @@ use Rattle.mcast_txn.specs.Ids.{same_id}
 use Rattle.mcast_txn.specs.Lists.{In}
 use Rattle.mcast_txn.specs.Span.{LogRow, Item}
 use Rattle.mcast_txn.specs.Transaction.{TopicPart}
-use Rattle.sub_queue.specs.Shown.{Shown, Gauge}
+use Rattle.sub_queue.specs.Shown.{Shown, Gauge, known_taken}
 use Rattle.mcast_group.specs.declared.cause.Cause.{Cause}
 use Rattle.mcast_group.specs.declared.fault.ProposeFault.{ProposeFault}
 use Rattle.mcast_group.specs.declared.fault.SubFault.{SubFault}
@@ -219,6 +219,13 @@ gauges_told number taken (e ∷ es) (own ∷ gauges) =
 -- the same of a whole group
 abbrev pub group_told : ℕ → ℕ → GroupState → GroupState
 group_told number taken g = record g { gauges = gauges_told number taken g.topic.subscriptions g.gauges }
+
+-- The outlet of the subscription of this number, if there is one, knows now that so many of its items were taken,
+-- and no fewer than it knew.
+abbrev pub IsTold : ℕ → GroupState → GroupState → Type 0
+IsTold number g new =
+    (taken : ℕ) × IfSome (shown_at number g) (λ shown. known_taken shown.gauge.taken ≤ taken)
+    × (new ≡ group_told number taken g)
 
 -- ---- propose
 

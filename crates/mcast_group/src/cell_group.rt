@@ -5,7 +5,9 @@ ghost use Rattle.mcast_txn.specs.Part.{data_of, flight_of_part};
 ghost use Rattle.mcast_txn.specs.Flight.{cell_of};
 ghost use Rattle.std.specs.Arc.{arc_value};
 ghost use Rattle.mcast_group.specs.CellGroup.{CellTurns, cell_group_after_cancel, cell_group_after_propose, new_cell_group, open_count, waiting_ids};
-ghost use Rattle.mcast_group.specs.Group.{HasLeft, IsRefusedBy, group_after_subscribe, group_after_unsubscribe, propose_refusal, result_of, sub_refusal};
+ghost use Rattle.std.specs.Option.{option_map};
+ghost use Rattle.sub_queue.specs.Shown.{room};
+ghost use Rattle.mcast_group.specs.Group.{HasLeft, IsRefusedBy, IsTold, group_after_subscribe, group_after_unsubscribe, propose_refusal, result_of, shown_at, sub_refusal};
 ghost use Rattle.mcast_group.specs.Machine.{after_drain, cancel_fault, due_part, next_number, propose_fault, subscribe_fault, unsubscribe_fault};
 ghost use Rattle.mcast_group.specs.Sound.{IsSound};
 
@@ -264,6 +266,17 @@ impl<Q: Outlet + Drop> CellGroup<Q> {
         self.cooling = COOLING;
         self.cool();
         Ok(ended)
+    }
+
+    /// How many more items the outlet of the subscription of this number takes, at least, by what it knows to be taken;
+    /// `None` exactly where there is none. It is told first how many were taken, where somebody says so. It takes no
+    /// memory, and the topic, the parts that wait and the notes stay as they are.
+    pub fn room(&mut self, needs: &Q::Needs, number: u64) -> Option<usize>
+        ensures told { IsTold number self.old.group self.new.group }
+        ensures same { self.new ≡ record self.old { group = self.new.group } }
+        ensures room { result ≡ option_map room (shown_at number self.new.group) }
+    {
+        self.group.room(needs, number)
     }
 
     /// Where a subscription ended not long ago, an idle topic gives back the room for its parts: what a burst of them

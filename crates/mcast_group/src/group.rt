@@ -5,7 +5,8 @@ ghost use Rattle.std.specs.Arc.{arc_value};
 ghost use Rattle.std.specs.Option.{option_map};
 ghost use Rattle.std.specs.Result.{result_err};
 ghost use Rattle.mcast_txn.specs.Part.{data_of};
-ghost use Rattle.mcast_group.specs.Group.{CanLearn, FindsNothing, MayBeFound, GroupState, Releases, ReleasesAll, Tries, TriesAll, Turns, AreFound, group_after_release, result_of, after_enter, propose_refusal, IsRefusedBy, HasLeft, shown_at, sub_refusal, group_after_subscribe, group_after_unsubscribe};
+ghost use Rattle.sub_queue.specs.Shown.{room};
+ghost use Rattle.mcast_group.specs.Group.{CanLearn, FindsNothing, MayBeFound, GroupState, Releases, ReleasesAll, Tries, TriesAll, Turns, AreFound, group_after_release, result_of, after_enter, propose_refusal, IsRefusedBy, HasLeft, IsTold, shown_at, sub_refusal, group_after_subscribe, group_after_unsubscribe};
 ghost use Rattle.mcast_txn.specs.declared.id.TxnId.{TxnId};
 ghost use Rattle.mcast_txn.specs.Ballot.{Decision};
 ghost use Rattle.mcast_txn.specs.Ids.{id_lt};
@@ -481,6 +482,17 @@ impl<Q: Outlet + Drop> Group<Q> {
             return None;
         };
         Some(&self.subscriptions.at(index).outlet)
+    }
+
+    /// How many more items the outlet of the subscription of this number takes, at least, by what it knows to be taken;
+    /// `None` exactly where there is none. It is told first how many were taken, where somebody says so. It takes no
+    /// memory, and the topic stays as it is.
+    pub fn room(&mut self, needs: &Q::Needs, number: u64) -> Option<usize>
+        ensures told { IsTold number self.old self.new }
+        ensures room { result ≡ option_map room (shown_at number self.new) }
+    {
+        let index = self.subscriptions.index_of(number)?;
+        Some(self.subscriptions.room(needs, index))
     }
 
     /// Learns for the part at an index the verdict that is found, if it isn't refused.

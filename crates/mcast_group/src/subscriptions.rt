@@ -3,12 +3,12 @@
 ghost use Rattle.std.specs.Prelude.{◌≡◌, ℕ, ◌+◌, ◌<◌, ◌≤◌, ◌==◌, [], length, map, slice_index_or, slice_set, Some, None, IfOk, OnOk, OnErr, IfErr};
 ghost use Rattle.std.specs.List.{position, remove};
 ghost use Rattle.mcast_txn.specs.Transaction.{TopicPart};
-ghost use Rattle.sub_queue.specs.Shown.{next_index};
+ghost use Rattle.sub_queue.specs.Shown.{next_index, room};
 ghost use Rattle.sub_queue.specs.VecQueue.{after_take, shown_of};
 ghost use Rattle.mcast_group.specs.CellGroup.{open_count};
 ghost use Rattle.mcast_group.specs.Machine.{item_of, key};
 ghost use Rattle.mcast_group.specs.Inner.Copies.{AreOf};
-ghost use Rattle.mcast_group.specs.Inner.GroupInvariant.{Gave, IsReady, entry_of, gauge_of};
+ghost use Rattle.mcast_group.specs.Inner.GroupInvariant.{Gave, HasHeard, IsReady, entry_of, gauge_of};
 ghost use Rattle.mcast_group.specs.Inner.Subscriptions.{IsIndexFor, endless_count, insert_sub};
 ghost use Rattle.mcast_group.specs.declared.subscription.Subscription.{Subscription};
 
@@ -162,6 +162,17 @@ impl<Q: Outlet + Drop> Subscriptions<Q> {
             → (slice_index_or self.new k d).to ≡ None → more ≤ Q.spare (slice_index_or self.new k d).outlet) }
     {
         reserve_in_each(&mut self.subs, more)
+    }
+
+    /// How many more items the outlet of the subscription at an index takes, at least. It is told first how many were
+    /// taken, where somebody says so.
+    pub(crate) fn room(&mut self, needs: &Q::Needs, index: usize) -> usize
+        requires { index < length self.old }
+        ensures { (d : Subscription Q) → let sub = slice_index_or self.old index d in
+            (outlet : Q) × HasHeard Q.shown Q.spare sub.outlet outlet × (result ≡ room (Q.shown outlet))
+            × (self.new ≡ slice_set self.old index (record sub { outlet = outlet })) }
+    {
+        self.subs[index].outlet.room(needs)
     }
 }
 

@@ -1,3 +1,4 @@
+pub mod BoardStays
 mod Examples
 pub mod InOrderStays
 pub mod RisingItems

@@ -4,9 +4,11 @@ ghost use Rattle.std.specs.Prelude.{◌≡◌, ◌<◌, ◌++◌, [], IfOk};
 ghost use Rattle.mcast_txn.specs.Lists.{Rises};
 ghost use Rattle.mcast_txn.specs.Span.{item_stamp};
 
+use crate::board_end::BoardEnd;
 use crate::left::Left;
 use crate::queue_end::QueueEnd;
 use crate::source::Source;
+use crate::taken_so_far::TakenSoFar;
 use crate::taker::Taker;
 use mcast_txn::NoMemory;
 use std::alloc::Global;
@@ -19,12 +21,26 @@ pub fn ruled<R>(alloc: Global, capacity: usize) -> Result<(Source<R>, Taker), No
     ensures empty { IfOk result (λ ends. ends.0.items ≡ []) }
     ensures capacity { IfOk result (λ ends. ends.0.capacity ≡ capacity) }
 {
-    let (pusher, taker) = QueueEnd::two(alloc, capacity)?;
+    let (pusher, mut end) = QueueEnd::two(alloc, capacity)?;
+    let none_taken = TakenSoFar {
+        witness: end.witness(),
+        count: 0,
+    };
+    let (hearing, telling) = BoardEnd::two(alloc, none_taken)?;
     let source = Source {
         end: pusher,
+        board: hearing,
+        capacity,
+        told: 0,
+        untaken: 0,
         runtime: PhantomData,
     };
-    Ok((source, Taker { end: taker }))
+    let taker = Taker {
+        end,
+        board: telling,
+        taken: 0,
+    };
+    Ok((source, taker))
 }
 
 /// Puts the two ends of one queue together, with no memory. What was taken and then what is left is what was pushed, in

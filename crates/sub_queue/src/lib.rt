@@ -1,6 +1,8 @@
 //! The queues of subscriptions: where a topic puts what it releases.
 #![tactic(auto)]
 
+mod board_end;
+mod board_rule;
 mod ends;
 mod left;
 mod outlet;

@@ -2,7 +2,7 @@
 
 ghost use Rattle.std.specs.Prelude.{◌≡◌, ℕ, ◌+◌, ◌<◌, ◌≤◌, Bool, false, OnOk, OnErr, IfErr};
 ghost use Rattle.std.specs.Result.{is_ok};
-ghost use Rattle.sub_queue.specs.Shown.{Shown, IsAboveLast, IsFull, after_push};
+ghost use Rattle.sub_queue.specs.Shown.{Shown, IsAboveLast, IsFull, after_push, known_taken, room, shown_told};
 
 use mcast_txn::{NoMemory, Released};
 
@@ -36,6 +36,14 @@ pub trait Outlet {
         ensures refused { OnErr result (shown self.new ≡ shown self.old) }
         ensures returned { IfErr result (λ returned. returned ≡ item) }
         ensures spare { spare self.old ≤ spare self.new + 1 };
+
+    /// How many more items it takes, at least: its capacity less those that aren't known to be taken. Where somebody
+    /// says how many were taken, it is told first. It takes no memory.
+    fn room(&mut self, needs: &Self::Needs) -> usize
+        ensures room { result ≡ room (shown self.new) }
+        ensures told { (taken : ℕ) × (known_taken (shown self.old).gauge.taken ≤ taken)
+            × (shown self.new ≡ shown_told taken (shown self.old)) }
+        ensures spare { spare self.old ≤ spare self.new };
 
     /// A push is refused only where as many items as the capacity aren't known to be taken.
     ghost refuses_full: { (s : Shown) → may_accept s false → IsFull s };

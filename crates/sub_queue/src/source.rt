@@ -1,10 +1,11 @@
 //! The end of a shared queue that pushes.
 
-ghost use Rattle.std.specs.Prelude.{◌≡◌, ◌^◌, ◌≤◌, true, false, length, Ok, MatchResult};
+ghost use Rattle.std.specs.Prelude.{◌≡◌, ℕ, ◌-◌, ◌^◌, ◌≤◌, max, true, false, length, Ok, Some, MatchResult};
 ghost use Rattle.std.proofs.Common.{refl};
 ghost use Rattle.sub_queue.specs.Ends.{End, shown_of_source, with_item};
-ghost use Rattle.sub_queue.specs.Shown.{IsAboveLast, IsFull};
+ghost use Rattle.sub_queue.specs.Shown.{IsAboveLast, IsFull, room};
 
+use crate::board_end::BoardEnd;
 use crate::outlet::Outlet;
 use crate::queue_end::QueueEnd;
 use crate::taken_so_far::TakenSoFar;
@@ -16,14 +17,29 @@ use std::sync::Wait;
 /// the items that were pushed, and how many of them it was told to be taken.
 pub struct Source<R> {
     pub(crate) end: QueueEnd,
+    /// Where it is told how many items were taken.
+    pub(crate) board: BoardEnd,
+    pub(crate) capacity: usize,
+    /// So many items it was told to be taken.
+    pub(crate) told: u64,
+    /// So many it pushed beside those.
+    pub(crate) untaken: usize,
     pub(crate) runtime: PhantomData<R>,
 }
 
 impl<R> Drop for Source<R> {
     /// Written out, so that letting an end go is one call for the prover wherever it happens.
     fn drop(self) {
-        let Source { end, runtime: _ } = self;
+        let Source {
+            end,
+            board,
+            capacity: _,
+            told: _,
+            untaken: _,
+            runtime: _,
+        } = self;
         drop(end);
+        drop(board);
     }
 }
 
@@ -32,21 +48,30 @@ impl<R> Model for Source<R> {
 
     ghost view = { λ s. record {
       queue = s.end.queue;
-      capacity = s.end.capacity;
+      capacity = s.capacity;
       items = s.end.knows.pushed;
-      told = length s.end.knows.taken;
+      told = s.told;
     } };
 
-    ghost invariant = { λ s. (s.end.knows.pushes ≡ true) × (s.end.knows.takes ≡ false) };
+    ghost invariant = { λ s. (s.end.knows.pushes ≡ true) × (s.end.knows.takes ≡ false)
+        × (s.board ≡ Some s.end.queue) × (s.end.capacity ≡ s.capacity)
+        × (length s.end.knows.taken ≡ s.told) × (s.untaken ≡ length s.end.knows.pushed - s.told) };
 }
 
 impl<R> Source<R> {
-    /// Is told how many items were taken: from then on a push is refused only where the queue is full beside these.
+    /// Is told how many items were taken, if that is more than it was told: from then on a push is refused only where
+    /// the queue is full beside these.
     pub fn know_taken(&mut self, taken: TakenSoFar)
         requires { taken.queue ≡ self.old.queue }
-        ensures { self.new ≡ record self.old { told = taken.count } }
+        ensures { self.new ≡ record self.old { told = max self.old.told taken.count } }
     {
+        let count = taken.count();
+        if count <= self.told {
+            return;
+        }
         self.end.hear(taken.into_witness());
+        self.untaken = self.untaken.saturating_sub((count - self.told) as usize);
+        self.told = count;
     }
 
     /// The end of the queue.
@@ -55,7 +80,15 @@ impl<R> Source<R> {
         ensures pushes { result.knows.pushes ≡ true }
         ensures pushed { result.knows.pushed ≡ self.items }
     {
-        let Source { end, runtime: _ } = self;
+        let Source {
+            end,
+            board,
+            capacity: _,
+            told: _,
+            untaken: _,
+            runtime: _,
+        } = self;
+        drop(board);
         end
     }
 }
@@ -86,7 +119,24 @@ impl<R: Wait> Outlet for Source<R> {
         ensures { MatchResult result (λ _. self.new ≡ with_item item self.old)
             (λ returned. (returned ≡ item) × (self.new ≡ self.old) × IsFull (shown_of_source self.old)) }
     {
-        self.end.push(needs, item)
+        let Some(untaken) = self.untaken.checked_add(1) else {
+            return Err(item);
+        };
+        self.end.push(needs, item)?;
+        self.untaken = untaken;
+        Ok(())
+    }
+
+    /// How many more items it takes, at least. It hears first what the end that takes told, unless that is just being
+    /// told. It never waits.
+    fn room(&mut self, _needs: &R) -> usize
+        ensures room { result ≡ room (shown_of_source self.new) }
+        ensures told { (taken : ℕ) × (self.old.told ≤ taken) × (self.new ≡ record self.old { told = taken }) }
+    {
+        if let Some(taken) = self.board.take_down() {
+            self.know_taken(taken);
+        }
+        self.capacity.saturating_sub(self.untaken)
     }
 
     ghost refuses_full = { λ s answer. answer refl };

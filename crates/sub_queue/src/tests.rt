@@ -5,6 +5,7 @@
 ghost use Rattle.std.specs.Prelude.{◌≡◌, ◌<◌, true, IfSome};
 ghost use Rattle.sub_queue.specs.Shown.{IsAboveLast};
 
+mod room;
 mod shared;
 mod told;
 
@@ -18,6 +19,7 @@ enum Call {
     /// Push the item of this number.
     Push(u64),
     Take,
+    Room,
 }
 
 /// What a call answered.
@@ -29,10 +31,12 @@ enum Answer {
     /// The item of this number was taken.
     Took(u64),
     Nothing,
+    /// There is room for so many items.
+    HasRoom(usize),
 }
 
-use Answer::{Accepted, Nothing, Returned, Took};
-use Call::{Push, Take};
+use Answer::{Accepted, HasRoom, Nothing, Returned, Took};
+use Call::{Push, Room, Take};
 
 /// The item of the transaction of this number, with a stamp of this number, if there is memory.
 fn made(alloc: Global, n: u64) -> Option<Released>
@@ -128,6 +132,7 @@ fn answers(
         let answer = match call {
             Push(n) => pushed(alloc, &mut outlet, n),
             Take => taken(&mut outlet),
+            Room => Some(HasRoom(outlet.room(&()))),
         };
         if answer != Some(wanted) {
             return false;
@@ -171,4 +176,34 @@ fn a_queue_of_no_capacity_refuses_each(rt: HostRuntime) {
 fn what_was_not_taken_is_left(rt: HostRuntime) {
     let rows = [(Push(1), Accepted), (Push(2), Accepted), (Take, Took(1))];
     assert!(rt; answers(rt.alloc(), 3, &rows, (2, 1)));
+}
+
+/// The room is the capacity less what is untaken, from an empty queue to a full one.
+const ROOM_OF_TWO: [(Call, Answer); 11] = [
+    (Room, HasRoom(2)),
+    (Push(1), Accepted),
+    (Room, HasRoom(1)),
+    (Room, HasRoom(1)),
+    (Push(2), Accepted),
+    (Room, HasRoom(0)),
+    (Push(3), Returned(3)),
+    (Room, HasRoom(0)),
+    (Take, Took(1)),
+    (Room, HasRoom(1)),
+    (Push(4), Accepted),
+];
+
+#[test]
+fn the_room_is_what_the_capacity_leaves(rt: HostRuntime) {
+    assert!(rt; answers(rt.alloc(), 2, &ROOM_OF_TWO, (3, 1)));
+}
+
+#[test]
+fn a_queue_of_no_capacity_has_no_room(rt: HostRuntime) {
+    let rows = [
+        (Room, HasRoom(0)),
+        (Push(1), Returned(1)),
+        (Room, HasRoom(0)),
+    ];
+    assert!(rt; answers(rt.alloc(), 0, &rows, (0, 0)));
 }

@@ -4,7 +4,7 @@ ghost use Rattle.std.specs.Prelude.{◌≡◌, [], length, slice_get, Some};
 ghost use Rattle.std.proofs.Common.{sym};
 ghost use Rattle.std.proofs.lemmas.Bool.{ltb-false};
 ghost use Rattle.std.specs.Option.{option_map};
-ghost use Rattle.sub_queue.specs.Shown.{has_room, next_index, untaken};
+ghost use Rattle.sub_queue.specs.Shown.{has_room, next_index, room, untaken};
 ghost use Rattle.sub_queue.specs.VecQueue.{KeepsCapacity, shown_of, after_take};
 
 use crate::outlet::Outlet;
@@ -119,6 +119,15 @@ impl Outlet for VecOutlet {
         }
         self.items.push_reserved(item);
         Ok(())
+    }
+
+    /// How many more items it takes. It knows which were taken.
+    fn room(&mut self, _needs: &()) -> usize
+        ensures room { result ≡ room (shown_of self.old) }
+        ensures same { self.new ≡ self.old }
+    {
+        let untaken = self.items.len() - self.taken;
+        self.capacity - untaken
     }
 
     ghost refuses_full = { λ s no. ltb-false (untaken s) s.gauge.capacity (sym no) };

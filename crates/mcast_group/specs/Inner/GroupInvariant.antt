@@ -4,7 +4,7 @@ use Rattle.mcast_txn.specs.declared.stamp.Stamp.{Stamp}
 use Rattle.mcast_txn.specs.Lists.{In}
 use Rattle.mcast_txn.specs.Transaction.{TopicPart}
 use Rattle.mcast_txn.specs.Span.{Item}
-use Rattle.sub_queue.specs.Shown.{Shown, Gauge, IsAboveLast}
+use Rattle.sub_queue.specs.Shown.{Shown, Gauge, IsAboveLast, known_taken, shown_told}
 use Rattle.mcast_group.specs.declared.subscription.Subscription.{Subscription}
 use Rattle.mcast_group.specs.Sound.{IsSound}
 use Rattle.mcast_group.specs.Machine.{TopicState, Entry}
@@ -54,3 +54,13 @@ pub record Gave {Q : Type 0} (shown : Q → Shown) (may : Shown → Bool → Typ
   pub answered : MayGive shown may answers old
   pub entries : map (entry_of shown) new ≡ entries_after frontier item answers (map (entry_of shown) old)
   pub gauges : map (gauge_of shown) new ≡ map (gauge_of shown) old
+
+-- An outlet was told how many of its items were taken.
+-- least: no fewer than it knew.
+-- shows: it shows that it knows this now, and nothing else new.
+-- spare: its spare hasn't fallen.
+pub record HasHeard {Q : Type 0} (shown : Q → Shown) (spare : Q → ℕ) (old new : Q) : Type 0 where
+  pub taken : ℕ
+  pub least : known_taken (shown old).gauge.taken ≤ taken
+  pub shows : shown new ≡ shown_told taken (shown old)
+  pub spare_kept : spare old ≤ spare new

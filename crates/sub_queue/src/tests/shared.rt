@@ -45,6 +45,13 @@ impl<R: Wait> Pusher<R> {
         *next = after;
         Some(answer)
     }
+
+    /// For how many items it finds room.
+    pub(super) fn room(&mut self, rt: &R) -> usize
+        ensures { self.new.source.queue ≡ self.old.source.queue }
+    {
+        self.source.room(rt)
+    }
 }
 
 /// How many items were seen, and whether the k-th of them was item k, from 0.

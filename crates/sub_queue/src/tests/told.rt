@@ -28,7 +28,7 @@ struct Counts {
 }
 
 /// A pusher of a new source, whose first item has number 0.
-fn first_pusher<R>(source: Source<R>) -> Pusher<R>
+pub(super) fn first_pusher<R>(source: Source<R>) -> Pusher<R>
     requires { source.items ≡ [] }
     ensures { result.source.queue ≡ source.queue }
 {
@@ -115,7 +115,7 @@ fn told_answers<R: Wait>(
     let first = pusher.push(rt, alloc)?;
     let second = pusher.push(rt, alloc)?;
     let taken = taken(rt, taker);
-    pusher.source.know_taken(taker.taken_so_far());
+    pusher.source.know_taken(taker.taken_so_far()?);
     Some([
         first,
         second,
