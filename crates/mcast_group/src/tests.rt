@@ -10,6 +10,7 @@ mod many;
 mod memory;
 mod parts;
 mod plain;
+mod rooms;
 mod schedules;
 mod segments;
 mod shared;

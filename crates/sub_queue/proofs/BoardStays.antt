@@ -32,6 +32,7 @@ begins = record { queue = None; notes_are = tt; know = know; alone = λ _. alone
     know : (n : ℕ) (v : Option TakenCount) → get_elem? (None ∷ []) n ≡ some v → queue_of v ≡ None
     know zero v at = ap queue_of (sym (some-injective None v at))
     know (suc n) v at = absurd (some-ne-none v (sym at))
+
     alone : (n : ℕ) (v : Option TakenCount) → get_elem? (None ∷ []) n ≡ some v → n ≡ 0
     alone zero v at = refl
     alone (suc n) v at = absurd (some-ne-none v (sym at))

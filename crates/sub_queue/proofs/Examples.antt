@@ -1,6 +1,6 @@
 -- Worked rows: each is computed from the definitions.
-use Rattle.std.specs.Prelude.{◌≡◌, ℕ, true, false, [], ◌∷◌, Some, None}
-use Rattle.std.proofs.Common.{List, refl, sym, subst, zero, suc, true≢false}
+use Rattle.std.specs.Prelude.{◌≡◌, ◌≢◌, ℕ, true, false, [], ◌∷◌, Option, Some, None}
+use Rattle.std.proofs.Common.{List, refl, sym, ap, ◌∙◌, subst, zero, suc, true≢false}
 use mathlib.Core.Option.{some, some-injective, some-ne-none}
 use lib.ListN.{get_elem?}
 use Rattle.mcast_txn.specs.Lists.{Rises}
@@ -8,8 +8,9 @@ use Rattle.mcast_txn.specs.declared.stamp.Stamp.{Stamp}
 use Rattle.mcast_txn.specs.Span.{Item, item_stamp}
 use Rattle.sub_queue.specs.declared.rule.Knowledge.{Knowledge}
 use Rattle.sub_queue.specs.Rule.{knowledge, pusher_knowledge, taker_knowledge, Agrees, IsInOrder, rest_of}
-use Rattle.sub_queue.specs.Ends.{End, QueueId, shown_of_source}
-use Rattle.sub_queue.specs.Shown.{Shown, IsAboveLast, after_push, has_room, next_index, gauge_after_take, untaken}
+use Rattle.sub_queue.specs.Ends.{End, QueueId, TakenCount, shown_of_source}
+use Rattle.sub_queue.specs.Inner.Board.{IsOfOneQueue, queue_of}
+use Rattle.sub_queue.specs.Shown.{Shown, IsAboveLast, after_push, has_room, next_index, gauge_after_take, room, shown_told, untaken}
 use Rattle.sub_queue.specs.VecQueue.{VecQueue, after_take, shown_of}
 use Rattle.sub_queue.proofs.RisingItems.{rises_after_push}
 
@@ -56,6 +57,32 @@ one_is_untaken = refl
 
 all_may_be_untaken : untaken two_unknown ≡ 2
 all_may_be_untaken = refl
+
+no_room_is_left : room (shown_of (two 0)) ≡ 0
+no_room_is_left = refl
+
+room_for_one_after_a_take : room (shown_of (after_take (two 0))) ≡ 1
+room_for_one_after_a_take = refl
+
+room_for_all_after_two : room (shown_of (two 2)) ≡ 2
+room_for_all_after_two = refl
+
+-- an outlet that nobody told of a take has no more room by what it knows, and has it once it is told
+no_room_is_known : room two_unknown ≡ 0
+no_room_is_known = refl
+
+gauge_once_told : (shown_told 1 two_unknown).gauge ≡ record { capacity = 2; taken = Some 1 }
+gauge_once_told = refl
+
+items_stay_where_told : (shown_told 1 two_unknown).accepted ≡ two_unknown.accepted
+items_stay_where_told = refl
+
+room_once_told : room (shown_told 1 two_unknown) ≡ 1
+room_once_told = refl
+
+-- of more untaken items than the capacity there is no room, and no less than none
+no_room_beyond_full : room (record { accepted = item 1 ∷ item 2 ∷ item 3 ∷ []; gauge = record { capacity = 2; taken = Some 0 } }) ≡ 0
+no_room_beyond_full = refl
 
 -- the end that pushes of a queue of two places, which pushed two items and was told that this many of them were taken
 abbrev two_pushed : QueueId → ℕ → End
@@ -107,3 +134,34 @@ in_order = record {
     agree (suc zero) v at = subst (Agrees 0 1 pushed (item 1 ∷ []) 1) (some-injective (taker_knowledge (item 1 ∷ [])) v at)
         (record { pushes = λ no. absurd (true≢false (sym no)); takes = λ _. (refl, refl); known = ([], refl) })
     agree (suc (suc n)) v at = absurd (some-ne-none v (sym at))
+
+-- a note that so many items of this queue were taken
+abbrev note : QueueId → ℕ → TakenCount
+note queue count = record { queue = queue; count = count }
+
+-- a board with a note of three takes on it, whose ends know the first note
+one_queue : (queue : QueueId) → IsOfOneQueue (note queue 3 ∷ []) (Some (note queue 0) ∷ Some (note queue 0) ∷ [])
+one_queue queue = record { queue = Some queue; notes_are = (refl, tt); know = know; alone = λ none. absurd (some-queue-is-not-none queue none) }
+  where
+    some-queue-is-not-none : (queue : QueueId) → Some queue ≢ None
+    some-queue-is-not-none queue e = subst there e tt
+      where
+        there : Option QueueId → Type 0
+        there None = Prim.⊥
+        there (Some queue) = Unit {0}
+
+    know : (n : ℕ) (v : Option TakenCount) → get_elem? (Some (note queue 0) ∷ Some (note queue 0) ∷ []) n ≡ some v → queue_of v ≡ Some queue
+    know zero v at = ap queue_of (sym (some-injective (Some (note queue 0)) v at))
+    know (suc zero) v at = ap queue_of (sym (some-injective (Some (note queue 0)) v at))
+    know (suc (suc n)) v at = absurd (some-ne-none v (sym at))
+
+-- none that has a note of another queue than its end knows
+two_queues : (queue other : QueueId) → queue ≢ other → IsOfOneQueue (note other 3 ∷ []) (Some (note queue 0) ∷ []) → Prim.⊥
+two_queues queue other apart h = apart (some-of queue other (h.know 0 (Some (note queue 0)) refl ∙ sym h.notes_are.0))
+  where
+    some-of : (a b : QueueId) → Some a ≡ Some b → a ≡ b
+    some-of a b e = ap (λ (o : Option QueueId). value o) e
+      where
+        value : Option QueueId → QueueId
+        value None = a
+        value (Some x) = x

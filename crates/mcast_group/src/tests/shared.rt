@@ -10,7 +10,7 @@ use std::sync::Wait;
 use sub_queue::{Source, Taker, ruled};
 
 /// Enters the transaction of this seq at topic 0, and learns that its number is its seq.
-fn enter<R: Wait>(alloc: Global, group: &mut Group<Source<R>>, seq: u64) -> Option<()> {
+pub(super) fn enter<R: Wait>(alloc: Global, group: &mut Group<Source<R>>, seq: u64) -> Option<()> {
     let part = part_of(alloc, id(seq), &[0], group.topic())?;
     group.propose(stamp(0, 0), part).ok()?;
     let verdict = verdict_of(alloc, id(seq), &[(0, seq)])?;
@@ -18,19 +18,19 @@ fn enter<R: Wait>(alloc: Global, group: &mut Group<Source<R>>, seq: u64) -> Opti
 }
 
 /// The seq of the transaction that a release lets go.
-fn released<R: Wait>(rt: &R, group: &mut Group<Source<R>>) -> Option<u64> {
+pub(super) fn released<R: Wait>(rt: &R, group: &mut Group<Source<R>>) -> Option<u64> {
     let (id, _) = group.release(rt)?;
     Some(id.seq)
 }
 
 /// The seq of the item that a take gives.
-fn taken<R: Wait>(rt: &R, taker: &mut Taker) -> Option<u64> {
+pub(super) fn taken<R: Wait>(rt: &R, taker: &mut Taker) -> Option<u64> {
     let item = taker.take(rt)?;
     Some(item.part.id().seq)
 }
 
 /// Begins a subscription by a queue of capacity 2, whose taker is returned.
-fn subscribed<R: Wait>(alloc: Global, group: &mut Group<Source<R>>) -> Option<Taker> {
+pub(super) fn subscribed<R: Wait>(alloc: Global, group: &mut Group<Source<R>>) -> Option<Taker> {
     let (source, taker) = ruled::<R>(alloc, 2).ok()?;
     group.subscribe(7, source).ok()?;
     Some(taker)

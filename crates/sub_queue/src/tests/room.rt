@@ -124,12 +124,7 @@ fn wait_for_room<R: Wait>(rt: &R, pusher: &mut Pusher<R>) {
 }
 
 /// Pushes items where the source has room, up to the first that is refused. How many entered.
-fn push_where_room<R: Wait>(
-    rt: &R,
-    alloc: Global,
-    pusher: Pusher<R>,
-    ended: &AtomicU64,
-) -> u64 {
+fn push_where_room<R: Wait>(rt: &R, alloc: Global, pusher: Pusher<R>, ended: &AtomicU64) -> u64 {
     let mut pusher = pusher;
     let mut entered = 0;
     for n in 0..ITEMS {
