@@ -1,6 +1,6 @@
 -- Each step of a shared queue keeps its rule: the making, the split into two ends, a push that enters or finds it full, a take
 -- that gives or finds it empty, and the joining.
-use Rattle.std.proofs.Common.{◌≡◌, ◌≢◌, ◌⊎◌, ℕ, zero, suc, true, false, true≢false, List, [], ◌∷◌, ◌++◌, length, drop, set, arith, inl, inr, sym, refl, ap, ◌∙◌, subst, append_assoc, append-nil}
+use Rattle.std.proofs.Common.{◌≡◌, ◌≢◌, ◌≤◌, ◌⊎◌, ℕ, zero, suc, true, false, true≢false, List, [], ◌∷◌, ◌++◌, length, drop, set, arith, inl, inr, sym, refl, ap, ◌∙◌, subst, append_assoc, append-nil}
 use Rattle.std.proofs.Math.Seq.{drop-append_seam}
 use Rattle.std.proofs.lemmas.List.{length-append}
 use mathlib.Core.Option.{some, some-injective, some-ne-none}
@@ -130,6 +130,14 @@ witnesses n v items ends h at =
         | inr e ↦ subst (λ k. Agreed k u) (sym e.0) (subst (Agreed (length first)) e.1 new)
       ];
     }
+
+-- what an end that pushes knows to be taken, it pushed
+pub knows_pushed : (n : ℕ) (v : Knowledge) → v.pushes ≡ true → Learns IsInOrder n v (λ items. length v.taken ≤ length v.pushed)
+knows_pushed n v pushes items ends h at =
+    let mine = h.agree n v at in
+    let all = ap length ((mine.pushes pushes).1 ∙ h.order) ∙ length-append h.taken items in
+    let some = ap length mine.known.1 ∙ length-append v.taken mine.known.0 in
+    omega (arith, all, some)
 
 -- an end that doesn't take hears of what a witness knows
 pub hears : (n : ℕ) (v : Knowledge) (other : ℕ) (u : Knowledge) → v.takes ≡ false → Merges IsInOrder n v other u (knowing_taken u.taken v) no_knowledge

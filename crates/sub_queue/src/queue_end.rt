@@ -116,14 +116,17 @@ impl QueueEnd {
         self.queue.another::<Witnesses>(&mut self.pass)
     }
 
-    /// Knows from now on that the items were taken of which the witness knows that.
+    /// This end, which pushes, knows from now on that the items were taken of which the witness knows that. They are
+    /// among those that it pushed.
     pub(crate) fn hear(&mut self, witness: EndPass)
         requires queue { witness.table_id ≡ self.old.queue }
         requires whole { witness.me.1 ≡ [] }
-        requires right { self.old.knows.takes ≡ false }
-        ensures { self.new ≡ end_knowing_taken (knowledge_of witness).taken self.old }
+        requires rights { (self.old.knows.pushes ≡ true) × (self.old.knows.takes ≡ false) }
+        ensures knows { self.new ≡ end_knowing_taken (knowledge_of witness).taken self.old }
+        ensures pushed { length self.new.knows.taken ≤ length self.new.knows.pushed }
     {
         self.queue.absorb::<Witnesses>(&mut self.pass, witness);
+        self.queue.learn_as::<Witnesses>(&mut self.pass);
     }
 
     /// Takes the first item of those that are left.

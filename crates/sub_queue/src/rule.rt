@@ -50,7 +50,8 @@ impl Join<Knowledge> for TwoEnds {
     ghost spent = { no_knowledge };
 }
 
-/// What is known to be taken, as something of its own beside the end that knows it.
+/// What is known to be taken, as something of its own beside the end that knows it. An end that pushes and knows of
+/// items that they were taken pushed them.
 pub(crate) struct Witnesses;
 
 impl Split<Knowledge> for Witnesses {
@@ -67,6 +68,12 @@ impl Join<Knowledge> for Witnesses {
     ghost both = { λ v w. knowing_taken w.taken v };
 
     ghost spent = { no_knowledge };
+}
+
+impl Lesson<Released, Knowledge> for Witnesses {
+    ghost use Rattle.std.specs.Prelude.{◌≤◌, length};
+
+    ghost fact = { λ v items. length v.taken ≤ length v.pushed };
 }
 
 /// A push: it puts the item at the end of what was pushed. Where the queue is full, what was pushed ends with what the

@@ -1,6 +1,6 @@
 //! The end of a shared queue that pushes.
 
-ghost use Rattle.std.specs.Prelude.{◌≡◌, ℕ, ◌-◌, ◌^◌, ◌≤◌, max, true, false, length, Ok, Some, MatchResult};
+ghost use Rattle.std.specs.Prelude.{◌≡◌, ℕ, ◌+◌, ◌^◌, ◌≤◌, max, true, false, length, Ok, Some, MatchResult};
 ghost use Rattle.std.proofs.Common.{refl};
 ghost use Rattle.sub_queue.specs.Ends.{End, shown_of_source, with_item};
 ghost use Rattle.sub_queue.specs.Shown.{IsAboveLast, IsFull, room};
@@ -55,7 +55,7 @@ impl<R> Model for Source<R> {
 
     ghost invariant = { λ s. (s.end.knows.pushes ≡ true) × (s.end.knows.takes ≡ false)
         × (s.board ≡ Some s.end.queue) × (s.end.capacity ≡ s.capacity)
-        × (length s.end.knows.taken ≡ s.told) × (s.untaken ≡ length s.end.knows.pushed - s.told) };
+        × (length s.end.knows.taken ≡ s.told) × (length s.end.knows.pushed ≡ s.told + s.untaken) };
 }
 
 impl<R> Source<R> {
