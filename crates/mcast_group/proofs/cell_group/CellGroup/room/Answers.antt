@@ -1,4 +1,4 @@
-use Rattle.std.proofs.Common.{◌≡◌, ◌+◌, ◌≤◌, length, sym, ap, subst, ◌∙◌}
+use Rattle.std.proofs.Common.{sym, ap, subst, ◌∙◌}
 use Rattle.mcast_group.specs.CellGroup.{waiting_ids}
 use Rattle.mcast_group.specs.Group.{GroupState}
 use Rattle.mcast_group.specs.Machine.{TopicState}

@@ -3,7 +3,7 @@ use Rattle.std.specs.Option.{option_map}
 use Rattle.mcast_txn.specs.Span.{Item}
 use Rattle.sub_queue.specs.Shown.{Shown, Gauge, known_taken, room, shown_told}
 use Rattle.mcast_group.specs.declared.subscription.Subscription.{Subscription}
-use Rattle.mcast_group.specs.Group.{GroupState, IsTold, gauge_at, group_told, shown_at, shown_with, topic_state}
+use Rattle.mcast_group.specs.Group.{GroupState, gauge_at, group_told, shown_at, shown_with, topic_state}
 use Rattle.mcast_group.specs.Inner.GroupInvariant.{IsKept, entry_of, gauge_of}
 use Rattle.mcast_group.specs.Machine.{Entry}
 use Rattle.mcast_group.proofs.Indices.{in_range}
@@ -24,13 +24,13 @@ returns-in_err-index-clause-told g c =
     let at = sym c.index_of.ensures ∙ c.in_err-index.was in
     let x = topic_state s.topic s.clock s.log_limit s.pending s.base s.rows.items s.frontier (map (entry_of shown) subs) in
     let none : shown_at c.args.number c.args.self.now ≡ None =
-        ap (shown_at c.args.number) (sym c.self.view_is)
-        ∙ ap (λ (o : Option Entry). shown_with o (gauge_at c.args.number (map (entry_of shown) subs) (map (gauge_of shown) subs))) (no_entry shown c.args.number subs at) in (
+    ap (shown_at c.args.number) (sym c.self.view_is)
+    ∙ ap (λ (o : Option Entry). shown_with o (gauge_at c.args.number (map (entry_of shown) subs) (map (gauge_of shown) subs))) (no_entry shown c.args.number subs at) in (
       0,
       subst (λ (o : Option Shown). IfSome o (λ (z : Shown). known_taken z.gauge.taken ≤ 0)) (sym none) tt,
       sym c.self.view_is
-      ∙ (ap (λ (rs : List Gauge). record { topic = x; gauges = rs }) (sym (untold shown c.args.number 0 subs at))
-      ∙ ap (group_told c.args.number 0) c.self.view_is),
+          ∙ (ap (λ (rs : List Gauge). record { topic = x; gauges = rs }) (sym (untold shown c.args.number 0 subs at))
+          ∙ ap (group_told c.args.number 0) c.self.view_is),
     )
 
 pub returns-in_err-index-clause-room : goal.returns-in_err-index-clause-room
@@ -39,8 +39,8 @@ returns-in_err-index-clause-room g c =
     let subs = c.self.inside.subscriptions in
     let at = sym c.index_of.ensures ∙ c.in_err-index.was in
     let none : shown_at c.args.number c.args.self.now ≡ None =
-        ap (shown_at c.args.number) (sym c.self.view_is)
-        ∙ ap (λ (o : Option Entry). shown_with o (gauge_at c.args.number (map (entry_of shown) subs) (map (gauge_of shown) subs))) (no_entry shown c.args.number subs at) in
+    ap (shown_at c.args.number) (sym c.self.view_is)
+    ∙ ap (λ (o : Option Entry). shown_with o (gauge_at c.args.number (map (entry_of shown) subs) (map (gauge_of shown) subs))) (no_entry shown c.args.number subs at) in
     c.from_residual.ensures ∙ ap (option_map room) (sym none)
 
 pub room-requires : goal.room-requires
@@ -85,12 +85,13 @@ returns-clause-told g c =
       taken,
       subst (λ (o : Option Shown). IfSome o (λ (z : Shown). known_taken z.gauge.taken ≤ taken)) (sym there) heard.1.least,
       ap (λ (zs : List (Subscription g.row.Q.Denot)). record { topic = x (map (entry_of shown) zs); gauges = map (gauge_of shown) zs }) heard.3
-      ∙ (ap (λ (es : List Entry). record { topic = x es; gauges = map (gauge_of shown) (set subs i new) }) (map_set (entry_of shown) subs i new d same within)
-      ∙ (ap (λ (rs : List Gauge). record { topic = x (map (entry_of shown) subs); gauges = rs }) (sym (told_at shown c.args.number taken subs i d new at heard.1.shows))
-      ∙ ap (group_told c.args.number taken) c.self.view_is)),
+          ∙ (ap (λ (es : List Entry). record { topic = x es; gauges = map (gauge_of shown) (set subs i new) }) (map_set (entry_of shown) subs i new d same within)
+          ∙ (ap (λ (rs : List Gauge). record { topic = x (map (entry_of shown) subs); gauges = rs }) (sym (told_at shown c.args.number taken subs i d new at heard.1.shows))
+          ∙ ap (group_told c.args.number taken) c.self.view_is)),
     )
 
 pub returns-clause-room : goal.returns-clause-room
+unfolding returns-clause-told
 returns-clause-room g c =
     let shown = g.Q.Outlet.shown in
     let s = c.self.inside in

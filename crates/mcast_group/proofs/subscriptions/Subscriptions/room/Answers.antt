@@ -37,5 +37,5 @@ returns g c = λ d.
       },
       c.room.ensures.room,
       ap (λ (zs : List (Subscription g.row.Q.Denot)). set zs i (record old { outlet = new })) c.self.view_is
-      ∙ ap (λ (z : Subscription g.row.Q.Denot). set c.args.self.now i (record z { outlet = new })) is,
+          ∙ ap (λ (z : Subscription g.row.Q.Denot). set c.args.self.now i (record z { outlet = new })) is,
     )
