@@ -3,7 +3,7 @@ use Rattle.std.specs.Option.{option_map}
 use Rattle.mcast_txn.specs.Span.{Item}
 use Rattle.sub_queue.specs.Shown.{Shown, Gauge, known_taken, room, shown_told}
 use Rattle.mcast_group.specs.declared.subscription.Subscription.{Subscription}
-use Rattle.mcast_group.specs.Group.{GroupState, gauge_at, group_told, shown_at, shown_with, topic_state}
+use Rattle.mcast_group.specs.Group.{gauge_at, group_told, shown_at, shown_with, topic_state}
 use Rattle.mcast_group.specs.Inner.GroupInvariant.{IsKept, entry_of, gauge_of}
 use Rattle.mcast_group.specs.Machine.{Entry}
 use Rattle.mcast_group.proofs.Indices.{in_range}
