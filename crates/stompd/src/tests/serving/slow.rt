@@ -178,12 +178,25 @@ const AT_B: (&str, &str) = (
 const FROM_B: &[u8] =
     b"MESSAGE\nsubscription:t\nmessage-id:1.1.0\ndestination:B\ncontent-length:2\n\nhi\0";
 
-/// How often this stands in those octets.
-fn times(octets: &[u8], text: &[u8]) -> usize {
-    octets
-        .windows(text.len().max(1))
-        .filter(|window| *window == text)
-        .count()
+/// A frame without the NULL at its end.
+fn without_end(frame: &[u8]) -> Option<&[u8]> {
+    frame.get(..frame.len().saturating_sub(1))
+}
+
+/// Whether the one of these frames is among those once, and the other once; no body has a NULL.
+fn each_is_once(octets: &[u8], one: &[u8], other: &[u8]) -> bool {
+    let (one, other) = (without_end(one), without_end(other));
+    let mut ones = 0u32;
+    let mut others = 0u32;
+    for frame in octets.split(|octet| *octet == 0) {
+        if Some(frame) == one {
+            ones = ones.saturating_add(1);
+        }
+        if Some(frame) == other {
+            others = others.saturating_add(1);
+        }
+    }
+    ones == 1 && others == 1
 }
 
 /// Whether so many SENDs to A go out.
@@ -206,9 +219,7 @@ const BURST: u64 = 400;
 fn ends_lagged_at_a(client: &mut Client) -> bool {
     match client.rest() {
         Some(came) => {
-            times(came.as_slice(), FROM_B) == 1
-                && times(came.as_slice(), LAGGED) == 1
-                && came.as_slice().ends_with(LAGGED)
+            each_is_once(came.as_slice(), FROM_B, LAGGED) && came.as_slice().ends_with(LAGGED)
         }
         None => false,
     }
@@ -268,9 +279,11 @@ fn is_given_up(slow: &mut Client, other: &mut Client) -> bool {
 /// than the systems on the way take.
 const UNREAD: u64 = 60;
 
-/// How many octets each of them has in its body. One of them and what an item may be taken behind are fewer octets than
-/// those at which nothing more is read.
-const LARGE: usize = 700_000;
+/// How many octets each of them has in its body. Together these are twice what Linux takes on loopback for one that has
+/// read nothing yet: 4 MiB at the sender's side, 128 KiB at its own. Each octet is compared, which a build with checks takes
+/// a microsecond for: so no more. One of them and what an item may be taken behind are fewer octets than those at which
+/// nothing more is read.
+const LARGE: usize = 150_000;
 
 /// Whether the MESSAGE of the SEND to B of this number comes next.
 fn hears_at_b(client: &mut Client, alloc: Global, number: u64) -> bool {
