@@ -62,12 +62,22 @@ fn goes_on(sender: &mut Client, reader: &mut Client, alloc: Global) -> bool {
     }
 }
 
-/// How often one asks for something: longer than the server takes to end what has lagged.
-const PAUSE: u32 = 300_000;
+/// What is refused, and the ERROR that answers it.
+const REFUSED: (&str, &str) = (
+    "ACK\n\n\0",
+    "ERROR\nmessage:21 Unsupported\ncontent-length:0\n\n\0",
+);
 
-/// Whether the server answers one that asks for a while.
-fn pauses(client: &mut Client) -> bool {
-    (0..PAUSE).all(|_| client.asks(IDLE.0, IDLE.1))
+/// Whether the server answers one that asks for as long as it hears out another, which was refused a frame and says a
+/// little now and then: by its own clock one second to ten. It takes no longer to end what has lagged, and waits a minute
+/// for one that lagged to read on.
+fn pauses(client: &mut Client, alloc: Global, lines: &mut Lines) -> bool {
+    match Client::connected(alloc, lines) {
+        Some(mut refused) => {
+            refused.asks(REFUSED.0, REFUSED.1) && is_given_up(&mut refused, client)
+        }
+        None => false,
+    }
 }
 
 /// The last words to one that lagged.
@@ -87,7 +97,9 @@ fn ends_lagged(client: &mut Client) -> bool {
 fn one_lags(alloc: Global, lines: &mut Lines, slow: &mut Client, reader: &mut Client) -> bool {
     match Client::connected(alloc, lines) {
         Some(mut sender) => {
-            goes_on(&mut sender, reader, alloc) && pauses(&mut sender) && ends_lagged(slow)
+            goes_on(&mut sender, reader, alloc)
+                && pauses(&mut sender, alloc, lines)
+                && ends_lagged(slow)
         }
         None => false,
     }
@@ -99,7 +111,7 @@ struct Slow;
 
 impl Peers for Slow {
     fn count(&self) -> u64 {
-        3
+        4
     }
 
     fn meet(&self, alloc: Global, lines: &mut Lines) -> bool {
@@ -262,10 +274,10 @@ const IDLE: (&str, &str) = (
 /// How often another asks for that, at most.
 const ASKS: u32 = 4_000_000;
 
-/// Whether the server closes the connection of one that doesn't read, and answers another meanwhile.
-fn is_given_up(slow: &mut Client, other: &mut Client) -> bool {
+/// Whether the server closes the connection of one that sends an end of line now and then, and answers another meanwhile.
+fn is_given_up(one: &mut Client, other: &mut Client) -> bool {
     for ask in 0..ASKS {
-        if ask % 1_000 == 0 && !slow.sends("\n") {
+        if ask % 1_000 == 0 && !one.sends("\n") {
             return true;
         }
         if !other.asks(IDLE.0, IDLE.1) {
