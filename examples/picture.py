@@ -329,7 +329,7 @@ class Picture:
         return '\n'.join([
             '<svg xmlns="http://www.w3.org/2000/svg" width="%d" height="%d" role="img">' % (self.right + 90, self.height),
             '<title>Transactions by rising stamp, at their topics, and what each subscription got</title>',
-            '<style>%s</style>' % STYLE, text(12, 34, 'stamp', 'small'), shapes, '</svg>', ''])
+            '<style>%s</style>' % STYLE, shapes, text(12, 34, 'stamp', 'small'), '</svg>', ''])
 
 
 def main():

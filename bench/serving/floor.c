@@ -1,5 +1,6 @@
 /* The floor of bench/serve: the plainest relay of STOMP there can be. One thread over epoll gives each SEND to all who
- * subscribed to its topic; it promises no order, checks nothing, and lets what waits for a connection grow.
+ * subscribed to its topic, a transaction's at its COMMIT; its order is that of its one thread. It checks nothing, and lets what waits for
+ * a connection grow.
  *     floor NAME..     serves topics of these names, on 127.0.0.1, at a port that the system chooses */
 #define _GNU_SOURCE
 #include "floor.h"

@@ -5,8 +5,8 @@ use super::lines::Lines;
 use super::served::{Peers, quiet, serves};
 use std::alloc::Global;
 
-/// How many SENDs.
-const SENDS: u64 = 1_000;
+/// How many SENDs: together with their bodies more octets than the systems on the way, and a queue, take.
+const SENDS: usize = 200;
 
 /// How many octets each has in its body.
 const BODY: usize = 100_000;
@@ -46,7 +46,7 @@ fn all_are_read(sender: &mut Client, reader: &mut Client, alloc: Global, text: &
     let Some(body) = text.as_bytes().get(HEAD.len()..) else {
         return false;
     };
-    for number in 1..=SENDS {
+    for number in 1..=(SENDS as u64) {
         if !sender.sends(text) || !hears_number(reader, alloc, number, body) {
             return false;
         }
@@ -62,12 +62,22 @@ fn goes_on(sender: &mut Client, reader: &mut Client, alloc: Global) -> bool {
     }
 }
 
-/// How often one asks for something: longer than the server takes to end what has lagged.
-const PAUSE: u32 = 300_000;
+/// What is refused, and the ERROR that answers it.
+const REFUSED: (&str, &str) = (
+    "ACK\n\n\0",
+    "ERROR\nmessage:21 Unsupported\ncontent-length:0\n\n\0",
+);
 
-/// Whether the server answers one that asks for a while.
-fn pauses(client: &mut Client) -> bool {
-    (0..PAUSE).all(|_| client.asks(IDLE.0, IDLE.1))
+/// Whether the server answers one that asks for as long as it hears out another, which was refused a frame and says a
+/// little now and then: by its own clock one second to ten. It takes no longer to end what has lagged, and waits a minute
+/// for one that lagged to read on.
+fn pauses(client: &mut Client, alloc: Global, lines: &mut Lines) -> bool {
+    match Client::connected(alloc, lines) {
+        Some(mut refused) => {
+            refused.asks(REFUSED.0, REFUSED.1) && is_given_up(&mut refused, client)
+        }
+        None => false,
+    }
 }
 
 /// The last words to one that lagged.
@@ -77,7 +87,7 @@ const LAGGED: &[u8] = b"ERROR\nmessage:74 Lagged\ncontent-length:0\n\n\0";
 fn ends_lagged(client: &mut Client) -> bool {
     match client.rest() {
         Some(came) => {
-            came.len() < BODY.saturating_mul(1_000) && came.as_slice().ends_with(LAGGED)
+            came.len() < BODY.saturating_mul(SENDS) && came.as_slice().ends_with(LAGGED)
         }
         None => false,
     }
@@ -87,7 +97,9 @@ fn ends_lagged(client: &mut Client) -> bool {
 fn one_lags(alloc: Global, lines: &mut Lines, slow: &mut Client, reader: &mut Client) -> bool {
     match Client::connected(alloc, lines) {
         Some(mut sender) => {
-            goes_on(&mut sender, reader, alloc) && pauses(&mut sender) && ends_lagged(slow)
+            goes_on(&mut sender, reader, alloc)
+                && pauses(&mut sender, alloc, lines)
+                && ends_lagged(slow)
         }
         None => false,
     }
@@ -99,7 +111,7 @@ struct Slow;
 
 impl Peers for Slow {
     fn count(&self) -> u64 {
-        3
+        4
     }
 
     fn meet(&self, alloc: Global, lines: &mut Lines) -> bool {
@@ -160,7 +172,7 @@ fn one_that_sends_to_itself_does_not_lag(rt: HostRuntime) {
 
 #[test]
 fn one_that_does_not_read_lags_alone(rt: HostRuntime) {
-    assert!(rt; serves(&quiet(rt), rt.alloc(), &Slow, 1_000));
+    assert!(rt; serves(&quiet(rt), rt.alloc(), &Slow, SENDS));
 }
 
 /// A subscription `t` to B that asks for a receipt, and its RECEIPT.
@@ -178,12 +190,25 @@ const AT_B: (&str, &str) = (
 const FROM_B: &[u8] =
     b"MESSAGE\nsubscription:t\nmessage-id:1.1.0\ndestination:B\ncontent-length:2\n\nhi\0";
 
-/// How often this stands in those octets.
-fn times(octets: &[u8], text: &[u8]) -> usize {
-    octets
-        .windows(text.len().max(1))
-        .filter(|window| *window == text)
-        .count()
+/// A frame without the NULL at its end.
+fn without_end(frame: &[u8]) -> Option<&[u8]> {
+    frame.get(..frame.len().saturating_sub(1))
+}
+
+/// Whether the one of these frames is among those once, and the other once; no body has a NULL.
+fn each_is_once(octets: &[u8], one: &[u8], other: &[u8]) -> bool {
+    let (one, other) = (without_end(one), without_end(other));
+    let mut ones = 0u32;
+    let mut others = 0u32;
+    for frame in octets.split(|octet| *octet == 0) {
+        if Some(frame) == one {
+            ones = ones.saturating_add(1);
+        }
+        if Some(frame) == other {
+            others = others.saturating_add(1);
+        }
+    }
+    ones == 1 && others == 1
 }
 
 /// Whether so many SENDs to A go out.
@@ -206,9 +231,7 @@ const BURST: u64 = 400;
 fn ends_lagged_at_a(client: &mut Client) -> bool {
     match client.rest() {
         Some(came) => {
-            times(came.as_slice(), FROM_B) == 1
-                && times(came.as_slice(), LAGGED) == 1
-                && came.as_slice().ends_with(LAGGED)
+            each_is_once(came.as_slice(), FROM_B, LAGGED) && came.as_slice().ends_with(LAGGED)
         }
         None => false,
     }
@@ -251,10 +274,10 @@ const IDLE: (&str, &str) = (
 /// How often another asks for that, at most.
 const ASKS: u32 = 4_000_000;
 
-/// Whether the server closes the connection of one that doesn't read, and answers another meanwhile.
-fn is_given_up(slow: &mut Client, other: &mut Client) -> bool {
+/// Whether the server closes the connection of one that sends an end of line now and then, and answers another meanwhile.
+fn is_given_up(one: &mut Client, other: &mut Client) -> bool {
     for ask in 0..ASKS {
-        if ask % 1_000 == 0 && !slow.sends("\n") {
+        if ask % 1_000 == 0 && !one.sends("\n") {
             return true;
         }
         if !other.asks(IDLE.0, IDLE.1) {
@@ -268,9 +291,11 @@ fn is_given_up(slow: &mut Client, other: &mut Client) -> bool {
 /// than the systems on the way take.
 const UNREAD: u64 = 60;
 
-/// How many octets each of them has in its body. One of them and what an item may be taken behind are fewer octets than
-/// those at which nothing more is read.
-const LARGE: usize = 700_000;
+/// How many octets each of them has in its body. Together these are twice what Linux takes on loopback for one that has
+/// read nothing yet: 4 MiB at the sender's side, 128 KiB at its own. Each octet is compared, which a build with checks takes
+/// a microsecond for: so no more. One of them and what an item may be taken behind are fewer octets than those at which
+/// nothing more is read.
+const LARGE: usize = 150_000;
 
 /// Whether the MESSAGE of the SEND to B of this number comes next.
 fn hears_at_b(client: &mut Client, alloc: Global, number: u64) -> bool {
