@@ -5,8 +5,8 @@ use super::lines::Lines;
 use super::served::{Peers, quiet, serves};
 use std::alloc::Global;
 
-/// How many SENDs: together with their bodies more octets than the systems on the way, and a queue, take.
-const SENDS: usize = 200;
+/// How many SENDs.
+const SENDS: usize = 1_000;
 
 /// How many octets each has in its body.
 const BODY: usize = 100_000;
