@@ -12,7 +12,8 @@ const ASLEEP: u8 = 2;
 
 /// What a connection's thread is told by. No telling is lost: who tells has done first what it tells of, and the thread
 /// looks for that only after it heard. So either the thread looks behind that deed, or it finds at `sleeps` that it
-/// was told, and doesn't wait, or it waits already, and is woken.
+/// was told, and doesn't wait, or it waits already, and is woken. That needs all these steps in one order, those of
+/// `stuck`, too: each is SeqCst, and has to stay so.
 #[derive(Drop)]
 pub(crate) struct Bell {
     state: AtomicU8,

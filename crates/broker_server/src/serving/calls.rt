@@ -93,6 +93,13 @@ impl<'a, R: Wait + Log + Clock, W: Side, T: Side> Calls<'a, R, W, T> {
         self.rt
     }
 
+    /// Whether it asks for the connection of this number.
+    pub(crate) fn is_of(&self, connection: u64) -> bool
+        ensures { result ≡ (self.now.peer.number == connection) }
+    {
+        self.peer.number == connection
+    }
+
     /// What its connection's thread is told by.
     pub(crate) fn bell(&self) -> &Bell {
         &self.bell

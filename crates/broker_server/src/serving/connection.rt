@@ -189,7 +189,7 @@ impl<'a, 'b, R: Wait + Log + Clock, W: Side, T: Side> Connection<'a, 'b, R, W, T
         }
         desk.calls.turn_for(&mut self.asleep);
         for seat in self.asleep.iter() {
-            if !self.desks.stand_in(seat.desk()) {
+            if !self.desks.stand_in(seat) {
                 seat.ring();
             }
         }

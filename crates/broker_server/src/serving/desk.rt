@@ -1,6 +1,6 @@
 //! What a connection's thread works at.
 
-ghost use Rattle.std.specs.Prelude.{◌≡◌, ◌&&◌, nat_lt, true, false, List, [], None, is_some, is_none, length};
+ghost use Rattle.std.specs.Prelude.{◌≡◌, ◌==◌, ◌&&◌, nat_lt, true, false, List, [], None, is_some, is_none, length};
 ghost use Rattle.broker_server.specs.BrokerRows.{BrokerRow};
 ghost use Rattle.broker_server.specs.Delivering.{DeliversRound, most_waiting};
 ghost use Rattle.broker_server.specs.declared.serving.socket.Came.TheVariants.{Nothing};
@@ -111,13 +111,19 @@ impl<'a, R: Wait + Log + Clock, W: Side, T: Side> Desk<'a, R, W, T> {
         }
     }
 
-    /// Does for its thread, which sleeps, what that would do once it was told: takes what is there, as much as may
-    /// wait, and writes once. Whether nothing is left for that thread to do. (Where a subscription has lagged, what is
-    /// open ends here.)
-    pub(crate) fn stand_in(&mut self) -> bool
-        ensures { result ≡ true → (self.new.talk.wire ≡ []) × (self.new.talk.more ≡ false)
+    /// Does for the thread of this connection, which sleeps, what that would do once it was told: takes what is there,
+    /// as much as may wait, and writes once. Whether nothing is left for that thread to do. (Where a subscription has
+    /// lagged, what is open ends here.) At another connection's desk it does nothing: whoever has something for that one
+    /// rings its bell, which the caller doesn't know.
+    pub(crate) fn stand_in(&mut self, connection: u64) -> bool
+        ensures done { result ≡ true → (self.new.talk.wire ≡ []) × (self.new.talk.more ≡ false)
             × (is_some self.new.talk.exit ≡ false) }
+        ensures other { (self.old.calls.peer.number == connection) ≡ false
+            → (result ≡ false) × (self.new ≡ self.old) }
     {
+        if !self.calls.is_of(connection) {
+            return false;
+        }
         self.deliver();
         self.write().is_ok()
             && self.talk.wire().is_empty()

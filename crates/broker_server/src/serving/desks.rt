@@ -4,6 +4,7 @@ ghost use Rattle.std.specs.Prelude.{◌≡◌, ◌≤◌, false, length, vec_len
 
 use crate::serving::desk::Desk;
 use crate::serving::hub::MAX_CONNECTIONS;
+use crate::serving::seat::Seat;
 use broker_locks::Side;
 use crossbeam_queue::ArrayQueue;
 use log::Log;
@@ -53,18 +54,19 @@ impl<'a, R: Wait + Log + Clock, W: Side, T: Side> Desks<'a, R, W, T> {
         self.desks.get(number)
     }
 
-    /// Stands in at the desk of this number, unless somebody works there. Whether nothing is left for its thread to do.
-    pub(crate) fn stand_in(&self, number: usize) -> bool
-        ensures { length self.now.desks.items ≤ number → result ≡ false }
+    /// Stands in at the desk of this seat's connection, unless somebody works there, or that connection has left it:
+    /// another one may be there by then. Whether nothing is left for its thread to do.
+    pub(crate) fn stand_in(&self, seat: &Seat) -> bool
+        ensures { length self.now.desks.items ≤ seat.now.desk → result ≡ false }
     {
-        let Some(guarded) = self.desks.get(number) else {
+        let Some(guarded) = self.desks.get(seat.desk()) else {
             return false;
         };
         let Some(mut guard) = guarded.try_lock() else {
             return false;
         };
         match &mut *guard {
-            Some(desk) => desk.stand_in(),
+            Some(desk) => desk.stand_in(seat.connection()),
             None => false,
         }
     }

@@ -45,7 +45,14 @@ impl Seat {
         self.connection == other.connection && self.number == other.number
     }
 
-    /// The number of its connection's desk.
+    /// The number of its connection, which no other has.
+    pub(crate) fn connection(&self) -> u64
+        ensures { result ≡ self.now.connection }
+    {
+        self.connection
+    }
+
+    /// The number of its connection's desk, which another has once that connection has left.
     pub(crate) fn desk(&self) -> usize
         ensures { result ≡ self.now.desk }
     {
