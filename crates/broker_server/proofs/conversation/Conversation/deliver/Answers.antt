@@ -22,6 +22,7 @@ returns-in-Emptied g c =
       names = held.names;
       gate = held.gate;
       subs = subs;
+      held = held.held;
       wire = new.wire;
       exit = held.exit;
       cut = held.cut;
@@ -35,7 +36,7 @@ returns-in-Emptied g c =
     let changed : left ≡ record after { more = false } =
     ap with (with_items_is held.subs new.queues (search (rules, places)))
     ∙ ap (λ (s : ConversationState). record s { subs = new.queues; wire = new.wire; next = next; more = false }) c.self.view_is in
-    let drains = drains_whole held.capacity old.capacity held.next old.next did.0 c.as_mut_slice-queues.result.now old.subs held.wire old.wire end new.queues new.wire next
+    let drains = drains_whole (is_some held.held) held.capacity old.capacity held.next old.next did.0 c.as_mut_slice-queues.result.now old.subs held.wire old.wire end new.queues new.wire next
     (ap (λ (s : ConversationState). s.capacity) c.self.view_is) (ap (λ (s : ConversationState). s.next) c.self.view_is) (c.as_mut_slice-queues.ensures.value ∙ ap (λ (s : ConversationState). s.subs) c.self.view_is) (ap (λ (s : ConversationState). s.wire) c.self.view_is) did.2 in
     let any = c.drain_queues-next.result.0.any in
     let settles = subst (λ (t : Taking). Settles t (has_item did.0) after [] any left) (sym c.in-Emptied.is) (refl, did.3, changed) in
@@ -54,6 +55,7 @@ returns-in-Stopped g c =
       names = held.names;
       gate = held.gate;
       subs = subs;
+      held = held.held;
       wire = new.wire;
       exit = held.exit;
       cut = held.cut;
@@ -67,7 +69,7 @@ returns-in-Stopped g c =
     let changed : left ≡ record after { more = true } =
     ap with (with_items_is held.subs new.queues (search (rules, places)))
     ∙ ap (λ (s : ConversationState). record s { subs = new.queues; wire = new.wire; next = next; more = true }) c.self.view_is in
-    let drains = drains_whole held.capacity old.capacity held.next old.next did.0 c.as_mut_slice-queues.result.now old.subs held.wire old.wire end new.queues new.wire next
+    let drains = drains_whole (is_some held.held) held.capacity old.capacity held.next old.next did.0 c.as_mut_slice-queues.result.now old.subs held.wire old.wire end new.queues new.wire next
     (ap (λ (s : ConversationState). s.capacity) c.self.view_is) (ap (λ (s : ConversationState). s.next) c.self.view_is) (c.as_mut_slice-queues.ensures.value ∙ ap (λ (s : ConversationState). s.subs) c.self.view_is) (ap (λ (s : ConversationState). s.wire) c.self.view_is) did.2 in
     let any = c.drain_queues-next.result.0.any in
     let settles = subst (λ (t : Taking). Settles t (has_item did.0) after [] any left) (sym c.in-Stopped.is) (refl, did.3, changed) in
@@ -87,6 +89,7 @@ returns-in-Failed g c =
       names = held.names;
       gate = held.gate;
       subs = subs;
+      held = held.held;
       wire = new.wire;
       exit = held.exit;
       cut = held.cut;
@@ -100,7 +103,7 @@ returns-in-Failed g c =
     let changed : left ≡ record after { more = false } =
     ap with (with_items_is held.subs new.queues (search (rules, places)))
     ∙ ap (λ (s : ConversationState). record s { subs = new.queues; wire = new.wire; next = next; more = false }) c.self.view_is in
-    let drains = drains_whole held.capacity old.capacity held.next old.next did.0 c.as_mut_slice-queues.result.now old.subs held.wire old.wire end new.queues new.wire next
+    let drains = drains_whole (is_some held.held) held.capacity old.capacity held.next old.next did.0 c.as_mut_slice-queues.result.now old.subs held.wire old.wire end new.queues new.wire next
     (ap (λ (s : ConversationState). s.capacity) c.self.view_is) (ap (λ (s : ConversationState). s.next) c.self.view_is) (c.as_mut_slice-queues.ensures.value ∙ ap (λ (s : ConversationState). s.subs) c.self.view_is) (ap (λ (s : ConversationState). s.wire) c.self.view_is) did.2 in
     let why = c.in-Failed.fault in
     let last = c.fail.new in
