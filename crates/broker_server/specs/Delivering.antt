@@ -48,8 +48,8 @@ abbrev pub IsLag : ConversationFault → Type 0
 IsLag (fault.Lagged topic items) = Unit {0}
 IsLag _ = ⊥
 
--- What a queue that has lagged comes to, now that all that it had accepted was taken: the lag is told, but not
--- while a transaction waits for room.
+-- What a queue that has lagged comes to, now that all that it had accepted was taken: the lag is told, but
+-- not while a transaction waits for room.
 abbrev pub TellsLag : Bool → Taking → Type 0
 TellsLag true end = end ≡ Emptied
 TellsLag false end = (why : ConversationFault) × IsLag why × (end ≡ Failed why)
@@ -62,7 +62,7 @@ EndsEmpty waits capacity o end new =
     ⊎ ((o.lagged ≡ false) × (0 < o.until_lag) × (end ≡ Emptied) × (new ≡ after_empty capacity o))
 
 -- What is taken of one queue by these calls, in order, after so many others of this round: the queue and what
--- waits before and after it, and how it ended. It stops where 65,536 octets wait, and fails where there is no
+-- waits before and after it, and how it ended; `waits` is whether a transaction does. It stops where 65,536 octets wait, and fails where there is no
 -- memory for an item's MESSAGEs. A queue that is found empty after as many items as it holds may have lagged:
 -- the broker is asked, and where it says so, the queue is taken on, until it is empty again. It needn't be
 -- asked before: one that lags is full then, so that as many items are taken before it is found empty. So
@@ -96,7 +96,8 @@ IfEmptied _ goes_on stops = stops
 -- These queues are taken, one after the other, up to the first that isn't emptied, and so many are left
 -- behind that one; where there are none, nothing is left of them.
 abbrev pub DrainsAll
-    : Bool → ℕ → List BrokerRow → List OpenSubState → List ℕ → Taking → List OpenSubState → List ℕ → ℕ → Type 0
+    : Bool → ℕ → List BrokerRow → List OpenSubState → List ℕ → Taking → List OpenSubState → List ℕ → ℕ
+    → Type 0
 DrainsAll waits capacity asked [] wire end new after left =
     (asked ≡ []) × (end ≡ Emptied) × (new ≡ []) × (after ≡ wire) × (left ≡ 0)
 DrainsAll waits capacity asked (o ∷ os) wire end new after left =
@@ -124,7 +125,8 @@ begins_at next count = if nat_lt next count then next else 0
 -- three queues of which the second is next, they are taken as second, third and first; and where the second
 -- isn't emptied, the third is next later, so that none waits for another for ever.
 abbrev pub DrainsQueues
-    : Bool → ℕ → ℕ → List BrokerRow → List OpenSubState → List ℕ → Taking → List OpenSubState → List ℕ → ℕ → Type 0
+    : Bool → ℕ → ℕ → List BrokerRow → List OpenSubState → List ℕ → Taking → List OpenSubState → List ℕ → ℕ
+    → Type 0
 DrainsQueues waits capacity next asked queues wire end new after later =
     (front back : List OpenSubState) × (queues ≡ front ++ back)
     × (length front ≡ begins_at next (length queues))

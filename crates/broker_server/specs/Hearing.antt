@@ -96,8 +96,9 @@ abbrev pub ReadingFails : FrameFault → Unread → Unread → Type 0
 ReadingFails FrameFault.NoMemory old left = (left ≡ old) × (is_any old.text ≡ true)
 ReadingFails why old left = NextReturns old (Err why) left
 
--- Nothing more is taken: the connection leaves, or a transaction waits; or no frame of the stream is whole, so
--- that a half of a SEND waits for its other half; or what follows is none, and the connection leaves by that.
+-- Nothing more is taken: the connection leaves, or a transaction waits; or no frame of the stream is whole,
+-- so that a half of a SEND waits for its other half; or what follows is none, and the connection leaves by
+-- that.
 abbrev pub Rests : ConversationState → List BrokerRow → ConversationState → Type 0
 Rests old asked new =
     ((IsSome old.exit ⊎ IsSome old.held) × (asked ≡ []) × (new ≡ old))
@@ -129,4 +130,5 @@ abbrev pub GoesOn : ConversationState → List BrokerRow → ConversationState �
 GoesOn old asked new =
     ((old.held ≡ None) × (asked ≡ []) × (new ≡ old))
     ⊎ ((step : Step) × (old.held ≡ Some step) × (between : ConversationState) × (first rest : List BrokerRow)
-    × (asked ≡ first ++ rest) × Acts step (record old { held = None }) first between × TakesAll between rest new)
+    × (asked ≡ first ++ rest) × Acts step (record old { held = None }) first between
+    × TakesAll between rest new)

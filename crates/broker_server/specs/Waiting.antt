@@ -75,8 +75,8 @@ HearsEach (piece ∷ more) old asked new =
 abbrev pub untaken : OpenSubState → OpenSubState
 untaken o = record o { until_lag = 0; lagged = false }
 
--- a connection but for what is delivered and written: nothing waits to be written, and nothing was taken of its
--- queues
+-- a connection but for what is delivered and written: nothing waits to be written, and nothing was taken of
+-- its queues
 abbrev pub but_items : ConversationState → ConversationState
 but_items c = record c {
   subs = map untaken c.subs;
@@ -87,10 +87,11 @@ but_items c = record c {
 
 -- ---- laws
 
--- Whatever a connection goes through, another that hears the same pieces, one after the other, asks the same of
--- the broker for them, in the same order, but for room, and is then as that one, but for what is delivered. So
--- where a `SEND` waits, and an UNSUBSCRIBE came behind it, the flight is committed first and once, however often
--- it went on and was delivered to; and where the `SEND` waits still, nothing was asked for the UNSUBSCRIBE.
+-- Whatever a connection goes through, another that hears the same pieces, one after the other, asks the same
+-- of the broker for them, in the same order, but for room, and is then as that one, but for what is delivered.
+-- So where a `SEND` waits, and an UNSUBSCRIBE came behind it, the flight is committed first, and once, however
+-- often it went on and was delivered to; and where the `SEND` waits still, nothing was asked for the
+-- UNSUBSCRIBE.
 abbrev pub WaitsInOrder : Type 0
 WaitsInOrder =
     (rounds : List Round) (old new : ConversationState) → old.held ≡ None → GoesThrough rounds old new
