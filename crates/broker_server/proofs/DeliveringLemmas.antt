@@ -116,6 +116,6 @@ drains_back waits capacity next queues front back cut begins asked wire end chan
     (front, back, cut, begins, asked, [], sym (append-nil asked), end, changed, front, after, left, zero, did, refl, if_stopped end _ _ never (refl, refl, refl, refl, goes))
 
 -- what is said of the queues as they were lent, said of the connection's own
-pub drains_whole : (waits : Bool) (held capacity first next : ℕ) (asked : List BrokerRow) (lent queues : List OpenSubState) (before wire : List ℕ) (end : Taking) (new : List OpenSubState) (after : List ℕ) (later : ℕ) → held ≡ capacity → first ≡ next → lent ≡ queues → before ≡ wire → DrainsQueues waits held first asked lent before end new after later → DrainsQueues waits capacity next asked queues wire end new after later
-drains_whole waits held capacity first next asked lent queues before wire end new after later c t q w drains =
-    subst (λ (n : ℕ). DrainsQueues waits n next asked queues wire end new after later) c (subst (λ (n : ℕ). DrainsQueues waits held n asked queues wire end new after later) t (subst (λ (os : List OpenSubState). DrainsQueues waits held first asked os wire end new after later) q (subst (λ (s : List ℕ). DrainsQueues waits held first asked lent s end new after later) w drains)))
+pub drains_whole : (still waits : Bool) (held capacity first next : ℕ) (asked : List BrokerRow) (lent queues : List OpenSubState) (before wire : List ℕ) (end : Taking) (new : List OpenSubState) (after : List ℕ) (later : ℕ) → still ≡ waits → held ≡ capacity → first ≡ next → lent ≡ queues → before ≡ wire → DrainsQueues still held first asked lent before end new after later → DrainsQueues waits capacity next asked queues wire end new after later
+drains_whole still waits held capacity first next asked lent queues before wire end new after later h c t q w drains =
+    subst (λ (b : Bool). DrainsQueues b capacity next asked queues wire end new after later) h (subst (λ (n : ℕ). DrainsQueues still n next asked queues wire end new after later) c (subst (λ (n : ℕ). DrainsQueues still held n asked queues wire end new after later) t (subst (λ (os : List OpenSubState). DrainsQueues still held first asked os wire end new after later) q (subst (λ (s : List ℕ). DrainsQueues still held first asked lent s end new after later) w drains))))

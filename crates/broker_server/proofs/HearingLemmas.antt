@@ -1,5 +1,5 @@
 -- What stays, and what shrinks, where a connection takes frames.
-use Rattle.std.proofs.Common.{◌≡◌, ◌≢◌, inl, inr, IfSome, true, ℕ, ◌<◌, List, [], ◌∷◌, ◌++◌, length, Option, Some, None, Result, Ok, Err, refl, sym, ap, subst, ◌∙◌, append_assoc}
+use Rattle.std.proofs.Common.{◌≡◌, ◌≢◌, inl, inr, IfSome, true, ℕ, ◌<◌, List, [], ◌∷◌, ◌++◌, length, Option, Some, None, Result, Ok, Err, refl, sym, ap, subst, ◌∙◌}
 use Rattle.std.specs.Prelude.{MatchOption}
 use Rattle.stomp_frame.specs.declared.case_fault.CaseFault.{CaseFault}
 use Rattle.stomp_frame.specs.declared.fault.Check.{Check}
@@ -82,15 +82,6 @@ pub one_shorter : (f : RawFrame) (old : ConversationState) (asked : List BrokerR
 one_shorter f old asked new (listens, left, reads, between, first, rest, cut, takes, (none, e)) =
     let same : new.reader ≡ left = ap (λ (s : ConversationState). s.reader) e ∙ takes_reader f (record old { reader = left }) first between takes in
     subst (λ (u : Unread). length u.text < length old.reader.text) (sym same) (shorter_by old.reader left f old.reader.answered reads)
-
--- ---- frames, one after the other
-
--- these frames, and then those
-pub takes_on : (frames more : List RawFrame) (old : ConversationState) (asked : List BrokerRow) (mid : ConversationState) (later : List BrokerRow) (new : ConversationState) → TakesFrames frames old asked mid → TakesFrames more mid later new → TakesFrames (frames ++ more) old (asked ++ later) new
-takes_on [] more old asked mid later new (none, e) next =
-    subst (λ (rows : List BrokerRow). TakesFrames more old (rows ++ later) new) (sym none) (subst (λ (s : ConversationState). TakesFrames more s later new) e next)
-takes_on (f ∷ frames) more old asked mid later new (listens, left, reads, between, first, rest, cut, takes, then) next =
-    (listens, left, reads, between, first, rest ++ later, ap (λ (rows : List BrokerRow). rows ++ later) cut ∙ append_assoc first rest later, takes, takes_on frames more between rest mid later new then next)
 
 -- ---- what is said of a frame, said of the same one as it came
 

@@ -32,7 +32,7 @@ nothing_is_read s step open_yet = rw open_yet refl
 pub waits_on : (s : ConversationState) (sends : List SentMessage) → GoesOn (record s { held = Some (sending sends) }) (AsksRoom (topics_of sends) false ∷ []) (record s { held = Some (sending sends) })
 waits_on s sends =
     let waits = record s { held = Some (sending sends) } in
-    let taken : TakesAll waits [] waits = ([], waits, [], [], refl, (refl, refl), inl (inr tt, refl, refl)) in
+    let taken : TakesAll waits [] waits = ([], waits, [], [], refl, (refl, refl), inl (inr refl, refl, refl)) in
     inr (sending sends, refl, waits, AsksRoom (topics_of sends) false ∷ [], [], refl, inr (sends, refl, refl, refl), taken)
 
 -- where there is some, its flight is committed, and the gate comes back; here nothing came behind it

@@ -1,5 +1,5 @@
 -- A connection whose transactions wait for room does what one does whose transactions find it at once.
-use Rattle.std.proofs.Common.{◌≡◌, ◌⊎◌, inl, inr, ℕ, ◌+◌, Bool, true, false, not, filter, List, [], ◌∷◌, ◌++◌, map, Option, Some, None, IsSome, Result, Ok, Err, refl, sym, ap, ap₂, subst, ◌∙◌, append_assoc, append-nil}
+use Rattle.std.proofs.Common.{◌≡◌, ◌⊎◌, inl, inr, ℕ, ◌+◌, Bool, true, false, not, filter, List, [], ◌∷◌, ◌++◌, map, Option, Some, None, IsSome, Result, Ok, Err, if◌then◌else◌, refl, sym, ap, ap₂, subst, ◌∙◌, append_assoc, append-nil}
 use Rattle.std.proofs.lemmas.List.{map-append}
 use Rattle.std.proofs.lemmas.List.Folds.{list_any-append}
 use Rattle.std.specs.List.{list_any}
@@ -20,12 +20,13 @@ use Rattle.broker_server.specs.declared.conversation.drained.Taking.{Taking}
 use Rattle.broker_server.specs.declared.conversation.drained.Taking.TheVariants.{Emptied, Stopped, Failed}
 use Rattle.sender_gate.specs.Gate.{GateState}
 use Rattle.broker_server.specs.BrokerRows.{AsksLag, BrokerRow, Takes, Unsubscribes}
+use Rattle.broker_server.specs.ConversationFaults.{fault_of_reader}
 use Rattle.broker_server.specs.Conversations.{Acts, Answers, CommitsBy, Concludes, ConversationState, Does, Done, EndsByError, OpenSubState, Performs, closing_rows, gate_rows}
 use Rattle.broker_server.specs.Delivering.{DeliversRound, Drains, DrainsAll, DrainsQueues, IfEmptied, Settles}
 use Rattle.broker_server.specs.Hearing.{Hears, JudgesFrame, Looks, RefusesFrame, TakesAll, TakesFrame, TakesFrames}
 use Rattle.broker_server.specs.Waiting.{FindsRoomAtOnce, GoesThrough, HearsEach, Round, WaitsInOrder, asked_for_frames, asks_room, but_items, but_room, finds_none, pieces, untaken}
 use Rattle.broker_server.specs.Waiting.{Heard, WentOn, Delivered, Wrote}
-use Rattle.broker_server.proofs.HearingLemmas.{takes_on}
+use Rattle.broker_server.proofs.TakingLemmas.{takes_on}
 use Rattle.broker_server.proofs.LikeLemmas.{Like, SoOfLike, acts_like, all_like, hears_like}
 
 -- ---- what is delivered changes nothing else
@@ -108,7 +109,7 @@ does_free step old asked new does free =
 
 -- ---- where a transaction waits, and what is done of it later
 
--- Once this was asked, by calls that are `Takes`, a step waits: whatever is done of it from then on is done behind those.
+-- Once this was asked, by calls that are `Takes`, a step waits: whatever is done of it from follow on is done behind those.
 pub record Waits (Takes : List BrokerRow → ConversationState → Type 0) (asked : List BrokerRow) (step : Step) (new : ConversationState) : Type 0 where
   pub ready : ConversationState
   pub before : List BrokerRow
@@ -169,8 +170,8 @@ frames_waits (f ∷ []) start asked new step (listens, left, reads, between, fir
       cut = cut ∙ ap (λ (rows : List BrokerRow). first ++ rows) none ∙ append-nil first ∙ w.cut;
       later = λ rows last acts. (f ∷ [], (listens, left, reads, last, w.before ++ rows, [], sym (append-nil (w.before ++ rows)), w.later rows last acts, (refl, refl)));
     }
-frames_waits (f ∷ g ∷ frames) start asked new step (listens, left, reads, between, first, rest, cut, takes, then) free waits =
-    let w = frames_waits (g ∷ frames) between rest new step then then.0.1 waits in
+frames_waits (f ∷ g ∷ frames) start asked new step (listens, left, reads, between, first, rest, cut, takes, follow) free waits =
+    let w = frames_waits (g ∷ frames) between rest new step follow follow.0.1 waits in
     record {
       ready = w.ready;
       before = first ++ w.before;
@@ -200,12 +201,12 @@ all_waits start asked new step (frames, between, first, rest, cut, takes, inl (s
 all_waits start asked new step (frames, between, first, rest, cut, takes, inr (inl (listens, left, reads, none, is))) free waits =
     absurd (none_some new.held step (ap (λ (s : ConversationState). s.held) is ∙ listens.1) waits)
 all_waits start asked new step (frames, between, first, rest, cut, takes, inr (inr (listens, why, left, reads, called, ends))) free waits =
-    absurd (none_some new.held step (ends_free _ None _ new ends) waits)
+    absurd (none_some new.held step (ends_free (fault_of_reader why) None (record between { reader = left }) new ends) waits)
 
--- frames are taken, and then all that follow
+-- frames are taken, and follow all that follow
 all_on : (start : ConversationState) (asked : List BrokerRow) (mid : ConversationState) (more : List BrokerRow) (last : ConversationState) → TakesSome start asked mid → TakesAll mid more last → TakesAll start (asked ++ more) last
-all_on start asked mid more last (frames, takes) (others, between, first, rest, cut, then, rests) =
-    (frames ++ others, between, asked ++ first, rest, ap (λ (rows : List BrokerRow). asked ++ rows) cut ∙ sym (append_assoc asked first rest), takes_on frames others start asked mid first between takes then, rests)
+all_on start asked mid more last (frames, takes) (others, between, first, rest, cut, follow, rests) =
+    (frames ++ others, between, asked ++ first, rest, ap (λ (rows : List BrokerRow). asked ++ rows) cut ∙ sym (append_assoc asked first rest), takes_on frames others start asked mid first between takes follow, rests)
 
 -- where a transaction waits, nothing is taken
 still_all : (mid : ConversationState) (asked : List BrokerRow) (new : ConversationState) (step : Step) → TakesAll mid asked new → mid.held ≡ Some step → (asked ≡ []) × (new ≡ mid)
@@ -220,13 +221,13 @@ still_all mid asked new step (f ∷ frames, between, first, rest, cut, takes, re
 
 -- ---- calls but for room
 
+room_row : (b : Bool) (row : BrokerRow) (all rows more : List BrokerRow) → all ≡ rows ++ more → (if b then row ∷ all else all) ≡ (if b then row ∷ rows else rows) ++ more
+room_row true row all rows more e = ap (λ (xs : List BrokerRow). row ∷ xs) e
+room_row false row all rows more e = e
+
 room_on : (rows more : List BrokerRow) → but_room (rows ++ more) ≡ but_room rows ++ but_room more
 room_on [] more = refl
-room_on (row ∷ rows) more = by (not (asks_room row))
-  where
-    by : (b : Bool) → (if b then row ∷ but_room (rows ++ more) else but_room (rows ++ more)) ≡ (if b then row ∷ but_room rows else but_room rows) ++ but_room more
-    by true = ap (λ (all : List BrokerRow). row ∷ all) (room_on rows more)
-    by false = room_on rows more
+room_on (row ∷ rows) more = room_row (not (asks_room row)) row (but_room (rows ++ more)) (but_room rows) (but_room more) (room_on rows more)
 
 -- the calls before stay, and those behind are the same but for room
 room_behind : (before rows more : List BrokerRow) → but_room rows ≡ but_room more → but_room (before ++ rows) ≡ but_room (before ++ more)
@@ -266,7 +267,7 @@ IfWaiting rounds =
     (one new ready : ConversationState) (step : Step) (room : List BrokerRow) → Like one (record ready { held = Some step }) → ready.held ≡ None
     → Acts step ready room (record ready { held = Some step }) → but_room room ≡ [] → GoesThrough rounds one new → BesideWaiting rounds step ready new
 
--- all is taken, and then come these rounds
+-- all is taken, and follow come these rounds
 after_all : (rounds : List Round) → IfFree rounds → IfWaiting rounds → (start : ConversationState) (asked : List BrokerRow) (mid : ConversationState) → TakesAll start asked mid → start.held ≡ None → (one new : ConversationState) → Like one mid → GoesThrough rounds one new → (o : Option Step) → mid.held ≡ o → BesideTaking rounds start asked new
 after_all rounds free wait start asked mid takes none one new like goes None is =
     let b = free one new mid like is goes in
@@ -328,7 +329,7 @@ went_waiting asked rounds free wait one new ready step room like none held unsee
     let same = some_same taken step (sym is ∙ ap (λ (s : ConversationState). s.held) like) in
     let before = ap (λ (s : ConversationState). record s { held = None }) like ∙ ap (λ (h : Option Step). record (but_items ready) { held = h }) (sym none) in
     went_done asked rounds free wait one new ready step before none between mid first rest cut (subst (λ (q : Step). Does q (record one { held = None }) first mid) same does) takes goes
-went_waiting asked rounds free wait one new ready step room like none held unseen (between, inr (taken, is, mid, first, rest, cut, inr (sends, com, called, holds), takes), goes) =
+went_waiting asked rounds free wait one new ready step room like none held unseen (between, inr (taken, is, mid, first, rest, cut, inr (sends, sent, called, holds), takes), goes) =
     let same = some_same taken step (sym is ∙ ap (λ (s : ConversationState). s.held) like) in
     let still = still_all mid rest between taken takes (ap (λ (s : ConversationState). s.held) holds) in
     let now = ap but_items still.1 ∙ ap but_items holds ∙ ap (λ (s : ConversationState). record s { held = Some taken }) like ∙ ap (λ (q : Step). record (but_items ready) { held = Some q }) same in
@@ -339,7 +340,7 @@ went_waiting asked rounds free wait one new ready step room like none held unsee
 nothing_waits : (one new ready : ConversationState) (step : Step) (room : List BrokerRow) → Like one (record ready { held = Some step }) → Acts step ready room (record ready { held = Some step }) → but_room room ≡ [] → new ≡ one → BesideWaiting [] step ready new
 nothing_waits one new ready step room like held unseen is =
     let waits = record ready { held = Some step } in
-    (room, [], [], waits, waits, waits, held, ([], waits, [], [], refl, (refl, refl), inl (inr tt, refl, refl)), (refl, refl), ap but_room (append-nil room) ∙ unseen, sym like ∙ sym (ap but_items is))
+    (room, [], [], waits, waits, waits, held, ([], waits, [], [], refl, (refl, refl), inl (inr refl, refl, refl)), (refl, refl), ap but_room (append-nil room) ∙ unseen, sym like ∙ sym (ap but_items is))
 
 pub beside : (rounds : List Round) → IfFree rounds × IfWaiting rounds
 beside [] = (
@@ -437,8 +438,8 @@ frames_found : (frames : List RawFrame) (old : ConversationState) (asked : List 
 frames_found [] old asked new (none, is) free = ap (list_any finds_none) none
 frames_found (f ∷ []) old asked new (listens, left, reads, between, first, rest, cut, takes, (none, is)) free =
     found_cut asked first rest cut (judged_found f (case_fault f) (record old { reader = left }) first between takes (sym (ap (λ (s : ConversationState). s.held) is) ∙ free)) (ap (list_any finds_none) none)
-frames_found (f ∷ g ∷ frames) old asked new (listens, left, reads, between, first, rest, cut, takes, then) free =
-    found_cut asked first rest cut (judged_found f (case_fault f) (record old { reader = left }) first between takes then.0.1) (frames_found (g ∷ frames) between rest new then free)
+frames_found (f ∷ g ∷ frames) old asked new (listens, left, reads, between, first, rest, cut, takes, follow) free =
+    found_cut asked first rest cut (judged_found f (case_fault f) (record old { reader = left }) first between takes follow.0.1) (frames_found (g ∷ frames) between rest new follow free)
 
 all_found : (old : ConversationState) (asked : List BrokerRow) (new : ConversationState) → TakesAll old asked new → new.held ≡ None → Found asked
 all_found old asked new (frames, between, first, rest, cut, takes, inl (still, none, is)) free =
@@ -457,5 +458,5 @@ pub finds_room_at_once : FindsRoomAtOnce
 finds_room_at_once [] old new asked (none, is) free = ap (list_any finds_none) none
 finds_room_at_once (piece ∷ []) old new asked (unheld, first, rest, cut, between, hears, (none, is)) free =
     found_cut asked first rest cut (hears_found piece old first between hears (sym (ap (λ (s : ConversationState). s.held) is) ∙ free)) (ap (list_any finds_none) none)
-finds_room_at_once (piece ∷ next ∷ more) old new asked (unheld, first, rest, cut, between, hears, then) free =
-    found_cut asked first rest cut (hears_found piece old first between hears then.0) (finds_room_at_once (next ∷ more) between new rest then free)
+finds_room_at_once (piece ∷ next ∷ more) old new asked (unheld, first, rest, cut, between, hears, follow) free =
+    found_cut asked first rest cut (hears_found piece old first between hears follow.0) (finds_room_at_once (next ∷ more) between new rest follow free)

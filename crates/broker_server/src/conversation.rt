@@ -377,11 +377,18 @@ impl<C: BrokerCalls> Conversation<C> {
                 let done = self.commit(calls, txn, room);
                 self.conclude(calls, done, false, &receipt);
             }
-            None => {
-                let action = Action::Commit(txn);
-                self.held = Some(Step { action, receipt });
-            }
+            None => self.hold(Step {
+                action: Action::Commit(txn),
+                receipt,
+            }),
         }
+    }
+
+    /// Holds a step.
+    fn hold(&mut self, step: Step)
+        ensures { self.new ≡ record self.old { held = Some step } }
+    {
+        self.held = Some(step);
     }
 
     /// What follows an action: its answer, or the connection leaves by its fault.
@@ -704,7 +711,7 @@ fn drain_queue<C: BrokerCalls>(
                 }
             }
             None if queue.lagged => {
-                let end = end_of_lag(queue, waits);
+                let end = end_of_lag(queue.topic, queue.run, waits);
                 return Drained { any, end };
             }
             None if queue.until_lag == 0 && calls.has_lagged(&queue.sub) => {
@@ -722,17 +729,15 @@ fn drain_queue<C: BrokerCalls>(
     Drained { any, end }
 }
 
-/// What a queue comes to that has lagged, once it is empty: a fault, or, while a transaction waits for room, nothing yet.
-fn end_of_lag<C: BrokerCalls>(queue: &OpenSub<C>, waits: bool) -> Taking
+/// What a queue at this topic comes to that has lagged, once it is empty and so many items were taken: a fault, but while a
+/// transaction waits for room nothing yet.
+fn end_of_lag(topic: Topic, items: u64, waits: bool) -> Taking
     ensures { TellsLag waits result }
 {
     if waits {
         return Taking::Emptied;
     }
-    Taking::Failed(ConversationFault::Lagged {
-        topic: queue.topic,
-        items: queue.run,
-    })
+    Taking::Failed(ConversationFault::Lagged { topic, items })
 }
 
 /// Ends these subscriptions, in order.
