@@ -109,7 +109,7 @@ does_free step old asked new does free =
 
 -- ---- where a transaction waits, and what is done of it later
 
--- Once this was asked, by calls that are `Takes`, a step waits: whatever is done of it from follow on is done behind those.
+-- Once this was asked, by calls that are `Takes`, a step waits: whatever is done of it from then on is done behind those.
 pub record Waits (Takes : List BrokerRow → ConversationState → Type 0) (asked : List BrokerRow) (step : Step) (new : ConversationState) : Type 0 where
   pub ready : ConversationState
   pub before : List BrokerRow
@@ -203,7 +203,7 @@ all_waits start asked new step (frames, between, first, rest, cut, takes, inr (i
 all_waits start asked new step (frames, between, first, rest, cut, takes, inr (inr (listens, why, left, reads, called, ends))) free waits =
     absurd (none_some new.held step (ends_free (fault_of_reader why) None (record between { reader = left }) new ends) waits)
 
--- frames are taken, and follow all that follow
+-- frames are taken, and then all that follow
 all_on : (start : ConversationState) (asked : List BrokerRow) (mid : ConversationState) (more : List BrokerRow) (last : ConversationState) → TakesSome start asked mid → TakesAll mid more last → TakesAll start (asked ++ more) last
 all_on start asked mid more last (frames, takes) (others, between, first, rest, cut, follow, rests) =
     (frames ++ others, between, asked ++ first, rest, ap (λ (rows : List BrokerRow). asked ++ rows) cut ∙ sym (append_assoc asked first rest), takes_on frames others start asked mid first between takes follow, rests)
@@ -267,7 +267,7 @@ IfWaiting rounds =
     (one new ready : ConversationState) (step : Step) (room : List BrokerRow) → Like one (record ready { held = Some step }) → ready.held ≡ None
     → Acts step ready room (record ready { held = Some step }) → but_room room ≡ [] → GoesThrough rounds one new → BesideWaiting rounds step ready new
 
--- all is taken, and follow come these rounds
+-- all is taken, and then come these rounds
 after_all : (rounds : List Round) → IfFree rounds → IfWaiting rounds → (start : ConversationState) (asked : List BrokerRow) (mid : ConversationState) → TakesAll start asked mid → start.held ≡ None → (one new : ConversationState) → Like one mid → GoesThrough rounds one new → (o : Option Step) → mid.held ≡ o → BesideTaking rounds start asked new
 after_all rounds free wait start asked mid takes none one new like goes None is =
     let b = free one new mid like is goes in

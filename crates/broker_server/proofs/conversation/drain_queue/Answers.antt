@@ -44,8 +44,8 @@ returns-in-None g c =
     let new : SubName → OpenSubState = λ sub. record { id = held.id; sub = sub; until_lag = held.until_lag; lagged = held.lagged } in (
       so_far.0 ++ row ∷ [],
       asks_on called c.args.calls.now c.loop-call.calls c.take.new.self so_far.0 (row ∷ []) so_far.1 (asks_one called c.loop-call.calls c.take.new.self row c.in-None.ensures.taken),
-      so_far.2 (row ∷ []) c.end_of_lag.result (new (name c.take.new.sub)) c.loop-call.wire
-          (room_of (length c.loop-call.wire) c.if-not-may_take.ensures.0, refl, inl (c.if-queue.true, c.end_of_lag.ensures, ap new c.in-None.ensures.same), refl),
+      so_far.2 (row ∷ []) c.end_of_lag-end.result (new (name c.take.new.sub)) c.loop-call.wire
+          (room_of (length c.loop-call.wire) c.if-not-may_take.ensures.0, refl, inl (c.if-queue.true, c.end_of_lag-end.ensures, ap new c.in-None.ensures.same), refl),
       no_item so_far.0 (row ∷ []) c.loop-call.any refl so_far.3,
     )
 
