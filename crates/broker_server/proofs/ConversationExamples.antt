@@ -30,8 +30,8 @@ pub a_third_name : Grows (codes "A" ∷ codes "B" ∷ []) (codes "A" ∷ codes "
 a_third_name = (codes "C" ∷ [], refl)
 
 -- UNSUBSCRIBE b ends the second of two
-pub second_ends : (s : ConversationState) → s.subs ≡ a ∷ b ∷ [] → EndsSub (codes "b") s (Unsubscribes (named 1) ∷ []) (Ok tt) (record s { subs = a ∷ []; next = next_without 1 s.next })
-second_ends s two = (refl, inl (a ∷ [], [], b, two, refl, refl, refl, refl))
+pub second_ends : (s : ConversationState) → s.subs ≡ a ∷ b ∷ [] → EndsSub (codes "b") s (Unsubscribes (named 1) ∷ []) (record s { subs = a ∷ []; next = next_without 1 s.next })
+second_ends s two = inl (a ∷ [], [], b, two, refl, refl, refl, refl)
 
 -- what a connection with two subscriptions and a gate asks as it leaves
 pub leaves : (s : ConversationState) (gate : GateState) → s.subs ≡ a ∷ b ∷ [] → s.gate ≡ Some gate → closing_rows s ≡ Unsubscribes (named 0) ∷ Unsubscribes (named 1) ∷ GivesBack gate ∷ []
@@ -46,24 +46,24 @@ flight_leaves flight floor = (floor, refl)
 -- ---- queues
 
 -- nothing is left of a queue that is found empty, and it can't have lagged
-empty_queue : (n : ℕ) (id : List ℕ) → Drains 2 0 (Takes (named n) None ∷ []) (begun_sub id (named n) 2) [] Emptied (begun_sub id (named n) 2) []
+empty_queue : (n : ℕ) (id : List ℕ) → Drains false 2 0 (Takes (named n) None ∷ []) (begun_sub id (named n) 2) [] Emptied (begun_sub id (named n) 2) []
 empty_queue n id = (omega arith, refl, inr (refl, omega arith, refl, refl), refl)
 
 -- of three queues, from the second on, the first is the last that is looked at
-pub second_first : DrainsQueues 2 1 (Takes (named 1) None ∷ Takes (named 2) None ∷ Takes (named 0) None ∷ []) (a ∷ b ∷ c ∷ []) [] Emptied (a ∷ b ∷ c ∷ []) [] 1
+pub second_first : DrainsQueues false 2 1 (Takes (named 1) None ∷ Takes (named 2) None ∷ Takes (named 0) None ∷ []) (a ∷ b ∷ c ∷ []) [] Emptied (a ∷ b ∷ c ∷ []) [] 1
 second_first =
-    let last : DrainsAll 2 (Takes (named 2) None ∷ []) (c ∷ []) [] Emptied (c ∷ []) [] 0 =
+    let last : DrainsAll false 2 (Takes (named 2) None ∷ []) (c ∷ []) [] Emptied (c ∷ []) [] 0 =
     (Takes (named 2) None ∷ [], [], refl, Emptied, c, [], [], empty_queue 2 (codes "c"), refl, (refl, refl, refl, refl, refl)) in
-    let back : DrainsAll 2 (Takes (named 1) None ∷ Takes (named 2) None ∷ []) (b ∷ c ∷ []) [] Emptied (b ∷ c ∷ []) [] 0 =
+    let back : DrainsAll false 2 (Takes (named 1) None ∷ Takes (named 2) None ∷ []) (b ∷ c ∷ []) [] Emptied (b ∷ c ∷ []) [] 0 =
     (Takes (named 1) None ∷ [], Takes (named 2) None ∷ [], refl, Emptied, b, c ∷ [], [], empty_queue 1 (codes "b"), refl, last) in
-    let front : DrainsAll 2 (Takes (named 0) None ∷ []) (a ∷ []) [] Emptied (a ∷ []) [] 0 =
+    let front : DrainsAll false 2 (Takes (named 0) None ∷ []) (a ∷ []) [] Emptied (a ∷ []) [] 0 =
     (Takes (named 0) None ∷ [], [], refl, Emptied, a, [], [], empty_queue 0 (codes "a"), refl, (refl, refl, refl, refl, refl)) in
     (a ∷ [], b ∷ c ∷ [], refl, refl, Takes (named 1) None ∷ Takes (named 2) None ∷ [], Takes (named 0) None ∷ [], refl, Emptied, b ∷ c ∷ [], a ∷ [], [], 0, 0, back, refl, (front, refl))
 
 -- where the second of three isn't emptied, since 65,536 octets wait, the third is next
-pub third_next : (wire : List ℕ) → full_wire ≤ length wire → DrainsQueues 2 1 [] (a ∷ b ∷ c ∷ []) wire Stopped (a ∷ b ∷ c ∷ []) wire 2
+pub third_next : (wire : List ℕ) → full_wire ≤ length wire → DrainsQueues false 2 1 [] (a ∷ b ∷ c ∷ []) wire Stopped (a ∷ b ∷ c ∷ []) wire 2
 third_next wire full =
-    let back : DrainsAll 2 [] (b ∷ c ∷ []) wire Stopped (b ∷ c ∷ []) wire 1 =
+    let back : DrainsAll false 2 [] (b ∷ c ∷ []) wire Stopped (b ∷ c ∷ []) wire 1 =
     ([], [], refl, Stopped, b, c ∷ [], wire, (inl full, refl, refl, refl), refl, (refl, refl, refl, refl, refl)) in
     (a ∷ [], b ∷ c ∷ [], refl, refl, [], [], refl, Stopped, b ∷ c ∷ [], a ∷ [], wire, 1, 0, back, refl, (refl, refl, refl, refl, refl))
 
@@ -77,10 +77,10 @@ begins_anew = refl
 
 -- A queue of two that gave two items is found empty, and has lagged: it is taken until it is empty again, and then 74 is
 -- told.
-pub lag_is_told : (why : ConversationFault) → IsLag why → Drains 2 0 (Takes (named 0) None ∷ AsksLag (named 0) true ∷ Takes (named 0) None ∷ []) (record a { until_lag = 0 }) [] (Failed why) (record a { until_lag = 0; lagged = true }) []
+pub lag_is_told : (why : ConversationFault) → IsLag why → Drains false 2 0 (Takes (named 0) None ∷ AsksLag (named 0) true ∷ Takes (named 0) None ∷ []) (record a { until_lag = 0 }) [] (Failed why) (record a { until_lag = 0; lagged = true }) []
 lag_is_told why lag =
-    (omega arith, refl, refl, refl, refl, (omega arith, refl, inl (refl, why, lag, refl, refl), refl))
+    (omega arith, refl, refl, refl, refl, (omega arith, refl, inl (refl, (why, lag, refl), refl), refl))
 
 -- where 65,536 octets wait, nothing is taken
-pub wire_is_full : (wire : List ℕ) → full_wire ≤ length wire → Drains 2 0 [] a wire Stopped a wire
+pub wire_is_full : (wire : List ℕ) → full_wire ≤ length wire → Drains false 2 0 [] a wire Stopped a wire
 wire_is_full wire full = (inl full, refl, refl, refl)

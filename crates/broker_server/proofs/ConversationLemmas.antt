@@ -1,8 +1,11 @@
 -- Calls of the broker, one after the other.
-use Rattle.std.proofs.Common.{◌≡◌, ◌⊎◌, ◌<◌, ℕ, zero, suc, Bool, false, List, [], ◌∷◌, ◌++◌, take, Result, Ok, Err, OnOk, OnErr, refl, subst, inl, inr, arith}
+use Rattle.std.proofs.Common.{◌≡◌, ◌⊎◌, ◌<◌, ℕ, zero, suc, Bool, false, List, [], ◌∷◌, ◌++◌, take, Result, Ok, Err, OnOk, OnErr, refl, sym, subst, inl, inr, arith}
 use Rattle.std.specs.Prelude.{get_or}
 use Rattle.std.specs.List.{list_any}
+use Rattle.stomp_session.specs.declared.action.Action.{Action}
+use Rattle.stomp_session.specs.declared.action.Step.{Step}
 use Rattle.broker_server.specs.BrokerRows.{AsksInOrder, BrokerRow}
+use Rattle.broker_server.specs.Conversations.{Acts, Concludes, ConversationState, Done, Performs, is_connect_action, replies}
 
 -- these calls, and then those
 pub asks_on : {B : Type 0} (called : B → BrokerRow → B → Type 0) (a b c : B) (rows more : List BrokerRow) → AsksInOrder called a rows b → AsksInOrder called b more c → AsksInOrder called a (rows ++ more) c
@@ -12,6 +15,22 @@ asks_on called a b c (row ∷ rows) more (mid, one, some) rest = (mid, one, asks
 -- one call
 pub asks_one : {B : Type 0} (called : B → BrokerRow → B → Type 0) (a b : B) (row : BrokerRow) → called a row b → AsksInOrder called a (row ∷ []) b
 asks_one called a b row one = (b, one, refl)
+
+-- an action is performed, and then answered
+pub acts_by : {B : Type 0} (called : B → BrokerRow → B → Type 0) (a b c : B) (step : Step) (action : Action) (old between new : ConversationState) (first rest : List BrokerRow) (done : Done) → step.action ≡ action → AsksInOrder called a first b → AsksInOrder called b rest c → Performs action old first done between → Concludes done (replies (is_connect_action action) step.receipt) step.receipt between rest new → (asked : List BrokerRow) × AsksInOrder called a asked c × Acts step old asked new
+acts_by called a b c step action old between new first rest done is asks more performs concludes = (
+    first ++ rest,
+    asks_on called a b c first rest asks more,
+    inl (record {
+      first = first;
+      rest = rest;
+      between = between;
+      result = done;
+      performs = subst (λ (q : Action). Performs q old first done between) (sym is) performs;
+      concludes = subst (λ (q : Action). Concludes done (replies (is_connect_action q) step.receipt) step.receipt between rest new) (sym is) concludes;
+      all = refl;
+    }),
+  )
 
 -- what is so where a call went well, or what is so where it failed
 pub on_either : {T E : Type 0} (r : Result T E) (A B : Type 0) → OnOk r A → OnErr r B → A ⊎ B

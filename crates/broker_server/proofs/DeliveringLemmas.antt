@@ -11,19 +11,19 @@ use Rattle.broker_server.specs.Conversations.{OpenSubState}
 use Rattle.broker_server.specs.Delivering.{Drains, DrainsAll, DrainsQueues, IfEmptied, nearer_lag, begins_at, full_wire, has_item, is_item, with_pushed}
 
 -- what was asked, and then more
-pub drains_behind : (capacity : ℕ) (asked more rows : List BrokerRow) (o : OpenSubState) (wire : List ℕ) (end : Taking) (new : OpenSubState) (after : List ℕ) → Drains capacity 0 (asked ++ (more ++ rows)) o wire end new after → Drains capacity 0 ((asked ++ more) ++ rows) o wire end new after
-drains_behind capacity asked more rows o wire end new after drains =
-    subst (λ (all : List BrokerRow). Drains capacity 0 all o wire end new after) (sym (append_assoc asked more rows)) drains
+pub drains_behind : (waits : Bool) (capacity : ℕ) (asked more rows : List BrokerRow) (o : OpenSubState) (wire : List ℕ) (end : Taking) (new : OpenSubState) (after : List ℕ) → Drains waits capacity 0 (asked ++ (more ++ rows)) o wire end new after → Drains waits capacity 0 ((asked ++ more) ++ rows) o wire end new after
+drains_behind waits capacity asked more rows o wire end new after drains =
+    subst (λ (all : List BrokerRow). Drains waits capacity 0 all o wire end new after) (sym (append_assoc asked more rows)) drains
 
 -- an item is taken and written
-pub drains_item : (capacity calls : ℕ) (o next : OpenSubState) (wire more : List ℕ) (item : Item) (sub : SubName) → length wire < full_wire → sub ≡ o.sub → next ≡ nearer_lag o → more ≡ with_pushed o item wire → (rows : List BrokerRow) (end : Taking) (new : OpenSubState) (after : List ℕ) → Drains capacity (calls + 1) rows next more end new after → Drains capacity calls (Takes sub (Some item) ∷ rows) o wire end new after
-drains_item capacity calls o next wire more item sub room same next_is more_is rows end new after drains =
-    (room, same, inl (subst (λ (w : List ℕ). Drains capacity (calls + 1) rows (nearer_lag o) w end new after) more_is (subst (λ (q : OpenSubState). Drains capacity (calls + 1) rows q more end new after) next_is drains)))
+pub drains_item : (waits : Bool) (capacity calls : ℕ) (o next : OpenSubState) (wire more : List ℕ) (item : Item) (sub : SubName) → length wire < full_wire → sub ≡ o.sub → next ≡ nearer_lag o → more ≡ with_pushed o item wire → (rows : List BrokerRow) (end : Taking) (new : OpenSubState) (after : List ℕ) → Drains waits capacity (calls + 1) rows next more end new after → Drains waits capacity calls (Takes sub (Some item) ∷ rows) o wire end new after
+drains_item waits capacity calls o next wire more item sub room same next_is more_is rows end new after drains =
+    (room, same, inl (subst (λ (w : List ℕ). Drains waits capacity (calls + 1) rows (nearer_lag o) w end new after) more_is (subst (λ (q : OpenSubState). Drains waits capacity (calls + 1) rows q more end new after) next_is drains)))
 
 -- the queue was empty, and the broker says that it has lagged
-pub drains_lag : (capacity calls : ℕ) (o next : OpenSubState) (wire : List ℕ) (sub lagging : SubName) → length wire < full_wire → sub ≡ o.sub → lagging ≡ o.sub → o.lagged ≡ false → o.until_lag ≡ 0 → next ≡ record o { lagged = true } → (rows : List BrokerRow) (end : Taking) (new : OpenSubState) (after : List ℕ) → Drains capacity (calls + 1) rows next wire end new after → Drains capacity calls (Takes sub None ∷ AsksLag lagging true ∷ rows) o wire end new after
-drains_lag capacity calls o next wire sub lagging room same asked unlagged due next_is rows end new after drains =
-    (room, same, asked, unlagged, due, subst (λ (q : OpenSubState). Drains capacity (calls + 1) rows q wire end new after) next_is drains)
+pub drains_lag : (waits : Bool) (capacity calls : ℕ) (o next : OpenSubState) (wire : List ℕ) (sub lagging : SubName) → length wire < full_wire → sub ≡ o.sub → lagging ≡ o.sub → o.lagged ≡ false → o.until_lag ≡ 0 → next ≡ record o { lagged = true } → (rows : List BrokerRow) (end : Taking) (new : OpenSubState) (after : List ℕ) → Drains waits capacity (calls + 1) rows next wire end new after → Drains waits capacity calls (Takes sub None ∷ AsksLag lagging true ∷ rows) o wire end new after
+drains_lag waits capacity calls o next wire sub lagging room same asked unlagged due next_is rows end new after drains =
+    (room, same, asked, unlagged, due, subst (λ (q : OpenSubState). Drains waits capacity (calls + 1) rows q wire end new after) next_is drains)
 
 -- ---- what a round comes to at one queue
 
@@ -87,35 +87,35 @@ pub if_emptied : (t : Taking) (A B : Type 0) → t ≡ Emptied → A → IfEmpti
 if_emptied t A B e a = subst (λ (s : Taking). IfEmptied s A B) (sym e) a
 
 -- The calls so far emptied the first queues, and are a beginning: whatever is taken of the rest is taken behind them.
-abbrev pub GoesOn : ℕ → List BrokerRow → List OpenSubState → List OpenSubState → List OpenSubState → List ℕ → List ℕ → Type 0
-GoesOn capacity asked queues done rest before wire =
+abbrev pub GoesOn : Bool → ℕ → List BrokerRow → List OpenSubState → List OpenSubState → List OpenSubState → List ℕ → List ℕ → Type 0
+GoesOn waits capacity asked queues done rest before wire =
     (rows : List BrokerRow) (end : Taking) (others : List OpenSubState) (after : List ℕ) (left : ℕ)
-    → DrainsAll capacity rows rest wire end others after left
-    → DrainsAll capacity (asked ++ rows) queues before end (done ++ others) after left
+    → DrainsAll waits capacity rows rest wire end others after left
+    → DrainsAll waits capacity (asked ++ rows) queues before end (done ++ others) after left
 
 -- the next one is emptied, too
-pub goes_on : (capacity : ℕ) (asked more : List BrokerRow) (queues done rest : List OpenSubState) (o new : OpenSubState) (before wire between : List ℕ) (one : Taking) → one ≡ Emptied → Drains capacity 0 more o wire one new between → GoesOn capacity asked queues done (o ∷ rest) before wire → GoesOn capacity (asked ++ more) queues (done ++ new ∷ []) rest before between
-goes_on capacity asked more queues done rest o new before wire between one emptied drains so_far rows end others after left then =
-    subst (λ (all : List BrokerRow). DrainsAll capacity all queues before end ((done ++ new ∷ []) ++ others) after left) (sym (append_assoc asked more rows))
-    (subst (λ (all : List OpenSubState). DrainsAll capacity (asked ++ (more ++ rows)) queues before end all after left) (sym (append_assoc done (new ∷ []) others))
+pub goes_on : (waits : Bool) (capacity : ℕ) (asked more : List BrokerRow) (queues done rest : List OpenSubState) (o new : OpenSubState) (before wire between : List ℕ) (one : Taking) → one ≡ Emptied → Drains waits capacity 0 more o wire one new between → GoesOn waits capacity asked queues done (o ∷ rest) before wire → GoesOn waits capacity (asked ++ more) queues (done ++ new ∷ []) rest before between
+goes_on waits capacity asked more queues done rest o new before wire between one emptied drains so_far rows end others after left then =
+    subst (λ (all : List BrokerRow). DrainsAll waits capacity all queues before end ((done ++ new ∷ []) ++ others) after left) (sym (append_assoc asked more rows))
+    (subst (λ (all : List OpenSubState). DrainsAll waits capacity (asked ++ (more ++ rows)) queues before end all after left) (sym (append_assoc done (new ∷ []) others))
     (so_far (more ++ rows) end (new ∷ others) after left (more, rows, refl, one, new, others, between, drains, refl, if_emptied one _ _ emptied then)))
 
 -- the next one isn't, and the rest stay
-pub goes_no_further : (capacity : ℕ) (asked more : List BrokerRow) (queues done rest : List OpenSubState) (o new : OpenSubState) (before wire between : List ℕ) (one : Taking) → (one ≡ Emptied → ⊥) → Drains capacity 0 more o wire one new between → GoesOn capacity asked queues done (o ∷ rest) before wire → DrainsAll capacity (asked ++ more) queues before one (done ++ new ∷ rest) between (length rest)
-goes_no_further capacity asked more queues done rest o new before wire between one never drains so_far =
+pub goes_no_further : (waits : Bool) (capacity : ℕ) (asked more : List BrokerRow) (queues done rest : List OpenSubState) (o new : OpenSubState) (before wire between : List ℕ) (one : Taking) → (one ≡ Emptied → ⊥) → Drains waits capacity 0 more o wire one new between → GoesOn waits capacity asked queues done (o ∷ rest) before wire → DrainsAll waits capacity (asked ++ more) queues before one (done ++ new ∷ rest) between (length rest)
+goes_no_further waits capacity asked more queues done rest o new before wire between one never drains so_far =
     so_far more one (new ∷ rest) between (length rest) (more, [], sym (append-nil more), one, new, rest, between, drains, refl, if_stopped one _ _ never (refl, refl, refl, refl, refl))
 
 -- the back ones are emptied, and then the front ones are taken
-pub drains_both : (capacity next : ℕ) (queues front back : List OpenSubState) → queues ≡ front ++ back → length front ≡ begins_at next (length queues) → (first rest : List BrokerRow) (wire : List ℕ) (one end : Taking) (changed others : List OpenSubState) (between after : List ℕ) (left unseen later : ℕ) → one ≡ Emptied → DrainsAll capacity first back wire one changed between left → DrainsAll capacity rest front between end others after unseen → later ≡ length front - unseen → DrainsQueues capacity next (first ++ rest) queues wire end (others ++ changed) after later
-drains_both capacity next queues front back cut begins first rest wire one end changed others between after left unseen later emptied did then goes =
+pub drains_both : (waits : Bool) (capacity next : ℕ) (queues front back : List OpenSubState) → queues ≡ front ++ back → length front ≡ begins_at next (length queues) → (first rest : List BrokerRow) (wire : List ℕ) (one end : Taking) (changed others : List OpenSubState) (between after : List ℕ) (left unseen later : ℕ) → one ≡ Emptied → DrainsAll waits capacity first back wire one changed between left → DrainsAll waits capacity rest front between end others after unseen → later ≡ length front - unseen → DrainsQueues waits capacity next (first ++ rest) queues wire end (others ++ changed) after later
+drains_both waits capacity next queues front back cut begins first rest wire one end changed others between after left unseen later emptied did then goes =
     (front, back, cut, begins, first, rest, refl, one, changed, others, between, left, unseen, did, refl, if_emptied one _ _ emptied (then, goes))
 
 -- the back ones aren't all emptied, and the front ones stay
-pub drains_back : (capacity next : ℕ) (queues front back : List OpenSubState) → queues ≡ front ++ back → length front ≡ begins_at next (length queues) → (asked : List BrokerRow) (wire : List ℕ) (end : Taking) (changed : List OpenSubState) (after : List ℕ) (left later : ℕ) → (end ≡ Emptied → ⊥) → DrainsAll capacity asked back wire end changed after left → later ≡ length queues - left → DrainsQueues capacity next asked queues wire end (front ++ changed) after later
-drains_back capacity next queues front back cut begins asked wire end changed after left later never did goes =
+pub drains_back : (waits : Bool) (capacity next : ℕ) (queues front back : List OpenSubState) → queues ≡ front ++ back → length front ≡ begins_at next (length queues) → (asked : List BrokerRow) (wire : List ℕ) (end : Taking) (changed : List OpenSubState) (after : List ℕ) (left later : ℕ) → (end ≡ Emptied → ⊥) → DrainsAll waits capacity asked back wire end changed after left → later ≡ length queues - left → DrainsQueues waits capacity next asked queues wire end (front ++ changed) after later
+drains_back waits capacity next queues front back cut begins asked wire end changed after left later never did goes =
     (front, back, cut, begins, asked, [], sym (append-nil asked), end, changed, front, after, left, zero, did, refl, if_stopped end _ _ never (refl, refl, refl, refl, goes))
 
 -- what is said of the queues as they were lent, said of the connection's own
-pub drains_whole : (held capacity first next : ℕ) (asked : List BrokerRow) (lent queues : List OpenSubState) (before wire : List ℕ) (end : Taking) (new : List OpenSubState) (after : List ℕ) (later : ℕ) → held ≡ capacity → first ≡ next → lent ≡ queues → before ≡ wire → DrainsQueues held first asked lent before end new after later → DrainsQueues capacity next asked queues wire end new after later
-drains_whole held capacity first next asked lent queues before wire end new after later c t q w drains =
-    subst (λ (n : ℕ). DrainsQueues n next asked queues wire end new after later) c (subst (λ (n : ℕ). DrainsQueues held n asked queues wire end new after later) t (subst (λ (os : List OpenSubState). DrainsQueues held first asked os wire end new after later) q (subst (λ (s : List ℕ). DrainsQueues held first asked lent s end new after later) w drains)))
+pub drains_whole : (still waits : Bool) (held capacity first next : ℕ) (asked : List BrokerRow) (lent queues : List OpenSubState) (before wire : List ℕ) (end : Taking) (new : List OpenSubState) (after : List ℕ) (later : ℕ) → still ≡ waits → held ≡ capacity → first ≡ next → lent ≡ queues → before ≡ wire → DrainsQueues still held first asked lent before end new after later → DrainsQueues waits capacity next asked queues wire end new after later
+drains_whole still waits held capacity first next asked lent queues before wire end new after later h c t q w drains =
+    subst (λ (b : Bool). DrainsQueues b capacity next asked queues wire end new after later) h (subst (λ (n : ℕ). DrainsQueues still n next asked queues wire end new after later) c (subst (λ (n : ℕ). DrainsQueues still held n asked queues wire end new after later) t (subst (λ (os : List OpenSubState). DrainsQueues still held first asked os wire end new after later) q (subst (λ (s : List ℕ). DrainsQueues still held first asked lent s end new after later) w drains))))

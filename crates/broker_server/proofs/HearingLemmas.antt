@@ -1,5 +1,5 @@
 -- What stays, and what shrinks, where a connection takes frames.
-use Rattle.std.proofs.Common.{◌≡◌, ◌≢◌, inl, inr, IfSome, true, ℕ, ◌<◌, List, [], ◌∷◌, ◌++◌, length, Option, Some, None, Result, Ok, Err, refl, sym, ap, subst, ◌∙◌, append_assoc}
+use Rattle.std.proofs.Common.{◌≡◌, ◌≢◌, inl, inr, IfSome, true, ℕ, ◌<◌, List, [], ◌∷◌, ◌++◌, length, Option, Some, None, Result, Ok, Err, refl, sym, ap, subst, ◌∙◌}
 use Rattle.std.specs.Prelude.{MatchOption}
 use Rattle.stomp_frame.specs.declared.case_fault.CaseFault.{CaseFault}
 use Rattle.stomp_frame.specs.declared.fault.Check.{Check}
@@ -25,7 +25,7 @@ use Rattle.delivery.specs.declared.connection_fault.ConnectionFault.TheVariants 
 use Rattle.broker_server.specs.declared.conversation.conversation_fault.ConversationFault.{ConversationFault}
 use Rattle.broker_server.specs.declared.conversation.conversation_fault.ConversationFault.TheVariants as fault
 use Rattle.broker_server.specs.BrokerRows.{BrokerRow}
-use Rattle.broker_server.specs.Conversations.{Acts, Answers, Concludes, ConversationState, Done, EndsByError, Performs}
+use Rattle.broker_server.specs.Conversations.{Acts, Answers, Concludes, ConversationState, Does, Done, EndsByError, Performs}
 use Rattle.broker_server.specs.Hearing.{JudgesFrame, ReadingFails, RefusesFrame, TakesFrame, TakesFrames}
 
 -- ---- what came and isn't read yet stays as a frame has its effect
@@ -43,8 +43,8 @@ performs_reader (actions.Subscribe id topic) old asked result new (inr (inl (why
 performs_reader (actions.Subscribe id topic) old asked result new (inr (inr (a, r, e))) = ap (λ (s : ConversationState). s.reader) e
 performs_reader (actions.Unsubscribe id) old asked result new (r, inl (front, back, o, cut, named, none, a, e)) = ap (λ (s : ConversationState). s.reader) e
 performs_reader (actions.Unsubscribe id) old asked result new (r, inr (none, a, e)) = ap (λ (s : ConversationState). s.reader) e
-performs_reader (actions.Commit sends) old asked result new (inl (gate, left, g, commits, e)) = ap (λ (s : ConversationState). s.reader) e
-performs_reader (actions.Commit sends) old asked result new (inr (g, (a, r, e))) = ap (λ (s : ConversationState). s.reader) e
+performs_reader (actions.Commit sends) old asked result new (rest, found, inl (gate, left, g, commits, e)) = ap (λ (s : ConversationState). s.reader) e
+performs_reader (actions.Commit sends) old asked result new (rest, found, inr (g, a, r, e)) = ap (λ (s : ConversationState). s.reader) e
 performs_reader actions.Disconnect old asked result new (a, r, e) = ap (λ (s : ConversationState). s.reader) e
 
 answers_reader : (frames : List RawFrame) (old : ConversationState) (asked : List BrokerRow) (new : ConversationState) → Answers frames old asked new → new.reader ≡ old.reader
@@ -56,8 +56,12 @@ concludes_reader : (done : Done) (frames : List RawFrame) (receipt : Option (Lis
 concludes_reader (Ok u) frames receipt old asked new answers = answers_reader frames old asked new answers
 concludes_reader (Err why) frames receipt old asked new (a, fails) = fails_reader why receipt old new fails
 
+does_reader : (step : Step) (old : ConversationState) (asked : List BrokerRow) (new : ConversationState) → Does step old asked new → new.reader ≡ old.reader
+does_reader step old asked new a = concludes_reader a.result _ step.receipt a.between a.rest new a.concludes ∙ performs_reader step.action old a.first a.result a.between a.performs
+
 acts_reader : (step : Step) (old : ConversationState) (asked : List BrokerRow) (new : ConversationState) → Acts step old asked new → new.reader ≡ old.reader
-acts_reader step old asked new a = concludes_reader a.result _ step.receipt a.between a.rest new a.concludes ∙ performs_reader step.action old a.first a.result a.between a.performs
+acts_reader step old asked new (inl does) = does_reader step old asked new does
+acts_reader step old asked new (inr (sends, is, a, e)) = ap (λ (s : ConversationState). s.reader) e
 
 judged_reader : (f : RawFrame) (o : Option CaseFault) (old : ConversationState) (asked : List BrokerRow) (new : ConversationState) → MatchOption o (JudgesFrame f old asked new) (λ why. RefusesFrame (fault.Connection (connection.Frame why)) f old asked new) → new.reader ≡ old.reader
 judged_reader f None old asked new (first, rest, cut, between, inl (step, accepts, acts)) = acts_reader step between rest new acts ∙ ap (λ (s : ConversationState). s.reader) accepts.same
@@ -75,18 +79,9 @@ shorter_by r left f None (others, begins, e) =
 shorter_by r left f (Some k) (e, same) = absurd cc
 
 pub one_shorter : (f : RawFrame) (old : ConversationState) (asked : List BrokerRow) (new : ConversationState) → TakesFrames (f ∷ []) old asked new → length new.reader.text < length old.reader.text
-one_shorter f old asked new (none_yet, left, reads, between, first, rest, cut, takes, (none, e)) =
+one_shorter f old asked new (listens, left, reads, between, first, rest, cut, takes, (none, e)) =
     let same : new.reader ≡ left = ap (λ (s : ConversationState). s.reader) e ∙ takes_reader f (record old { reader = left }) first between takes in
     subst (λ (u : Unread). length u.text < length old.reader.text) (sym same) (shorter_by old.reader left f old.reader.answered reads)
-
--- ---- frames, one after the other
-
--- these frames, and then those
-pub takes_on : (frames more : List RawFrame) (old : ConversationState) (asked : List BrokerRow) (mid : ConversationState) (later : List BrokerRow) (new : ConversationState) → TakesFrames frames old asked mid → TakesFrames more mid later new → TakesFrames (frames ++ more) old (asked ++ later) new
-takes_on [] more old asked mid later new (none, e) next =
-    subst (λ (rows : List BrokerRow). TakesFrames more old (rows ++ later) new) (sym none) (subst (λ (s : ConversationState). TakesFrames more s later new) e next)
-takes_on (f ∷ frames) more old asked mid later new (none_yet, left, reads, between, first, rest, cut, takes, then) next =
-    (none_yet, left, reads, between, first, rest ++ later, ap (λ (rows : List BrokerRow). rows ++ later) cut ∙ append_assoc first rest later, takes, takes_on frames more between rest mid later new then next)
 
 -- ---- what is said of a frame, said of the same one as it came
 

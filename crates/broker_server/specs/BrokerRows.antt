@@ -30,7 +30,12 @@ pub data BrokerRow : Type 0 where
   AsksLag : SubName → Bool → BrokerRow
   -- the next item of the subscription's queue was asked for
   Takes : SubName → Option Item → BrokerRow
-  -- the flight was to be committed; the gate comes back, also where it was refused
+  -- room at these topics was asked for; whether there was some at each of them, which is then reserved
+  AsksRoom : List Topic → Bool → BrokerRow
+  -- the room that was reserved was given back
+  GivesRoomBack : BrokerRow
+  -- the flight was to be committed by the room that was reserved; the gate comes back, also where it was
+  -- refused
   Commits : FlightState → Result GateState (GateState × CommitFault) → BrokerRow
 
 -- The gate is as this flight leaves it: of its sender, with its number as the last that was used, and with

@@ -6,6 +6,7 @@ use Rattle.std.specs.Str.{bytes_eq}
 use Rattle.mcast_group.specs.declared.fault.SubFault.{SubFault}
 use Rattle.mcast_txn.specs.declared.id.Topic.{Topic}
 use Rattle.mcast_txn.specs.declared.draft.sent_message.SentMessage.{SentMessage}
+use Rattle.mcast_txn.specs.Transaction.{topics_of}
 use Rattle.sender_gate.specs.declared.fault.ClaimFault.{ClaimFault}
 use Rattle.sender_gate.specs.Gate.{GateState, begin_fault, flight_of}
 use Rattle.broker_locks.specs.declared.fault.CommitFault.{CommitFault}
@@ -23,7 +24,7 @@ use Rattle.broker_server.specs.declared.conversation.conversation_fault.Conversa
 use Rattle.broker_server.specs.declared.conversation.conversation_fault.ConversationFault.TheVariants as fault
 use Rattle.broker_server.specs.declared.conversation.exit.Exit.{Exit}
 use Rattle.broker_server.specs.declared.conversation.exit.Exit.TheVariants as exit
-use Rattle.broker_server.specs.BrokerRows.{BrokerRow, IsGateAfter, SubName, Claims, GivesBack, Subscribes, Unsubscribes, Commits}
+use Rattle.broker_server.specs.BrokerRows.{BrokerRow, IsGateAfter, SubName, AsksRoom, Claims, GivesBack, GivesRoomBack, Subscribes, Unsubscribes, Commits}
 use Rattle.broker_server.specs.ConversationFaults.{told_error}
 
 -- an open subscription of a connection: the id that its SUBSCRIBE gave it, which one of the broker it is, how
@@ -35,16 +36,17 @@ pub record OpenSubState : Type 0 where
   pub lagged : Bool
 
 -- a connection: what came and isn't read yet, its session, the names of the topics that it knows, its
--- sender's gate, its open subscriptions, the octets that wait to be written to it, why it leaves, once it
--- does, whether a reply was left out since there was no memory for it, whether items may be left in its
--- queues since too many octets waited, how many items each of them holds, and the index of the one that
--- is taken next
+-- sender's gate, its open subscriptions, the accepted COMMIT, or SEND outside a transaction, that waits for
+-- room, if one does, the octets that wait to be written to it, why it leaves, once it does, whether a reply
+-- was left out since there was no memory for it, whether items may be left in its queues since too many
+-- octets waited, how many items each of them holds, and the index of the one that is taken next
 pub record ConversationState : Type 0 where
   pub reader : Unread
   pub session : SessionState
   pub names : List (List ℕ)
   pub gate : Option GateState
   pub subs : List OpenSubState
+  pub held : Option Step
   pub wire : List ℕ
   pub exit : Option Exit
   pub cut : Bool
@@ -59,6 +61,7 @@ pub record IsNew (capacity : ℕ) (c : ConversationState) : Type 0 where
   pub names : c.names ≡ []
   pub gate : c.gate ≡ None
   pub subs : c.subs ≡ []
+  pub held : c.held ≡ None
   pub wire : c.wire ≡ []
   pub exit : c.exit ≡ None
   pub cut : c.cut ≡ false
@@ -90,12 +93,13 @@ gate_rows (Some gate) = GivesBack gate ∷ []
 abbrev pub closing_rows : ConversationState → List BrokerRow
 closing_rows c = map (λ o. Unsubscribes o.sub) c.subs ++ gate_rows c.gate
 
--- as it is then: it holds nothing of the broker, and its session is closed
+-- as it is then: it holds nothing of the broker, its session is closed, and no transaction waits any more
 abbrev pub closed : Exit → ConversationState → ConversationState
 closed why c = record c {
   session = after_close c.session;
   gate = None;
   subs = [];
+  held = None;
   exit = Some why;
   more = false;
 }
@@ -155,21 +159,21 @@ next_without index next = if nat_lt index next then next - 1 else next
 
 -- An UNSUBSCRIBE ends the first open subscription of its id. Where none has it, nothing is asked; the session
 -- refuses such a frame before. So of subscriptions a and b, UNSUBSCRIBE b ends b, and leaves a.
-abbrev pub EndsSub : List ℕ → ConversationState → List BrokerRow → Done → ConversationState → Type 0
-EndsSub id old asked result new =
-    (result ≡ Ok tt)
-    × (((front : List OpenSubState) × (back : List OpenSubState) × (o : OpenSubState)
+abbrev pub EndsSub : List ℕ → ConversationState → List BrokerRow → ConversationState → Type 0
+EndsSub id old asked new =
+    ((front : List OpenSubState) × (back : List OpenSubState) × (o : OpenSubState)
     × (old.subs ≡ front ++ o ∷ back) × (is_of_id id o ≡ true) × (list_any (is_of_id id) front ≡ false)
     × (asked ≡ Unsubscribes o.sub ∷ [])
     × (new ≡ record old { subs = front ++ back; next = next_without (length front) old.next }))
-    ⊎ ((list_any (is_of_id id) old.subs ≡ false) × (asked ≡ []) × (new ≡ old)))
+    ⊎ ((list_any (is_of_id id) old.subs ≡ false) × (asked ≡ []) × (new ≡ old))
 
--- A transaction is begun by the connection's gate, and committed; the gate comes back in each case. Once it
--- was begun, what comes back is the gate as that flight leaves it, and no other's.
+-- A transaction for which room was reserved is begun by the connection's gate, and committed; the gate comes
+-- back in each case. Once it was begun, what comes back is the gate as that flight leaves it, and no other's.
+-- Where it doesn't begin, no number of the gate is used, and the room is given back.
 abbrev pub CommitsBy
     : GateState → List SentMessage → List BrokerRow → Done → GateState → Type 0
 CommitsBy gate sends asked result left =
-    ((asked ≡ []) × (result ≡ Err (fault.Begin (begin_fault gate))) × (left ≡ gate))
+    ((asked ≡ GivesRoomBack ∷ []) × (result ≡ Err (fault.Begin (begin_fault gate))) × (left ≡ gate))
     ⊎ ((asked ≡ Commits (flight_of gate sends) (Ok left) ∷ []) × (result ≡ Ok tt)
     × IsGateAfter (flight_of gate sends) left)
     ⊎ ((why : CommitFault) × (asked ≡ Commits (flight_of gate sends) (Err (left, why)) ∷ [])
@@ -182,16 +186,19 @@ abbrev pub CommitsSends
 CommitsSends sends old asked result new =
     ((gate left : GateState) × (old.gate ≡ Some gate) × CommitsBy gate sends asked result left
     × (new ≡ record old { gate = Some left }))
-    ⊎ ((old.gate ≡ None) × LacksMemory old asked result new)
+    ⊎ ((old.gate ≡ None) × (asked ≡ GivesRoomBack ∷ []) × (result ≡ Err fault.NoMemory) × (new ≡ old))
 
--- What an accepted frame's action does. A DISCONNECT ends what is open at once.
+-- What an accepted frame's action does. A transaction is committed where there is room for it at each of its
+-- topics. A DISCONNECT ends what is open at once.
 abbrev pub Performs
     : Action → ConversationState → List BrokerRow → Done → ConversationState → Type 0
 Performs (actions.Connected client) old asked result new = Connects client old asked result new
 Performs actions.Nothing old asked result new = (asked ≡ []) × (result ≡ Ok tt) × (new ≡ old)
 Performs (actions.Subscribe id topic) old asked result new = Begins id topic old asked result new
-Performs (actions.Unsubscribe id) old asked result new = EndsSub id old asked result new
-Performs (actions.Commit sends) old asked result new = CommitsSends sends old asked result new
+Performs (actions.Unsubscribe id) old asked result new = (result ≡ Ok tt) × EndsSub id old asked new
+Performs (actions.Commit sends) old asked result new =
+    (rest : List BrokerRow) × (asked ≡ AsksRoom (topics_of sends) true ∷ rest)
+    × CommitsSends sends old rest result new
 Performs actions.Disconnect old asked result new =
     (asked ≡ closing_rows old) × (result ≡ Ok tt) × (new ≡ closed exit.Disconnect old)
 
@@ -221,7 +228,7 @@ Concludes (Err why) frames receipt old asked new =
     (asked ≡ closing_rows old) × EndsByError why receipt old new
 
 -- An accepted frame's action is performed, and then answered.
-pub record Acts
+pub record Does
     (step : Step) (old : ConversationState) (asked : List BrokerRow) (new : ConversationState)
     : Type 0 where
   pub first : List BrokerRow
@@ -233,8 +240,19 @@ pub record Acts
       : Concludes result (replies (is_connect_action step.action) step.receipt) step.receipt between rest new
   pub all : asked ≡ first ++ rest
 
--- The connection is lost: what is open is ended, and nothing is written. One that leaves already does
--- nothing.
+-- A transaction finds no room: it waits, and nothing else changes. So no flight is begun, and no RECEIPT is
+-- written.
+abbrev pub Holds : Step → ConversationState → List BrokerRow → ConversationState → Type 0
+Holds step old asked new =
+    (sends : List SentMessage) × (step.action ≡ actions.Commit sends)
+    × (asked ≡ AsksRoom (topics_of sends) false ∷ []) × (new ≡ record old { held = Some step })
+
+-- What an accepted frame asks for is done, or waits for room.
+abbrev pub Acts : Step → ConversationState → List BrokerRow → ConversationState → Type 0
+Acts step old asked new = Does step old asked new ⊎ Holds step old asked new
+
+-- The connection is lost: what is open is ended, a transaction that waits is dropped, and nothing is written.
+-- One that leaves already does nothing.
 abbrev pub IsLost : ConversationState → List BrokerRow → ConversationState → Type 0
 IsLost old asked new =
     (IsSome old.exit × (asked ≡ []) × (new ≡ old))

@@ -78,12 +78,16 @@ TakesFrame f old asked new =
 
 -- ---- the frames of a stream
 
--- These frames are taken, one after the other: each is the next of the stream, and the connection doesn't
--- leave before it is read.
+-- it takes frames: it doesn't leave, and no transaction waits for room
+abbrev pub Listens : ConversationState → Type 0
+Listens c = (c.exit ≡ None) × (c.held ≡ None)
+
+-- These frames are taken, one after the other: each is the next of the stream, and before it is read the
+-- connection doesn't leave, and no transaction waits.
 abbrev pub TakesFrames : List RawFrame → ConversationState → List BrokerRow → ConversationState → Type 0
 TakesFrames [] old asked new = (asked ≡ []) × (new ≡ old)
 TakesFrames (f ∷ fs) old asked new =
-    (old.exit ≡ None) × (left : Unread) × NextReturns old.reader (Ok (Some f)) left
+    Listens old × (left : Unread) × NextReturns old.reader (Ok (Some f)) left
     × (between : ConversationState) × (first rest : List BrokerRow) × (asked ≡ first ++ rest)
     × TakesFrame f (record old { reader = left }) first between × TakesFrames fs between rest new
 
@@ -92,14 +96,15 @@ abbrev pub ReadingFails : FrameFault → Unread → Unread → Type 0
 ReadingFails FrameFault.NoMemory old left = (left ≡ old) × (is_any old.text ≡ true)
 ReadingFails why old left = NextReturns old (Err why) left
 
--- Nothing more is taken: the connection leaves; or no frame of the stream is whole, so that a half of a SEND
--- waits for its other half; or what follows is none, and the connection leaves by that.
+-- Nothing more is taken: the connection leaves, or a transaction waits; or no frame of the stream is whole,
+-- so that a half of a SEND waits for its other half; or what follows is none, and the connection leaves by
+-- that.
 abbrev pub Rests : ConversationState → List BrokerRow → ConversationState → Type 0
 Rests old asked new =
-    (IsSome old.exit × (asked ≡ []) × (new ≡ old))
-    ⊎ ((old.exit ≡ None) × (left : Unread) × NextReturns old.reader (Ok None) left
+    ((IsSome old.exit ⊎ IsSome old.held) × (asked ≡ []) × (new ≡ old))
+    ⊎ (Listens old × (left : Unread) × NextReturns old.reader (Ok None) left
     × (asked ≡ []) × (new ≡ record old { reader = left }))
-    ⊎ ((old.exit ≡ None) × (why : FrameFault) × (left : Unread) × ReadingFails why old.reader left
+    ⊎ (Listens old × (why : FrameFault) × (left : Unread) × ReadingFails why old.reader left
     × (asked ≡ closing_rows old) × EndsByError (fault_of_reader why) None (record old { reader = left }) new)
 
 -- the frames of the stream are taken until nothing more is
@@ -111,9 +116,19 @@ TakesAll old asked new =
 -- A piece comes. One that leaves drops it; without memory for it the connection leaves; else it is put to the
 -- stream, and the frames that are whole then are taken. So where `SEND`, a frame that the session refuses,
 -- and a second `SEND` come at once, one flight is committed, an ERROR is the last that is written, and the
--- second isn't read.
+-- second isn't read. While a transaction waits, a piece is put to the stream, and nothing is taken.
 abbrev pub Hears : List ℕ → ConversationState → List BrokerRow → ConversationState → Type 0
 Hears piece old asked new =
     (IsSome old.exit × (asked ≡ []) × (new ≡ old))
     ⊎ ((old.exit ≡ None) × (asked ≡ closing_rows old) × EndsByError fault.NoMemory None old new)
     ⊎ ((old.exit ≡ None) × TakesAll (record old { reader = with_piece old.reader piece }) asked new)
+
+-- It goes on with the transaction that waits, if one does: room is asked for again, and that is done or waits
+-- again; then the frames that are whole are taken. So where a `SEND` waits for room, and an UNSUBSCRIBE came
+-- behind it, the flight is committed and the RECEIPT written before the subscription ends.
+abbrev pub GoesOn : ConversationState → List BrokerRow → ConversationState → Type 0
+GoesOn old asked new =
+    ((old.held ≡ None) × (asked ≡ []) × (new ≡ old))
+    ⊎ ((step : Step) × (old.held ≡ Some step) × (between : ConversationState) × (first rest : List BrokerRow)
+    × (asked ≡ first ++ rest) × Acts step (record old { held = None }) first between
+    × TakesAll between rest new)

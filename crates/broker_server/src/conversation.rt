@@ -7,14 +7,14 @@ ghost use Rattle.stomp_frame.specs.declared.fault.FrameFault.{FrameFault};
 ghost use Rattle.stomp_frame.specs.declared.raw_frame.RawFrame.{RawFrame};
 ghost use Rattle.stomp_frame.specs.ClientFrames.{raw_of};
 ghost use Rattle.broker_server.specs.BrokerRows.{AsksInOrder, BrokerRow, Unsubscribes};
-ghost use Rattle.broker_server.specs.Conversations.{PutsFrames, EndsByError, Performs, Connects, Begins, EndsSub, CommitsSends, CommitsBy, Acts, Answers, IsLost};
-ghost use Rattle.broker_server.specs.Delivering.{DeliversRound, Drains, DrainsAll, DrainsQueues, begins_at, has_item, most_waiting};
+ghost use Rattle.broker_server.specs.Conversations.{PutsFrames, EndsByError, Connects, Begins, EndsSub, CommitsSends, CommitsBy, Acts, Answers, Concludes, IsLost};
+ghost use Rattle.broker_server.specs.Delivering.{DeliversRound, Drains, DrainsAll, DrainsQueues, TellsLag, begins_at, has_item, may_read};
 ghost use Rattle.delivery.specs.Core.Outcomes.{is_any};
 ghost use Rattle.stomp_session.specs.Open.{IsKnownTo};
-ghost use Rattle.broker_server.specs.Hearing.{AcceptsFrame, DeniesFrame, Hears, IsNewTo, Rests, TakesAll, TakesFrame, TakesFrames};
+ghost use Rattle.broker_server.specs.Hearing.{AcceptsFrame, DeniesFrame, GoesOn, Hears, IsNewTo, Rests, TakesAll, TakesFrame, TakesFrames};
 ghost use Rattle.broker_server.specs.Wires.{GoesOut};
-ghost use Rattle.broker_server.specs.Conversations.{closed, IsNew, closing_rows, gate_rows, is_of_id, is_connect_action, next_without, replies};
-ghost use Rattle.broker_server.specs.declared.conversation.exit.Exit.TheVariants as exits;
+ghost use Rattle.broker_server.specs.Conversations.{closed, IsNew, closing_rows, gate_rows, is_of_id, next_without, replies};
+ghost use Rattle.stomp_session.specs.declared.action.Action.TheVariants as actions;
 
 mod broker_calls;
 mod conversation_fault;
@@ -49,9 +49,9 @@ const MOST: usize = 1_048_576;
 const MOST_CALLS: usize = 65_536;
 
 /// One connection of the server, without its socket. In contracts it is what came and isn't read yet, its session, its
-/// sender's gate, its open subscriptions, the octets that wait to be written to it, why it leaves, once it does,
-/// whether a reply was left out, whether items may be left in its queues, how many each of these holds, and which of
-/// them is looked at first.
+/// sender's gate, its open subscriptions, the transaction that waits for room, the octets that wait to be written to it,
+/// why it leaves, once it does, whether a reply was left out, whether items may be left in its queues, how many each of
+/// these holds, and which of them is looked at first.
 pub struct Conversation<C: BrokerCalls> {
     alloc: Global,
     reader: FrameReader,
@@ -61,6 +61,8 @@ pub struct Conversation<C: BrokerCalls> {
     /// The gate of its sender, from its CONNECT to its end.
     gate: Option<Gate>,
     subs: Vec<OpenSub<C>>,
+    /// The accepted COMMIT, or SEND outside a transaction, that waits for room, if one does.
+    held: Option<Step>,
     wire: Wire,
     /// Why it leaves, once it does.
     exit: Option<Exit>,
@@ -84,6 +86,7 @@ impl<C: BrokerCalls> Drop for Conversation<C> {
             names,
             gate,
             subs,
+            held,
             wire,
             exit: _,
             cut: _,
@@ -96,6 +99,7 @@ impl<C: BrokerCalls> Drop for Conversation<C> {
         drop(names);
         drop(gate);
         drop(subs);
+        drop(held);
         drop(wire);
     }
 }
@@ -111,6 +115,7 @@ impl<C: BrokerCalls> Model for Conversation<C> {
       names = c.names;
       gate = c.gate;
       subs = c.subs.items;
+      held = c.held;
       wire = c.wire;
       exit = c.exit;
       cut = c.cut;
@@ -132,6 +137,7 @@ impl<C: BrokerCalls> Conversation<C> {
             names: Names::new(alloc),
             gate: None,
             subs: Vec::new(alloc),
+            held: None,
             wire: Wire::new(alloc),
             exit: None,
             cut: false,
@@ -197,11 +203,19 @@ impl<C: BrokerCalls> Conversation<C> {
         self.cut
     }
 
-    /// Whether more may be read: it doesn't leave, and fewer than 1,048,576 octets wait to be written.
-    pub fn may_read(&self) -> bool
-        ensures { result ≡ is_none self.now.exit && nat_lt (length self.now.wire) most_waiting }
+    /// Whether a transaction waits for room: no frame behind it is taken before it was committed.
+    pub fn is_held(&self) -> bool
+        ensures { result ≡ is_some self.now.held }
     {
-        self.exit.is_none() && self.wire.len() < MOST
+        self.held.is_some()
+    }
+
+    /// Whether more may be read: it doesn't leave, no transaction waits for room, and fewer than 1,048,576 octets wait
+    /// to be written.
+    pub fn may_read(&self) -> bool
+        ensures { result ≡ may_read self.now }
+    {
+        self.exit.is_none() && self.held.is_none() && self.wire.len() < MOST
     }
 
     /// Whether items may be left in the queues of its subscriptions, since too many octets waited: `deliver` is to be
@@ -212,7 +226,8 @@ impl<C: BrokerCalls> Conversation<C> {
         self.more
     }
 
-    /// Takes a piece that came, and does what each frame that it ends asks for. Once it leaves, the rest is dropped.
+    /// Takes a piece that came, and does what each frame that it ends asks for. Once it leaves, the rest is dropped;
+    /// while a transaction waits for room, what is behind it is kept.
     pub fn hear(&mut self, calls: &mut C, piece: &[u8])
         ensures { (asked : List BrokerRow) × AsksInOrder C.called calls.old asked calls.new
             × Hears piece.now self.old asked self.new }
@@ -226,13 +241,25 @@ impl<C: BrokerCalls> Conversation<C> {
         }
     }
 
-    /// Takes the frames that its reader has, and does what they ask for, until it leaves.
+    /// Asks again for the room of the transaction that waits for it, if one does. Where there is some, it is committed
+    /// and answered, and the frames behind it that came are taken.
+    pub fn go_on(&mut self, calls: &mut C)
+        ensures { (asked : List BrokerRow) × AsksInOrder C.called calls.old asked calls.new
+            × GoesOn self.old asked self.new }
+    {
+        if let Some(step) = self.held.take() {
+            self.act(calls, step);
+            self.hear_all(calls);
+        }
+    }
+
+    /// Takes the frames that its reader has, and does what they ask for, until it leaves or a transaction waits.
     fn hear_all(&mut self, calls: &mut C)
         ensures { (asked : List BrokerRow) × AsksInOrder C.called calls.old asked calls.new
             × TakesAll self.old asked self.new }
     {
         'frames: loop {
-            if self.exit.is_some() {
+            if self.exit.is_some() || self.held.is_some() {
                 return;
             }
             if !self.hear_next(calls) {
@@ -243,7 +270,8 @@ impl<C: BrokerCalls> Conversation<C> {
 
     /// Takes the next frame; whether there was one.
     fn hear_next(&mut self, calls: &mut C) -> bool
-        requires { self.old.exit ≡ None }
+        requires open { self.old.exit ≡ None }
+        requires free { self.old.held ≡ None }
         ensures took { result ≡ true → (asked : List BrokerRow)
             × AsksInOrder C.called calls.old asked calls.new
             × (f : RawFrame) × TakesFrames (f ∷ []) self.old asked self.new }
@@ -310,38 +338,73 @@ impl<C: BrokerCalls> Conversation<C> {
         }
     }
 
-    /// Does what an accepted frame asks for, and answers it.
+    /// Does what an accepted frame asks for, and answers it; a transaction that finds no room is held.
     fn act(&mut self, calls: &mut C, step: Step)
         ensures { (asked : List BrokerRow) × AsksInOrder C.called calls.old asked calls.new
             × Acts step self.old asked self.new }
     {
         let Step { action, receipt } = step;
-        let connects = is_connect_action(&action);
-        match self.perform(calls, action) {
-            Ok(()) => self.answer(calls, connects, &receipt),
-            Err(fault) => self.refuse(calls, fault, &receipt),
+        match action {
+            Action::Connected(client) => {
+                let done = self.connect(calls, client);
+                self.conclude(calls, done, true, &receipt);
+            }
+            Action::Nothing => self.answer(calls, false, &receipt),
+            Action::Subscribe(id, topic) => {
+                let done = self.subscribe(calls, id, topic);
+                self.conclude(calls, done, false, &receipt);
+            }
+            Action::Unsubscribe(id) => {
+                self.unsubscribe(calls, id);
+                self.answer(calls, false, &receipt);
+            }
+            Action::Commit(txn) => self.send(calls, txn, receipt),
+            Action::Disconnect => {
+                self.close(calls, Exit::Disconnect);
+                self.answer(calls, false, &receipt);
+            }
         }
     }
 
-    /// Does what an accepted frame asks for.
-    fn perform(&mut self, calls: &mut C, action: Action) -> Result<(), ConversationFault>
+    /// A COMMIT, or a SEND outside a transaction: commits the transaction, and answers it, or holds it where it finds no
+    /// room.
+    fn send(&mut self, calls: &mut C, txn: Txn, receipt: Option<Octets>)
         ensures { (asked : List BrokerRow) × AsksInOrder C.called calls.old asked calls.new
-            × Performs action self.old asked result self.new }
+            × Acts (record { action = actions.Commit txn; receipt = receipt }) self.old asked self.new }
     {
-        macro_rules! answers {
-            ($($case:ident $(($($part:ident),*))? => $method:ident($($argument:expr),*);)*) => {
-                match action {
-                    $(Action::$case $(($($part),*))? => self.$method(calls, $($argument),*),)*
-                }
-            };
+        match calls.reserve(txn.topics().as_slice()) {
+            Some(room) => {
+                let done = self.commit(calls, txn, room);
+                self.conclude(calls, done, false, &receipt);
+            }
+            None => self.hold(Step {
+                action: Action::Commit(txn),
+                receipt,
+            }),
         }
-        answers! {
-            Connected(client) => connect(client);
-            Nothing => nothing();
-            Subscribe(id, topic) => subscribe(id, topic);
-            Unsubscribe(id) => unsubscribe(id);
-            Commit(txn) => commit(txn);
-            Disconnect => disconnect();
+    }
+
+    /// Holds a step.
+    fn hold(&mut self, step: Step)
+        ensures { self.new ≡ record self.old { held = Some step } }
+    {
+        self.held = Some(step);
+    }
+
+    /// What follows an action: its answer, or the connection leaves by its fault.
+    fn conclude(
+        &mut self,
+        calls: &mut C,
+        done: Result<(), ConversationFault>,
+        connects: bool,
+        receipt: &Option<Octets>,
+    )
+        ensures { (asked : List BrokerRow) × AsksInOrder C.called calls.old asked calls.new
+            × Concludes done (replies connects receipt.now) receipt.now self.old asked self.new }
+    {
+        match done {
+            Ok(()) => self.answer(calls, connects, receipt),
+            Err(fault) => self.refuse(calls, fault, receipt),
         }
     }
 
@@ -391,15 +454,6 @@ impl<C: BrokerCalls> Conversation<C> {
         }
     }
 
-    /// A frame that the session alone takes.
-    fn nothing(&mut self, _calls: &mut C) -> Result<(), ConversationFault>
-        ensures same { self.new ≡ self.old }
-        ensures rows { _calls.new ≡ _calls.old }
-        ensures ok { OnErr result ⊥ }
-    {
-        Ok(())
-    }
-
     /// A SUBSCRIBE: begins a subscription.
     fn subscribe(
         &mut self,
@@ -430,43 +484,39 @@ impl<C: BrokerCalls> Conversation<C> {
     }
 
     /// An UNSUBSCRIBE: ends the subscription of this id.
-    fn unsubscribe(&mut self, calls: &mut C, id: Octets) -> Result<(), ConversationFault>
+    fn unsubscribe(&mut self, calls: &mut C, id: Octets)
         ensures { (asked : List BrokerRow) × AsksInOrder C.called calls.old asked calls.new
-            × EndsSub id self.old asked result self.new }
+            × EndsSub id self.old asked self.new }
     {
         let Some(index) = index_of(self.subs.as_slice(), id.as_slice()) else {
-            return Ok(());
+            return;
         };
         let open = self.subs.remove(index);
         self.next = next_without(self.next, index);
         calls.unsubscribe(open.sub);
-        Ok(())
     }
 
-    /// A COMMIT, or a SEND outside a transaction: commits the transaction.
-    fn commit(&mut self, calls: &mut C, txn: Txn) -> Result<(), ConversationFault>
+    /// Commits a transaction by the room that was reserved for it; where none is begun, that is given back.
+    fn commit(
+        &mut self,
+        calls: &mut C,
+        txn: Txn,
+        room: C::Room,
+    ) -> Result<(), ConversationFault>
         ensures { (asked : List BrokerRow) × AsksInOrder C.called calls.old asked calls.new
             × CommitsSends txn self.old asked result self.new }
     {
         let Some(gate) = self.gate.take() else {
+            calls.give_room_back(room);
             return Err(ConversationFault::NoMemory);
         };
-        let (gate, done) = commit_by(self.alloc, calls, gate, txn);
+        let (gate, done) = commit_by(self.alloc, calls, gate, txn, room);
         self.gate = Some(gate);
         done
     }
 
-    /// A DISCONNECT: ends what is open.
-    fn disconnect(&mut self, calls: &mut C) -> Result<(), ConversationFault>
-        ensures closed { self.new ≡ closed exits.Disconnect self.old }
-        ensures rows { AsksInOrder C.called calls.old (closing_rows self.old) calls.new }
-        ensures ok { OnErr result ⊥ }
-    {
-        self.close(calls, Exit::Disconnect);
-        Ok(())
-    }
-
-    /// The connection is lost: what is open is ended, and nothing is written any more.
+    /// The connection is lost: what is open is ended, a transaction that waits for room is dropped, and nothing is
+    /// written any more.
     pub fn lose(&mut self, calls: &mut C)
         ensures { (asked : List BrokerRow) × AsksInOrder C.called calls.old asked calls.new
             × IsLost self.old asked self.new }
@@ -476,12 +526,14 @@ impl<C: BrokerCalls> Conversation<C> {
         }
     }
 
-    /// Ends what is open: its subscriptions, and then its gate is given back.
+    /// Ends what is open: its subscriptions, and then its gate is given back. A transaction that waits for room is
+    /// dropped.
     fn close(&mut self, calls: &mut C, exit: Exit)
         ensures closed { self.new ≡ closed exit self.old }
         ensures rows { AsksInOrder C.called calls.old (closing_rows self.old) calls.new }
     {
         self.exit = Some(exit);
+        self.held = None;
         self.more = false;
         self.session.end();
         end_subs(calls, mem::replace(&mut self.subs, Vec::new(self.alloc)));
@@ -515,7 +567,8 @@ impl<C: BrokerCalls> Conversation<C> {
 
     /// Takes what is there of each queue and sends it, while few octets wait; whether something came of it. It begins
     /// behind the subscription where it stopped last, so that none waits for another for ever. A subscription that has
-    /// lagged ends the connection once all that it had accepted was taken.
+    /// lagged ends the connection once all that it had accepted was taken, but not while a transaction waits for room:
+    /// then by a later call.
     pub fn deliver(&mut self, calls: &mut C) -> bool
         ensures { (asked : List BrokerRow) × AsksInOrder C.called calls.old asked calls.new
             × DeliversRound self.old asked result self.new }
@@ -523,8 +576,16 @@ impl<C: BrokerCalls> Conversation<C> {
         if self.exit.is_some() {
             return false;
         }
+        let waits = self.held.is_some();
         let queues = self.subs.as_mut_slice();
-        let (drained, next) = drain_queues(calls, queues, self.next, &mut self.wire, self.capacity);
+        let (drained, next) = drain_queues(
+            calls,
+            queues,
+            self.next,
+            &mut self.wire,
+            self.capacity,
+            waits,
+        );
         self.next = next;
         self.more = false;
         match drained.end {
@@ -572,20 +633,21 @@ fn drain_queues<C: BrokerCalls>(
     next: usize,
     wire: &mut Wire,
     capacity: u64,
+    waits: bool,
 ) -> (Drained, usize)
     ensures { (asked : List BrokerRow) × AsksInOrder C.called calls.old asked calls.new
-        × DrainsQueues capacity next asked queues.old wire.old result.0.end queues.new wire.new result.1
+        × DrainsQueues waits capacity next asked queues.old wire.old result.0.end queues.new wire.new result.1
         × (result.0.any ≡ has_item asked) }
 {
     let count = queues.len();
     let first = begins_at(next, count);
     let (front, back) = queues.split_at_mut(first);
-    let (drained, left) = drain_all(calls, back, wire, capacity);
+    let (drained, left) = drain_all(calls, back, wire, capacity, waits);
     let Taking::Emptied = drained.end else {
         let behind = count.saturating_sub(left);
         return (drained, behind);
     };
-    let (others, left) = drain_all(calls, front, wire, capacity);
+    let (others, left) = drain_all(calls, front, wire, capacity, waits);
     let later = first.saturating_sub(left);
     let any = drained.any || others.any;
     let end = others.end;
@@ -599,16 +661,17 @@ fn drain_all<C: BrokerCalls>(
     queues: &mut [OpenSub<C>],
     wire: &mut Wire,
     capacity: u64,
+    waits: bool,
 ) -> (Drained, usize)
     ensures { (asked : List BrokerRow) × AsksInOrder C.called calls.old asked calls.new
-        × DrainsAll capacity asked queues.old wire.old result.0.end queues.new wire.new result.1
+        × DrainsAll waits capacity asked queues.old wire.old result.0.end queues.new wire.new result.1
         × (result.0.any ≡ has_item asked) }
 {
     let mut any = false;
     let mut left = queues.len();
     for queue in queues.iter_mut() {
         left = left.saturating_sub(1);
-        let drained = drain_queue(calls, queue, wire, capacity);
+        let drained = drain_queue(calls, queue, wire, capacity, waits);
         any = any || drained.any;
         let Taking::Emptied = drained.end else {
             let end = drained.end;
@@ -626,9 +689,10 @@ fn drain_queue<C: BrokerCalls>(
     queue: &mut OpenSub<C>,
     wire: &mut Wire,
     capacity: u64,
+    waits: bool,
 ) -> Drained
     ensures { (asked : List BrokerRow) × AsksInOrder C.called calls.old asked calls.new
-        × Drains capacity 0 asked queue.old wire.old result.end queue.new wire.new
+        × Drains waits capacity 0 asked queue.old wire.old result.end queue.new wire.new
         × (result.any ≡ has_item asked) }
 {
     let mut any = false;
@@ -647,10 +711,7 @@ fn drain_queue<C: BrokerCalls>(
                 }
             }
             None if queue.lagged => {
-                let end = Taking::Failed(ConversationFault::Lagged {
-                    topic: queue.topic,
-                    items: queue.run,
-                });
+                let end = end_of_lag(queue.topic, queue.run, waits);
                 return Drained { any, end };
             }
             None if queue.until_lag == 0 && calls.has_lagged(&queue.sub) => {
@@ -666,6 +727,17 @@ fn drain_queue<C: BrokerCalls>(
     }
     let end = Taking::Stopped;
     Drained { any, end }
+}
+
+/// What a queue at this topic comes to that has lagged, once it is empty and so many items were taken: a fault, but while a
+/// transaction waits for room nothing yet.
+fn end_of_lag(topic: Topic, items: u64, waits: bool) -> Taking
+    ensures { TellsLag waits result }
+{
+    if waits {
+        return Taking::Emptied;
+    }
+    Taking::Failed(ConversationFault::Lagged { topic, items })
 }
 
 /// Ends these subscriptions, in order.
@@ -698,13 +770,6 @@ fn slice_in(octets: &Option<Octets>) -> Option<&[u8]>
     }
 }
 
-/// Whether it is the action of a CONNECT.
-fn is_connect_action(action: &Action) -> bool
-    ensures { result ≡ is_connect_action action.now }
-{
-    matches!(action, Action::Connected(_))
-}
-
 /// Whether this fault of the reader is none to its peer: there was no memory, but nothing is unread.
 fn is_idle(reader: &FrameReader, fault: FrameFault) -> bool
     ensures idle { result ≡ true → (fault ≡ FrameFault.NoMemory) × (reader.now.text ≡ []) }
@@ -725,13 +790,15 @@ fn is_known(names: &Names, frame: &ClientFrame) -> bool
     }
 }
 
-/// Begins the transaction as this gate's sender's, and commits it; the gate comes back.
+/// Begins the transaction as this gate's sender's, and commits it by this room; the gate comes back. Where it isn't
+/// begun, the room is given back.
 #[tactic(auto, using(broker_locks::proofs::Whole::begun_untouched))]
 fn commit_by<C: BrokerCalls>(
     alloc: Global,
     calls: &mut C,
     gate: Gate,
     txn: Txn,
+    room: C::Room,
 ) -> (Gate, Result<(), ConversationFault>)
     ensures { (asked : List BrokerRow) × AsksInOrder C.called calls.old asked calls.new
         × CommitsBy gate txn asked result.1 result.0 }
@@ -740,10 +807,11 @@ fn commit_by<C: BrokerCalls>(
         Ok(flying) => flying,
         Err((gate, txn, fault)) => {
             drop(txn);
+            calls.give_room_back(room);
             return (gate, Err(ConversationFault::Begin(fault)));
         }
     };
-    match calls.commit(flying) {
+    match calls.commit(flying, room) {
         Ok(gate) => (gate, Ok(())),
         Err((gate, fault)) => (gate, Err(ConversationFault::Commit(fault))),
     }

@@ -13,14 +13,17 @@ use stomp_session::{Names, Session, Step};
 /// {0} };`, and where the calls are kept, that the list of them has grown by this one.
 pub trait BrokerCalls {
     ghost use Rattle.std.specs.Prelude.{◌≡◌, ℕ, List, Ok, Err, IfOk, IfErr};
-    ghost use Rattle.std.specs.Option.{option_map};
+    ghost use Rattle.std.specs.Option.{is_some, option_map};
     ghost use Rattle.stomp_frame.specs.ClientFrames.{raw_of};
     ghost use Rattle.broker_locks.specs.Commits.{IsUntouched};
     ghost use Rattle.broker_server.specs.Judging.{Grows, IsFrameAccepted, IsFrameRefused};
-    ghost use Rattle.broker_server.specs.BrokerRows.{BrokerRow, IsGateAfter, SubName, LooksUp, Claims, GivesBack, Subscribes, Unsubscribes, AsksLag, Takes, Commits};
+    ghost use Rattle.broker_server.specs.BrokerRows.{BrokerRow, IsGateAfter, SubName, LooksUp, Claims, GivesBack, Subscribes, Unsubscribes, AsksLag, Takes, AsksRoom, GivesRoomBack, Commits};
 
     /// An open subscription: its topic, its number, and the end of its queue that takes.
     type Sub: Drop;
+
+    /// Room that is reserved at the topics of a transaction. It isn't `Drop`: it is used by a commit, or given back.
+    type Room;
 
     /// What a call makes of it: of the old one, the call with its answer, and the new one.
     ghost called: { Self → BrokerRow → Self → Type 0 };
@@ -73,9 +76,21 @@ pub trait BrokerCalls {
         ensures taken { called self.old (Takes (name sub.old) result) self.new }
         ensures same { name sub.new ≡ name sub.old };
 
-    /// Commits a transaction, and gives the gate of its sender again, which goes on behind it. The flight is as its
-    /// gate began it.
-    fn commit(&mut self, flying: Flying) -> Result<Gate, (Gate, CommitFault)>
+    /// Asks for room at these topics: there is some at each of them, or none is reserved.
+    fn reserve(&mut self, topics: &[Topic]) -> Option<Self::Room>
+        ensures { called self.old (AsksRoom topics.now (is_some result)) self.new };
+
+    /// Gives room back that isn't used.
+    fn give_room_back(&mut self, room: Self::Room)
+        ensures { called self.old GivesRoomBack self.new };
+
+    /// Commits a transaction by the room that was reserved for it, and gives the gate of its sender again, which goes
+    /// on behind it. The flight is as its gate began it.
+    fn commit(
+        &mut self,
+        flying: Flying,
+        room: Self::Room,
+    ) -> Result<Gate, (Gate, CommitFault)>
         requires { IsUntouched flying.state }
         ensures committed { IfOk result (λ gate. called self.old (Commits flying.state (Ok gate)) self.new) }
         ensures refused { IfErr result (λ e. called self.old (Commits flying.state (Err e)) self.new) }

@@ -307,6 +307,9 @@ impl<'a, R: Wait + Log + Clock, W: Side, T: Side> BrokerCalls for Calls<'a, R, W
 
     type Sub = SeatedSub;
 
+    // No room is reserved yet.
+    type Room = ();
+
     // Nothing is said of what other threads find.
     ghost called = { λ old row new. Unit {0} };
 
@@ -394,7 +397,13 @@ impl<'a, R: Wait + Log + Clock, W: Side, T: Side> BrokerCalls for Calls<'a, R, W
         item
     }
 
-    fn commit(&mut self, flying: Flying) -> Result<Gate, (Gate, CommitFault)> {
+    fn reserve(&mut self, _topics: &[Topic]) -> Option<()> {
+        Some(())
+    }
+
+    fn give_room_back(&mut self, _room: ()) {}
+
+    fn commit(&mut self, flying: Flying, _room: ()) -> Result<Gate, (Gate, CommitFault)> {
         let topics = flying.topics().len();
         self.on_way.add(flying.topics().as_slice());
         let done = self

@@ -1,8 +1,8 @@
 //! What a connection's thread works at.
 
-ghost use Rattle.std.specs.Prelude.{◌≡◌, ◌==◌, ◌&&◌, nat_lt, true, false, List, [], None, is_some, is_none, length};
+ghost use Rattle.std.specs.Prelude.{◌≡◌, ◌==◌, ◌&&◌, true, false, List, [], None, is_some};
 ghost use Rattle.broker_server.specs.BrokerRows.{BrokerRow};
-ghost use Rattle.broker_server.specs.Delivering.{DeliversRound, most_waiting};
+ghost use Rattle.broker_server.specs.Delivering.{DeliversRound, may_read};
 ghost use Rattle.broker_server.specs.declared.serving.socket.Came.TheVariants.{Nothing};
 
 use crate::conversation::{BrokerCalls, Conversation};
@@ -80,7 +80,7 @@ impl<'a, R: Wait + Log + Clock, W: Side, T: Side> Desk<'a, R, W, T> {
 
     /// Reads once, into this room, unless the connection leaves or too much waits for it.
     pub(crate) fn read(&mut self, room: &mut [u8]) -> Came
-        ensures idle { (is_none self.old.talk.exit && nat_lt (length self.old.talk.wire) most_waiting) ≡ false
+        ensures idle { may_read self.old.talk ≡ false
             → (result ≡ Nothing) × (self.new ≡ self.old) × (room.new ≡ room.old) }
         ensures talk { self.new.talk ≡ self.old.talk }
         ensures calls { self.new.calls ≡ self.old.calls }

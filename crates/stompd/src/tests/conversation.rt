@@ -6,3 +6,4 @@ mod faults;
 mod items;
 mod pieces;
 mod talk;
+mod waiting;

@@ -1,8 +1,22 @@
-use Rattle.std.proofs.Common.{[], ◌∷◌, Ok, Err, refl, subst, inl, inr}
-use Rattle.sender_gate.specs.Gate.{FlightState, flight_of}
-use Rattle.broker_server.specs.BrokerRows.{Commits, IsGateAfter}
+use Rattle.std.proofs.Common.{List, [], ◌∷◌, Ok, Err, refl, ap, subst, inl, inr}
+use Rattle.mcast_txn.specs.declared.draft.sent_message.SentMessage.{SentMessage}
+use Rattle.sender_gate.specs.declared.fault.GateFault.{GateFault}
+use Rattle.sender_gate.specs.Gate.{FlightState, GateState, flight_of}
+use Rattle.broker_server.specs.BrokerRows.{Commits, GivesRoomBack, IsGateAfter}
+use Rattle.broker_server.specs.declared.conversation.conversation_fault.ConversationFault.TheVariants as fault
+use Rattle.broker_server.specs.Conversations.{Done}
 use Rattle.broker_server.proofs.ConversationLemmas.{asks_one}
 use Rattle.broker_server.proofs.conversation.commit_by.Goals as goal
+
+pub returns-in-Err : goal.returns-in-Err
+returns-in-Err g c =
+    let called = g.C.BrokerCalls.called in
+    let refused = c.in-Err.ensures.err in
+    let failed : GateState × List SentMessage × GateFault → Done = λ e. Err (fault.Begin e.2) in (
+      GivesRoomBack ∷ [],
+      asks_one called c.args.calls.now c.give_room_back.new.self GivesRoomBack c.give_room_back.ensures,
+      inl (refl, ap failed refused, ap (λ (e : GateState × List SentMessage × GateFault). e.0) refused),
+    )
 
 pub returns-in-Ok-commit : goal.returns-in-Ok-commit
 returns-in-Ok-commit g c =

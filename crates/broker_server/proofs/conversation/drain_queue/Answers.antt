@@ -41,12 +41,11 @@ returns-in-None g c =
     let so_far = c.loop-call.invariant.taken in
     let held = c.loop-call.queue-inside in
     let row = Takes (name held.sub) None in
-    let new : SubName → OpenSubState = λ sub. record { id = held.id; sub = sub; until_lag = held.until_lag; lagged = held.lagged } in
-    let why = fault.Lagged held.topic held.run in (
+    let new : SubName → OpenSubState = λ sub. record { id = held.id; sub = sub; until_lag = held.until_lag; lagged = held.lagged } in (
       so_far.0 ++ row ∷ [],
       asks_on called c.args.calls.now c.loop-call.calls c.take.new.self so_far.0 (row ∷ []) so_far.1 (asks_one called c.loop-call.calls c.take.new.self row c.in-None.ensures.taken),
-      so_far.2 (row ∷ []) (Failed why) (new (name c.take.new.sub)) c.loop-call.wire
-          (room_of (length c.loop-call.wire) c.if-not-may_take.ensures.0, refl, inl (c.if-queue.true, why, tt, refl, ap new c.in-None.ensures.same), refl),
+      so_far.2 (row ∷ []) c.end_of_lag-end.result (new (name c.take.new.sub)) c.loop-call.wire
+          (room_of (length c.loop-call.wire) c.if-not-may_take.ensures.0, refl, inl (c.if-queue.true, c.end_of_lag-end.ensures, ap new c.in-None.ensures.same), refl),
       no_item so_far.0 (row ∷ []) c.loop-call.any refl so_far.3,
     )
 
@@ -113,8 +112,8 @@ loop-call-preserved g c =
               so_far.0 ++ row ∷ [],
               asks_on called c.args.calls.now c.loop-call.calls c.match-take.calls so_far.0 (row ∷ []) so_far.1
                   (subst (λ x. AsksInOrder called c.loop-call.calls (row ∷ []) x) (sym w.calls-is) (asks_one called c.loop-call.calls c.take.new.self row w.in-Some.ensures.taken)),
-              (λ rows end new after d. drains_behind capacity so_far.0 (row ∷ []) rows c.args.queue.now c.args.wire.now end new after
-                  (so_far.2 (row ∷ rows) end new after (drains_item capacity n o next c.loop-call.wire c.match-take.wire item (name held.sub) room refl next_is more_is rows end new after d))),
+              (λ rows end new after d. drains_behind c.args.waits capacity so_far.0 (row ∷ []) rows c.args.queue.now c.args.wire.now end new after
+                  (so_far.2 (row ∷ rows) end new after (drains_item c.args.waits capacity n o next c.loop-call.wire c.match-take.wire item (name held.sub) room refl next_is more_is rows end new after d))),
               w.any-is ∙ some_item so_far.0 (row ∷ []) refl,
             );
           })
@@ -130,10 +129,10 @@ loop-call-preserved g c =
               so_far.0 ++ rows_asked,
               asks_on called c.args.calls.now c.loop-call.calls c.match-take.calls so_far.0 rows_asked so_far.1
                   (c.take.new.self, w.in-None.ensures.taken, asks_one called c.take.new.self c.match-take.calls (AsksLag (name c.take.new.sub) true) third),
-              (λ rows end new after d. drains_behind capacity so_far.0 rows_asked rows c.args.queue.now c.args.wire.now end new after
+              (λ rows end new after d. drains_behind c.args.waits capacity so_far.0 rows_asked rows c.args.queue.now c.args.wire.now end new after
                   (so_far.2 (Takes (name held.sub) None ∷ AsksLag (name c.take.new.sub) true ∷ rows) end new after
-                  (drains_lag capacity n o next c.loop-call.wire (name held.sub) (name c.take.new.sub) room refl w.in-None.ensures.same w.if-queue.false w.if-queue-eq0.true next_is rows end new after
-                  (subst (λ (v : List ℕ). Drains capacity (n + 1) rows next v end new after) w.wire-is d)))),
+                  (drains_lag c.args.waits capacity n o next c.loop-call.wire (name held.sub) (name c.take.new.sub) room refl w.in-None.ensures.same w.if-queue.false w.if-queue-eq0.true next_is rows end new after
+                  (subst (λ (v : List ℕ). Drains c.args.waits capacity (n + 1) rows next v end new after) w.wire-is d)))),
               w.any-is ∙ no_item so_far.0 rows_asked c.loop-call.any refl so_far.3,
             );
           })

@@ -1,6 +1,6 @@
 //! How a connection leaves: what is open is ended, and its gate is given back exactly once.
 
-use super::fake::Row::{Claims, Commits, GivesBack, Subscribes, Unsubscribes};
+use super::fake::Row::{AsksRoom, Claims, Commits, GivesBack, Subscribes, Unsubscribes};
 use super::fake::WILLING;
 use super::talk::{CONNECT, CONNECTED, SEND, SUBSCRIBE, Talk};
 use broker_server::Exit;
@@ -24,6 +24,7 @@ fn disconnects(alloc: Global) -> bool {
         Claims(true),
         Subscribes(0, true),
         Subscribes(1, true),
+        AsksRoom(true),
         Commits(true),
         Unsubscribes(0),
         Unsubscribes(1),

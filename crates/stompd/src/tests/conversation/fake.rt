@@ -26,6 +26,9 @@ pub(super) enum Row {
     AsksLag(u64, bool),
     /// Whether an item of this subscription was there.
     Takes(u64, bool),
+    /// Room was asked for at the topics of a transaction; whether there was some.
+    AsksRoom(bool),
+    GivesRoomBack,
     /// A transaction was to be committed; whether it was.
     Commits(bool),
 }
@@ -61,12 +64,21 @@ pub(super) struct FakeSub {
     number: u64,
 }
 
+/// Room at so many topics, which isn't let go.
+pub(super) struct FakeRoom {
+    topics: usize,
+}
+
 /// A broker of one connection, which commits to the first two topics that it names.
 #[derive(Drop)]
 pub(super) struct Fake {
     alloc: Global,
     plan: Plan,
     pub(super) rows: Vec<Row>,
+    /// So many times there is no room, from now on.
+    pub(super) refusals: u64,
+    /// At how many topics room is reserved.
+    pub(super) reserved: usize,
     /// The open subscriptions: the topic of each, and its number.
     open: Vec<(u32, u64)>,
     /// What wasn't taken: the subscription of each item.
@@ -83,6 +95,8 @@ impl Fake {
             alloc,
             plan,
             rows: Vec::new(alloc),
+            refusals: 0,
+            reserved: 0,
             open: Vec::new(alloc),
             items: Vec::new(alloc),
             subs: 0,
@@ -135,6 +149,22 @@ impl Fake {
         }
     }
 
+    /// Ends a subscription: no item is queued for it any more.
+    fn close(&mut self, number: u64) {
+        let found = self.open.iter().position(|open| open.1 == number);
+        if let Some(at) = found
+            && at < self.open.len()
+        {
+            self.open.remove(at);
+        }
+    }
+
+    /// Room that was reserved is reserved no longer.
+    fn let_go(&mut self, room: FakeRoom) {
+        let FakeRoom { topics } = room;
+        self.reserved = self.reserved.saturating_sub(topics);
+    }
+
     /// The place of the next item of a subscription that may be taken now.
     fn next(&self, number: u64) -> Option<usize> {
         if self.taken >= self.plan.early && !self.asked {
@@ -148,6 +178,8 @@ impl BrokerCalls for Fake {
     ghost use Rattle.broker_server.specs.BrokerRows.{SubName};
 
     type Sub = FakeSub;
+
+    type Room = FakeRoom;
 
     // The rows are compared as they run.
     ghost called = { λ old row new. Unit {0} };
@@ -199,17 +231,15 @@ impl BrokerCalls for Fake {
 
     fn unsubscribe(&mut self, sub: FakeSub) {
         self.note(Row::Unsubscribes(sub.number));
-        let found = self.open.iter().position(|open| open.1 == sub.number);
-        if let Some(at) = found
-            && at < self.open.len()
-        {
-            self.open.remove(at);
-        }
+        self.close(sub.number);
     }
 
     fn has_lagged(&mut self, sub: &FakeSub) -> bool {
         self.note(Row::AsksLag(sub.number, self.plan.lags));
         self.asked = true;
+        if self.plan.lags {
+            self.close(sub.number);
+        }
         self.plan.lags
     }
 
@@ -224,7 +254,25 @@ impl BrokerCalls for Fake {
         Some(self.items.remove(at).1)
     }
 
-    fn commit(&mut self, flying: Flying) -> Result<Gate, (Gate, CommitFault)> {
+    fn reserve(&mut self, topics: &[Topic]) -> Option<FakeRoom> {
+        let is_refused = self.refusals > 0;
+        self.note(Row::AsksRoom(!is_refused));
+        if is_refused {
+            self.refusals = self.refusals.saturating_sub(1);
+            return None;
+        }
+        let topics = topics.len();
+        self.reserved = self.reserved.saturating_add(topics);
+        Some(FakeRoom { topics })
+    }
+
+    fn give_room_back(&mut self, room: FakeRoom) {
+        self.note(Row::GivesRoomBack);
+        self.let_go(room);
+    }
+
+    fn commit(&mut self, flying: Flying, room: FakeRoom) -> Result<Gate, (Gate, CommitFault)> {
+        self.let_go(room);
         let refusal = self.plan.commit;
         self.note(Row::Commits(refusal.is_none()));
         if let Some(fault) = refusal {

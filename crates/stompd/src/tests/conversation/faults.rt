@@ -1,6 +1,6 @@
 //! One fault of each layer: its ERROR, behind which nothing is heard, and what was asked of the broker.
 
-use super::fake::Row::{self, Claims, Commits, GivesBack, Subscribes};
+use super::fake::Row::{self, AsksRoom, Claims, Commits, GivesBack, GivesRoomBack, Subscribes};
 use super::fake::{Plan, WILLING};
 use super::talk::{CONNECT, CONNECTED, Talk};
 use broker_locks::CommitFault;
@@ -201,7 +201,7 @@ fn commit_ends_with(alloc: Global, plan: Plan, error: &str, asked: &[Row]) -> bo
 #[test]
 fn a_commit_is_refused(rt: HostRuntime) {
     for &(fault, error) in COMMIT {
-        let rows = &[Claims(true), Commits(false), GivesBack];
+        let rows = &[Claims(true), AsksRoom(true), Commits(false), GivesBack];
         assert!(rt;
             commit_ends_with(rt.alloc(), no_commit(fault), error, rows),
             "{error}"
@@ -219,6 +219,6 @@ fn last_number() -> Plan {
 
 #[test]
 fn a_sender_without_a_number_begins_nothing(rt: HostRuntime) {
-    let rows = &[Claims(true), GivesBack];
+    let rows = &[Claims(true), AsksRoom(true), GivesRoomBack, GivesBack];
     assert!(rt; commit_ends_with(rt.alloc(), last_number(), NO_MEMORY_R, rows));
 }

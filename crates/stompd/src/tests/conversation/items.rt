@@ -1,7 +1,7 @@
 //! Items, lags, and how much may wait.
 
 use super::fake::Row::{
-    self, AsksLag, Claims, Commits, GivesBack, Subscribes, Takes, Unsubscribes,
+    self, AsksLag, AsksRoom, Claims, Commits, GivesBack, Subscribes, Takes, Unsubscribes,
 };
 use super::fake::{Plan, WILLING};
 use super::talk::{CONNECT, CONNECTED, SEND, SUBSCRIBE, Talk};
@@ -42,8 +42,11 @@ fn after_three(alloc: Global, lags: bool) -> Option<Talk> {
 const ASKED: &[Row] = &[
     Claims(true),
     Subscribes(0, true),
+    AsksRoom(true),
     Commits(true),
+    AsksRoom(true),
     Commits(true),
+    AsksRoom(true),
     Commits(true),
     Takes(0, true),
     Takes(0, true),

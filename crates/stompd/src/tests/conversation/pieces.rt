@@ -1,6 +1,6 @@
 //! What came in any pieces.
 
-use super::fake::Row::{Claims, Commits, Subscribes, Takes, Unsubscribes};
+use super::fake::Row::{AsksRoom, Claims, Commits, Subscribes, Takes, Unsubscribes};
 use super::fake::WILLING;
 use super::talk::{CONNECTED, Talk};
 use std::alloc::Global;
@@ -36,6 +36,7 @@ fn answers(alloc: Global, at_once: usize) -> bool {
     let rows = &[
         Claims(true),
         Subscribes(0, true),
+        AsksRoom(true),
         Commits(true),
         Takes(0, true),
         Takes(0, false),

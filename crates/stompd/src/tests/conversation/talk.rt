@@ -36,6 +36,21 @@ impl Talk {
         self.talk.hear(&mut self.fake, text.as_bytes());
     }
 
+    /// It goes on with what waits for room.
+    pub(super) fn go_on(&mut self) {
+        self.talk.go_on(&mut self.fake);
+    }
+
+    /// Whether a transaction waits for room, and so nothing is to be read.
+    pub(super) fn waits(&self) -> bool {
+        self.talk.is_held() && !self.talk.may_read() && self.fake.reserved == 0
+    }
+
+    /// Whether none does, no room is reserved, and more is to be read.
+    pub(super) fn listens(&self) -> bool {
+        !self.talk.is_held() && self.talk.may_read() && self.fake.reserved == 0
+    }
+
     /// What is there of each queue is taken; whether something was.
     pub(super) fn deliver(&mut self) -> bool {
         self.talk.deliver(&mut self.fake)

@@ -57,6 +57,9 @@ impl<'a, R: Wait, W: Side, T: Side> BrokerCalls for Calls<'a, R, W, T> {
 
     type Sub = Sub;
 
+    // No room is reserved.
+    type Room = ();
+
     // Nothing is said of what other threads find.
     ghost called = { λ old row new. Unit {0} };
 
@@ -105,7 +108,13 @@ impl<'a, R: Wait, W: Side, T: Side> BrokerCalls for Calls<'a, R, W, T> {
         sub.begun.taker.take(self.rt)
     }
 
-    fn commit(&mut self, flying: Flying) -> Result<Gate, (Gate, CommitFault)> {
+    fn reserve(&mut self, _topics: &[Topic]) -> Option<()> {
+        Some(())
+    }
+
+    fn give_room_back(&mut self, _room: ()) {}
+
+    fn commit(&mut self, flying: Flying, _room: ()) -> Result<Gate, (Gate, CommitFault)> {
         let mut point = Held {
             stage: self.stage,
             met: false,

@@ -1,5 +1,6 @@
 use Rattle.std.proofs.Common.{◌≡◌, rules, List, true, false, [], ◌++◌, None, refl, sym, ap, subst, ◌∙◌, inr, append-nil}
 use Rattle.std.proofs.lemmas.List.{places, with_items_is}
+use Rattle.std.specs.Option.{is_some}
 use Rattle.std.specs.Vec.{with_items}
 use Rattle.broker_server.specs.declared.conversation.drained.Taking.{Taking}
 use Rattle.broker_server.specs.BrokerRows.{AsksInOrder}
@@ -22,6 +23,7 @@ returns-in-Emptied g c =
       names = held.names;
       gate = held.gate;
       subs = subs;
+      held = held.held;
       wire = new.wire;
       exit = held.exit;
       cut = held.cut;
@@ -35,8 +37,8 @@ returns-in-Emptied g c =
     let changed : left ≡ record after { more = false } =
     ap with (with_items_is held.subs new.queues (search (rules, places)))
     ∙ ap (λ (s : ConversationState). record s { subs = new.queues; wire = new.wire; next = next; more = false }) c.self.view_is in
-    let drains = drains_whole held.capacity old.capacity held.next old.next did.0 c.as_mut_slice-queues.result.now old.subs held.wire old.wire end new.queues new.wire next
-    (ap (λ (s : ConversationState). s.capacity) c.self.view_is) (ap (λ (s : ConversationState). s.next) c.self.view_is) (c.as_mut_slice-queues.ensures.value ∙ ap (λ (s : ConversationState). s.subs) c.self.view_is) (ap (λ (s : ConversationState). s.wire) c.self.view_is) did.2 in
+    let drains = drains_whole c.is_some-waits.result (is_some old.held) held.capacity old.capacity held.next old.next did.0 c.as_mut_slice-queues.result.now old.subs held.wire old.wire end new.queues new.wire next
+    (c.is_some-waits.ensures ∙ ap (λ (s : ConversationState). is_some s.held) c.self.view_is) (ap (λ (s : ConversationState). s.capacity) c.self.view_is) (ap (λ (s : ConversationState). s.next) c.self.view_is) (c.as_mut_slice-queues.ensures.value ∙ ap (λ (s : ConversationState). s.subs) c.self.view_is) (ap (λ (s : ConversationState). s.wire) c.self.view_is) did.2 in
     let any = c.drain_queues-next.result.0.any in
     let settles = subst (λ (t : Taking). Settles t (has_item did.0) after [] any left) (sym c.in-Emptied.is) (refl, did.3, changed) in
     (did.0, did.1, inr (search rules, did.0, [], sym (append-nil did.0), end, new.queues, new.wire, next, drains, settles))
@@ -54,6 +56,7 @@ returns-in-Stopped g c =
       names = held.names;
       gate = held.gate;
       subs = subs;
+      held = held.held;
       wire = new.wire;
       exit = held.exit;
       cut = held.cut;
@@ -67,8 +70,8 @@ returns-in-Stopped g c =
     let changed : left ≡ record after { more = true } =
     ap with (with_items_is held.subs new.queues (search (rules, places)))
     ∙ ap (λ (s : ConversationState). record s { subs = new.queues; wire = new.wire; next = next; more = true }) c.self.view_is in
-    let drains = drains_whole held.capacity old.capacity held.next old.next did.0 c.as_mut_slice-queues.result.now old.subs held.wire old.wire end new.queues new.wire next
-    (ap (λ (s : ConversationState). s.capacity) c.self.view_is) (ap (λ (s : ConversationState). s.next) c.self.view_is) (c.as_mut_slice-queues.ensures.value ∙ ap (λ (s : ConversationState). s.subs) c.self.view_is) (ap (λ (s : ConversationState). s.wire) c.self.view_is) did.2 in
+    let drains = drains_whole c.is_some-waits.result (is_some old.held) held.capacity old.capacity held.next old.next did.0 c.as_mut_slice-queues.result.now old.subs held.wire old.wire end new.queues new.wire next
+    (c.is_some-waits.ensures ∙ ap (λ (s : ConversationState). is_some s.held) c.self.view_is) (ap (λ (s : ConversationState). s.capacity) c.self.view_is) (ap (λ (s : ConversationState). s.next) c.self.view_is) (c.as_mut_slice-queues.ensures.value ∙ ap (λ (s : ConversationState). s.subs) c.self.view_is) (ap (λ (s : ConversationState). s.wire) c.self.view_is) did.2 in
     let any = c.drain_queues-next.result.0.any in
     let settles = subst (λ (t : Taking). Settles t (has_item did.0) after [] any left) (sym c.in-Stopped.is) (refl, did.3, changed) in
     (did.0, did.1, inr (search rules, did.0, [], sym (append-nil did.0), end, new.queues, new.wire, next, drains, settles))
@@ -87,6 +90,7 @@ returns-in-Failed g c =
       names = held.names;
       gate = held.gate;
       subs = subs;
+      held = held.held;
       wire = new.wire;
       exit = held.exit;
       cut = held.cut;
@@ -100,8 +104,8 @@ returns-in-Failed g c =
     let changed : left ≡ record after { more = false } =
     ap with (with_items_is held.subs new.queues (search (rules, places)))
     ∙ ap (λ (s : ConversationState). record s { subs = new.queues; wire = new.wire; next = next; more = false }) c.self.view_is in
-    let drains = drains_whole held.capacity old.capacity held.next old.next did.0 c.as_mut_slice-queues.result.now old.subs held.wire old.wire end new.queues new.wire next
-    (ap (λ (s : ConversationState). s.capacity) c.self.view_is) (ap (λ (s : ConversationState). s.next) c.self.view_is) (c.as_mut_slice-queues.ensures.value ∙ ap (λ (s : ConversationState). s.subs) c.self.view_is) (ap (λ (s : ConversationState). s.wire) c.self.view_is) did.2 in
+    let drains = drains_whole c.is_some-waits.result (is_some old.held) held.capacity old.capacity held.next old.next did.0 c.as_mut_slice-queues.result.now old.subs held.wire old.wire end new.queues new.wire next
+    (c.is_some-waits.ensures ∙ ap (λ (s : ConversationState). is_some s.held) c.self.view_is) (ap (λ (s : ConversationState). s.capacity) c.self.view_is) (ap (λ (s : ConversationState). s.next) c.self.view_is) (c.as_mut_slice-queues.ensures.value ∙ ap (λ (s : ConversationState). s.subs) c.self.view_is) (ap (λ (s : ConversationState). s.wire) c.self.view_is) did.2 in
     let why = c.in-Failed.fault in
     let last = c.fail.new in
     let rest = closing_rows after in

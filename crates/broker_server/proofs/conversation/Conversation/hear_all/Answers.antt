@@ -1,6 +1,7 @@
 use Rattle.std.proofs.Common.{[], ◌∷◌, ◌++◌, refl}
 use Rattle.broker_server.proofs.ConversationLemmas.{asks_on}
-use Rattle.broker_server.proofs.HearingLemmas.{one_shorter, takes_on}
+use Rattle.broker_server.proofs.HearingLemmas.{one_shorter}
+use Rattle.broker_server.proofs.TakingLemmas.{takes_on}
 use Rattle.broker_server.proofs.conversation.Conversation.hear_all.Goals as goal
 
 pub returns-then-not-hear_next : goal.returns-then-not-hear_next

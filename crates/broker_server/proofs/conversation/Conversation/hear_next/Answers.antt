@@ -4,7 +4,7 @@ use Rattle.stomp_frame.specs.declared.raw_frame.RawFrame.{RawFrame}
 use Rattle.stomp_frame.specs.Reader.{NextReturns, Unread}
 use Rattle.broker_server.specs.declared.conversation.conversation_fault.ConversationFault.{ConversationFault}
 use Rattle.broker_server.specs.Conversations.{ConversationState, EndsByError, closing_rows}
-use Rattle.broker_server.specs.Hearing.{Rests, TakesFrames}
+use Rattle.broker_server.specs.Hearing.{Listens, Rests, TakesFrames}
 use Rattle.broker_server.proofs.HearingLemmas.{nothing_read, reading_fails, some_unread}
 use Rattle.broker_server.proofs.conversation.Conversation.hear_next.Goals as goal
 
@@ -20,8 +20,8 @@ returns-in-Ok-Some-clause-took g c =
       did.0,
       did.1,
       f,
-      subst (λ (s : ConversationState). s.exit ≡ None → TakesFrames (f ∷ []) s did.0 new) c.self.view_is
-          (λ none_yet. (none_yet, left, reads, new, did.0, [], sym (append-nil did.0), did.2, (refl, refl))) c.requires,
+      subst (λ (s : ConversationState). Listens s → TakesFrames (f ∷ []) s did.0 new) c.self.view_is
+          (λ listens. (listens, left, reads, new, did.0, [], sym (append-nil did.0), did.2, (refl, refl))) (c.requires.open, c.requires.free),
     )
 
 pub returns-in-Ok-None-clause-rests : goal.returns-in-Ok-None-clause-rests
@@ -34,6 +34,7 @@ returns-in-Ok-None-clause-rests g c =
       names = held.names;
       gate = held.gate;
       subs = held.subs.items;
+      held = held.held;
       wire = held.wire;
       exit = held.exit;
       cut = held.cut;
@@ -46,8 +47,8 @@ returns-in-Ok-None-clause-rests g c =
     λ e. (
       [],
       refl,
-      subst (λ (s : ConversationState). s.exit ≡ None → Rests s [] new) c.self.view_is
-          (λ none_yet. inr (inl (none_yet, left, reads, refl, refl))) c.requires,
+      subst (λ (s : ConversationState). Listens s → Rests s [] new) c.self.view_is
+          (λ listens. inr (inl (listens, left, reads, refl, refl))) (c.requires.open, c.requires.free),
     )
 
 pub returns-then-not-is_idle-clause-rests : goal.returns-then-not-is_idle-clause-rests
@@ -62,6 +63,7 @@ returns-then-not-is_idle-clause-rests g c =
       names = held.names;
       gate = held.gate;
       subs = held.subs.items;
+      held = held.held;
       wire = held.wire;
       exit = held.exit;
       cut = held.cut;
@@ -74,8 +76,8 @@ returns-then-not-is_idle-clause-rests g c =
     λ e. (
       closing_rows old,
       c.fail.ensures.rows,
-      subst (λ (s : ConversationState). s.exit ≡ None → Rests s (closing_rows old) new) c.self.view_is
-          (λ none_yet. inr (inr (none_yet, why, left, reads, refl, fails))) c.requires,
+      subst (λ (s : ConversationState). Listens s → Rests s (closing_rows old) new) c.self.view_is
+          (λ listens. inr (inr (listens, why, left, reads, refl, fails))) (c.requires.open, c.requires.free),
     )
 
 pub returns-else-not-is_idle-clause-rests : goal.returns-else-not-is_idle-clause-rests
@@ -88,6 +90,7 @@ returns-else-not-is_idle-clause-rests g c =
       names = held.names;
       gate = held.gate;
       subs = held.subs.items;
+      held = held.held;
       wire = held.wire;
       exit = held.exit;
       cut = held.cut;
@@ -103,6 +106,6 @@ returns-else-not-is_idle-clause-rests g c =
     λ e. (
       [],
       refl,
-      subst (λ (s : ConversationState). s.exit ≡ None → Rests s [] (record old { reader = left })) c.self.view_is
-          (λ none_yet. inr (inl (none_yet, left, reads, refl, refl))) c.requires,
+      subst (λ (s : ConversationState). Listens s → Rests s [] (record old { reader = left })) c.self.view_is
+          (λ listens. inr (inl (listens, left, reads, refl, refl))) (c.requires.open, c.requires.free),
     )

@@ -4,6 +4,25 @@ use Rattle.broker_server.specs.Conversations.{ConversationState, OpenSubState}
 use Rattle.broker_server.proofs.ConversationLemmas.{asks_one}
 use Rattle.broker_server.proofs.conversation.Conversation.subscribe.Goals as goal
 
+pub returns-then-is_err : goal.returns-then-is_err
+returns-then-is_err g c =
+    let held = c.self.inside in
+    let with : List OpenSubState → ConversationState = λ subs. record {
+      reader = held.reader;
+      session = held.session;
+      names = held.names;
+      gate = held.gate;
+      subs = subs;
+      held = held.held;
+      wire = held.wire;
+      exit = held.exit;
+      cut = held.cut;
+      more = held.more;
+      capacity = held.capacity;
+      next = held.next;
+    } in
+    ([], refl, inr (inr (refl, refl, ap with c.reserve.ensures.items ∙ c.self.view_is)))
+
 pub returns-in-Ok : goal.returns-in-Ok
 returns-in-Ok g c =
     let called = g.C.BrokerCalls.called in
@@ -17,6 +36,7 @@ returns-in-Ok g c =
       names = held.names;
       gate = held.gate;
       subs = subs;
+      held = held.held;
       wire = held.wire;
       exit = held.exit;
       cut = held.cut;
@@ -46,6 +66,7 @@ returns-in-Err g c =
       names = held.names;
       gate = held.gate;
       subs = subs;
+      held = held.held;
       wire = held.wire;
       exit = held.exit;
       cut = held.cut;

@@ -16,7 +16,7 @@ returns-in_default g c =
     let held = c.self.inside in
     let at : position (is_of_id id) held.subs.items ≡ None = sym (ap (position (is_of_id id)) c.as_slice.ensures.value) ∙ (sym (ap (λ (t : List ℕ). position (is_of_id t) c.as_slice.result.now) c.as_slice-2.ensures) ∙ (sym c.index_of.ensures.at ∙ c.in_default.is)) in
     let none = subst (λ (s : ConversationState). list_any (is_of_id id) s.subs ≡ false) c.self.view_is (none_at (is_of_id id) held.subs.items at) in
-    ([], refl, (refl, inr (none, refl, refl)))
+    ([], refl, inr (none, refl, refl))
 
 pub returns : goal.returns
 returns g c =
@@ -45,6 +45,7 @@ returns g c =
       names = held.names;
       gate = held.gate;
       subs = xs;
+      held = held.held;
       wire = held.wire;
       exit = held.exit;
       cut = held.cut;
@@ -54,18 +55,15 @@ returns g c =
     } in (
       Unsubscribes it.sub ∷ [],
       asks_one called c.args.calls.now c.unsubscribe.new.self (Unsubscribes it.sub) one,
-      (
+      inl (
+        front,
+        back,
+        it,
+        sym (ap (λ (s : ConversationState). s.subs) c.self.view_is) ∙ cut,
+        ap (is_of_id id) c.remove-open.ensures.value ∙ found.1,
+        none_before (is_of_id id) subs i it found.2,
         refl,
-        inl (
-          front,
-          back,
-          it,
-          sym (ap (λ (s : ConversationState). s.subs) c.self.view_is) ∙ cut,
-          ap (is_of_id id) c.remove-open.ensures.value ∙ found.1,
-          none_before (is_of_id id) subs i it found.2,
-          refl,
-          ap (λ (xs : List OpenSubState). with xs c.next_without-self-inside.result) c.remove-open.ensures.by_index.2
-              ∙ (ap (with (front ++ back)) is_next ∙ ap (λ (s : ConversationState). record s { subs = front ++ back; next = next_without (length front) s.next }) c.self.view_is),
-        ),
+        ap (λ (xs : List OpenSubState). with xs c.next_without-self-inside.result) c.remove-open.ensures.by_index.2
+            ∙ (ap (with (front ++ back)) is_next ∙ ap (λ (s : ConversationState). record s { subs = front ++ back; next = next_without (length front) s.next }) c.self.view_is),
       ),
     )
