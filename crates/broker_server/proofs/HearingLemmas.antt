@@ -1,5 +1,5 @@
 -- What stays, and what shrinks, where a connection takes frames.
-use Rattle.std.proofs.Common.{◌≡◌, ◌≢◌, inl, inr, IfSome, true, ℕ, ◌<◌, List, [], ◌∷◌, ◌++◌, length, Option, Some, None, Result, Ok, Err, refl, sym, ap, subst, ◌∙◌}
+use Rattle.std.proofs.Common.{◌≡◌, ◌≢◌, inl, inr, IfSome, true, ℕ, ◌<◌, List, [], ◌∷◌, length, Option, Some, None, Result, Ok, Err, refl, sym, ap, subst, ◌∙◌}
 use Rattle.std.specs.Prelude.{MatchOption}
 use Rattle.stomp_frame.specs.declared.case_fault.CaseFault.{CaseFault}
 use Rattle.stomp_frame.specs.declared.fault.Check.{Check}

@@ -1,9 +1,8 @@
 -- A connection whose transactions wait for room does what one does whose transactions find it at once.
-use Rattle.std.proofs.Common.{◌≡◌, ◌⊎◌, inl, inr, ℕ, ◌+◌, Bool, true, false, not, filter, List, [], ◌∷◌, ◌++◌, map, Option, Some, None, IsSome, Result, Ok, Err, if◌then◌else◌, refl, sym, ap, ap₂, subst, ◌∙◌, append_assoc, append-nil}
+use Rattle.std.proofs.Common.{◌≡◌, inl, inr, ℕ, ◌+◌, Bool, true, false, not, List, [], ◌∷◌, ◌++◌, map, Option, Some, None, Ok, Err, if◌then◌else◌, refl, sym, ap, ap₂, subst, ◌∙◌, append_assoc, append-nil}
 use Rattle.std.proofs.lemmas.List.{map-append}
 use Rattle.std.proofs.lemmas.List.Folds.{list_any-append}
 use Rattle.std.specs.List.{list_any}
-use Rattle.std.specs.Option.{is_some}
 use Rattle.std.specs.Prelude.{MatchOption, ◌||◌}
 use Rattle.mcast_txn.specs.declared.draft.sent_message.SentMessage.{SentMessage}
 use Rattle.stomp_frame.specs.declared.case_fault.CaseFault.{CaseFault}
@@ -27,7 +26,7 @@ use Rattle.broker_server.specs.Hearing.{Hears, JudgesFrame, Looks, RefusesFrame,
 use Rattle.broker_server.specs.Waiting.{FindsRoomAtOnce, GoesThrough, HearsEach, Round, WaitsInOrder, asked_for_frames, asks_room, but_items, but_room, finds_none, pieces, untaken}
 use Rattle.broker_server.specs.Waiting.{Heard, WentOn, Delivered, Wrote}
 use Rattle.broker_server.proofs.TakingLemmas.{takes_on}
-use Rattle.broker_server.proofs.LikeLemmas.{Like, SoOfLike, acts_like, all_like, hears_like}
+use Rattle.broker_server.proofs.LikeLemmas.{Like, acts_like, all_like, hears_like}
 
 -- ---- what is delivered changes nothing else
 

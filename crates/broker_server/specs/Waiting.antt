@@ -1,5 +1,5 @@
 -- What a connection does whose transactions wait for room, beside one whose transactions find it at once.
-use Rattle.std.specs.Prelude.{◌≡◌, ℕ, Bool, true, false, not, List, [], ◌∷◌, ◌++◌, filter, map, Option, None}
+use Rattle.std.specs.Prelude.{◌≡◌, ℕ, Bool, true, false, not, List, [], ◌∷◌, ◌++◌, filter, map, None}
 use Rattle.std.specs.List.{list_any}
 use Rattle.broker_server.specs.BrokerRows.{BrokerRow, AsksRoom}
 use Rattle.broker_server.specs.Conversations.{ConversationState, OpenSubState}
