@@ -497,12 +497,7 @@ impl<C: BrokerCalls> Conversation<C> {
     }
 
     /// Commits a transaction by the room that was reserved for it; where none is begun, that is given back.
-    fn commit(
-        &mut self,
-        calls: &mut C,
-        txn: Txn,
-        room: C::Room,
-    ) -> Result<(), ConversationFault>
+    fn commit(&mut self, calls: &mut C, txn: Txn, room: C::Room) -> Result<(), ConversationFault>
         ensures { (asked : List BrokerRow) × AsksInOrder C.called calls.old asked calls.new
             × CommitsSends txn self.old asked result self.new }
     {
