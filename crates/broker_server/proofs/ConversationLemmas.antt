@@ -19,18 +19,18 @@ asks_one called a b row one = (b, one, refl)
 -- an action is performed, and then answered
 pub acts_by : {B : Type 0} (called : B → BrokerRow → B → Type 0) (a b c : B) (step : Step) (action : Action) (old between new : ConversationState) (first rest : List BrokerRow) (done : Done) → step.action ≡ action → AsksInOrder called a first b → AsksInOrder called b rest c → Performs action old first done between → Concludes done (replies (is_connect_action action) step.receipt) step.receipt between rest new → (asked : List BrokerRow) × AsksInOrder called a asked c × Acts step old asked new
 acts_by called a b c step action old between new first rest done is asks more performs concludes = (
-    first ++ rest,
-    asks_on called a b c first rest asks more,
-    inl (record {
-      first = first;
-      rest = rest;
-      between = between;
-      result = done;
-      performs = subst (λ (q : Action). Performs q old first done between) (sym is) performs;
-      concludes = subst (λ (q : Action). Concludes done (replies (is_connect_action q) step.receipt) step.receipt between rest new) (sym is) concludes;
-      all = refl;
-    }),
-  )
+  first ++ rest,
+  asks_on called a b c first rest asks more,
+  inl (record {
+    first = first;
+    rest = rest;
+    between = between;
+    result = done;
+    performs = subst (λ (q : Action). Performs q old first done between) (sym is) performs;
+    concludes = subst (λ (q : Action). Concludes done (replies (is_connect_action q) step.receipt) step.receipt between rest new) (sym is) concludes;
+    all = refl;
+  }),
+)
 
 -- what is so where a call went well, or what is so where it failed
 pub on_either : {T E : Type 0} (r : Result T E) (A B : Type 0) → OnOk r A → OnErr r B → A ⊎ B

@@ -168,29 +168,29 @@ acts_like step a asked new b e (inr (sends, is, called, held)) =
 
 accepts_like : (f : RawFrame) (step : Step) (a : ConversationState) (asked : List BrokerRow) (new b : ConversationState) → Like a b → AcceptsFrame f step a asked new → SoOfLike new (AcceptsFrame f step b asked)
 accepts_like f step a asked new b e accepts = (
-    record b { session = new.session; names = new.names },
-    record {
-      known = accepts.known;
-      looks = subst (λ (s : ConversationState). Looks f s asked accepts.known new.names) e accepts.looks;
-      accepted = subst (λ (s : ConversationState). IsFrameAccepted f step s.session accepts.known new.session new.names) e accepts.accepted;
-      same = refl;
-    },
-    ap but_items accepts.same ∙ ap (λ (s : ConversationState). record s { session = new.session; names = new.names }) e,
-  )
+  record b { session = new.session; names = new.names },
+  record {
+    known = accepts.known;
+    looks = subst (λ (s : ConversationState). Looks f s asked accepts.known new.names) e accepts.looks;
+    accepted = subst (λ (s : ConversationState). IsFrameAccepted f step s.session accepts.known new.session new.names) e accepts.accepted;
+    same = refl;
+  },
+  ap but_items accepts.same ∙ ap (λ (s : ConversationState). record s { session = new.session; names = new.names }) e,
+)
 
 denies_like : (f : RawFrame) (why : ConversationFault) (a : ConversationState) (asked : List BrokerRow) (new b : ConversationState) → Like a b → DeniesFrame f why a asked new → SoOfLike new (DeniesFrame f why b asked)
 denies_like f why a asked new b e denies = (
-    record b { session = new.session; names = new.names },
-    record {
-      known = denies.known;
-      looks = subst (λ (s : ConversationState). Looks f s asked denies.known new.names) e denies.looks;
-      refused = subst (λ (s : ConversationState). IsFrameRefused f why s.session denies.known) e denies.refused;
-      lacks = subst (λ (s : ConversationState). why ≡ fault.NoMemory → IsNewTo s.names f) e denies.lacks;
-      stay = subst (λ (s : ConversationState). asked ≡ [] → new.names ≡ s.names) e denies.stay;
-      same = refl;
-    },
-    ap but_items denies.same ∙ ap (λ (s : ConversationState). record s { session = new.session; names = new.names }) e,
-  )
+  record b { session = new.session; names = new.names },
+  record {
+    known = denies.known;
+    looks = subst (λ (s : ConversationState). Looks f s asked denies.known new.names) e denies.looks;
+    refused = subst (λ (s : ConversationState). IsFrameRefused f why s.session denies.known) e denies.refused;
+    lacks = subst (λ (s : ConversationState). why ≡ fault.NoMemory → IsNewTo s.names f) e denies.lacks;
+    stay = subst (λ (s : ConversationState). asked ≡ [] → new.names ≡ s.names) e denies.stay;
+    same = refl;
+  },
+  ap but_items denies.same ∙ ap (λ (s : ConversationState). record s { session = new.session; names = new.names }) e,
+)
 
 refuses_like : (why : ConversationFault) (f : RawFrame) (a : ConversationState) (asked : List BrokerRow) (new b : ConversationState) → Like a b → RefusesFrame why f a asked new → SoOfLike new (RefusesFrame why f b asked)
 refuses_like why f a asked new b e (called, ends) =

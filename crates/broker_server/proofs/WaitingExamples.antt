@@ -1,5 +1,5 @@
 -- Worked examples of transactions that wait for room.
-use Rattle.std.proofs.Common.{◌≡◌, ℕ, true, false, List, [], ◌∷◌, Some, None, Ok, Err, append-nil, inl, inr, refl, sym, ap, ◌∙◌, arith}
+use Rattle.std.proofs.Common.{◌≡◌, ℕ, true, false, List, [], ◌∷◌, Some, None, Ok, Err, append-nil, inl, inr, refl, sym, ap, arith}
 use Rattle.mcast_txn.specs.declared.draft.sent_message.SentMessage.{SentMessage}
 use Rattle.mcast_txn.specs.declared.stamp.Stamp.{Stamp}
 use Rattle.mcast_txn.specs.Transaction.{topics_of}
@@ -9,7 +9,7 @@ use Rattle.stomp_session.specs.declared.action.Action.TheVariants as actions
 use Rattle.stomp_session.specs.declared.action.Step.{Step}
 use Rattle.broker_server.specs.declared.conversation.conversation_fault.ConversationFault.TheVariants as fault
 use Rattle.broker_server.specs.declared.conversation.drained.Taking.TheVariants.{Emptied}
-use Rattle.broker_server.specs.BrokerRows.{AsksRoom, BrokerRow, Commits, GivesRoomBack, SubName, Takes, Unsubscribes}
+use Rattle.broker_server.specs.BrokerRows.{AsksRoom, Commits, GivesRoomBack, SubName, Takes, Unsubscribes}
 use Rattle.broker_server.specs.Conversations.{Acts, CommitsBy, ConversationState, OpenSubState}
 use Rattle.broker_server.specs.Delivering.{Drains, may_read}
 use Rattle.broker_server.specs.Hearing.{GoesOn, TakesAll}

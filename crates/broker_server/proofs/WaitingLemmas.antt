@@ -343,25 +343,25 @@ nothing_waits one new ready step room like held unseen is =
 
 pub beside : (rounds : List Round) → IfFree rounds × IfWaiting rounds
 beside [] = (
-    λ one new other like none is. ([], other, (refl, refl), refl, sym like ∙ sym (ap but_items is)),
-    λ one new ready step room like none held unseen is. nothing_waits one new ready step room like held unseen is,
-  )
+  λ one new other like none is. ([], other, (refl, refl), refl, sym like ∙ sym (ap but_items is)),
+  λ one new ready step room like none held unseen is. nothing_waits one new ready step room like held unseen is,
+)
 beside (Heard piece asked ∷ rounds) = (
-    heard_free piece asked rounds (beside rounds).0 (beside rounds).1,
-    λ one new ready step room like none held unseen goes. absurd (none_some one.held step goes.0 (ap (λ (s : ConversationState). s.held) like)),
-  )
+  heard_free piece asked rounds (beside rounds).0 (beside rounds).1,
+  λ one new ready step room like none held unseen goes. absurd (none_some one.held step goes.0 (ap (λ (s : ConversationState). s.held) like)),
+)
 beside (WentOn asked ∷ rounds) = (
-    went_free asked rounds (beside rounds).0,
-    went_waiting asked rounds (beside rounds).0 (beside rounds).1,
-  )
+  went_free asked rounds (beside rounds).0,
+  went_waiting asked rounds (beside rounds).0 (beside rounds).1,
+)
 beside (Delivered asked ∷ rounds) = (
-    λ one new other like none goes. (beside rounds).0 goes.0 new other (delivers_like one asked goes.1 goes.0 goes.2 goes.3 ∙ like) none goes.4,
-    λ one new ready step room like none held unseen goes. (beside rounds).1 goes.0 new ready step room (delivers_like one asked goes.1 goes.0 goes.2 goes.3 ∙ like) none held unseen goes.4,
-  )
+  λ one new other like none goes. (beside rounds).0 goes.0 new other (delivers_like one asked goes.1 goes.0 goes.2 goes.3 ∙ like) none goes.4,
+  λ one new ready step room like none held unseen goes. (beside rounds).1 goes.0 new ready step room (delivers_like one asked goes.1 goes.0 goes.2 goes.3 ∙ like) none held unseen goes.4,
+)
 beside (Wrote ∷ rounds) = (
-    λ one new other like none goes. (beside rounds).0 goes.0 new other (ap but_items goes.1 ∙ like) none goes.2,
-    λ one new ready step room like none held unseen goes. (beside rounds).1 goes.0 new ready step room (ap but_items goes.1 ∙ like) none held unseen goes.2,
-  )
+  λ one new other like none goes. (beside rounds).0 goes.0 new other (ap but_items goes.1 ∙ like) none goes.2,
+  λ one new ready step room like none held unseen goes. (beside rounds).1 goes.0 new ready step room (ap but_items goes.1 ∙ like) none held unseen goes.2,
+)
 
 pub waits_in_order : WaitsInOrder
 waits_in_order rounds old new free goes = (beside rounds).0 old new old refl free goes

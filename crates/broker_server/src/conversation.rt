@@ -49,9 +49,9 @@ const MOST: usize = 1_048_576;
 const MOST_CALLS: usize = 65_536;
 
 /// One connection of the server, without its socket. In contracts it is what came and isn't read yet, its session, its
-/// sender's gate, its open subscriptions, the transaction that waits for room, the octets that wait to be written to it,
-/// why it leaves, once it does, whether a reply was left out, whether items may be left in its queues, how many each of
-/// these holds, and which of them is looked at first.
+/// sender's gate, its open subscriptions, the transaction that waits for room, the octets that wait to be written to
+/// it, why it leaves, once it does, whether a reply was left out, whether items may be left in its queues, how many each
+/// of these holds, and which of them is looked at first.
 pub struct Conversation<C: BrokerCalls> {
     alloc: Global,
     reader: FrameReader,
@@ -366,8 +366,8 @@ impl<C: BrokerCalls> Conversation<C> {
         }
     }
 
-    /// A COMMIT, or a SEND outside a transaction: commits the transaction, and answers it, or holds it where it finds no
-    /// room.
+    /// A COMMIT, or a SEND outside a transaction: commits the transaction, and answers it, or holds it where it finds
+    /// no room.
     fn send(&mut self, calls: &mut C, txn: Txn, receipt: Option<Octets>)
         ensures { (asked : List BrokerRow) × AsksInOrder C.called calls.old asked calls.new
             × Acts (record { action = actions.Commit txn; receipt = receipt }) self.old asked self.new }
@@ -497,12 +497,7 @@ impl<C: BrokerCalls> Conversation<C> {
     }
 
     /// Commits a transaction by the room that was reserved for it; where none is begun, that is given back.
-    fn commit(
-        &mut self,
-        calls: &mut C,
-        txn: Txn,
-        room: C::Room,
-    ) -> Result<(), ConversationFault>
+    fn commit(&mut self, calls: &mut C, txn: Txn, room: C::Room) -> Result<(), ConversationFault>
         ensures { (asked : List BrokerRow) × AsksInOrder C.called calls.old asked calls.new
             × CommitsSends txn self.old asked result self.new }
     {
@@ -729,8 +724,8 @@ fn drain_queue<C: BrokerCalls>(
     Drained { any, end }
 }
 
-/// What a queue at this topic comes to that has lagged, once it is empty and so many items were taken: a fault, but while a
-/// transaction waits for room nothing yet.
+/// What a queue at this topic comes to that has lagged, once it is empty and so many items were taken: a fault, but
+/// while a transaction waits for room nothing yet.
 fn end_of_lag(topic: Topic, items: u64, waits: bool) -> Taking
     ensures { TellsLag waits result }
 {

@@ -86,11 +86,7 @@ pub trait BrokerCalls {
 
     /// Commits a transaction by the room that was reserved for it, and gives the gate of its sender again, which goes
     /// on behind it. The flight is as its gate began it.
-    fn commit(
-        &mut self,
-        flying: Flying,
-        room: Self::Room,
-    ) -> Result<Gate, (Gate, CommitFault)>
+    fn commit(&mut self, flying: Flying, room: Self::Room) -> Result<Gate, (Gate, CommitFault)>
         requires { IsUntouched flying.state }
         ensures committed { IfOk result (λ gate. called self.old (Commits flying.state (Ok gate)) self.new) }
         ensures refused { IfErr result (λ e. called self.old (Commits flying.state (Err e)) self.new) }

@@ -47,8 +47,8 @@ fn asked_then(talk: &Talk, rows: &[Row]) -> bool {
     }
 }
 
-/// Whether a SEND that is refused room twice waits, and nothing behind it is done; and whether the frames are then done in
-/// the order in which they came, each RECEIPT behind its commit.
+/// Whether a SEND that is refused room twice waits, and nothing behind it is done; and whether the frames are then done
+/// in the order in which they came, each RECEIPT behind its commit.
 fn goes_on_in_order(alloc: Global) -> bool {
     let Some(mut talk) = subscribed(alloc, 2) else {
         return false;
