@@ -1,5 +1,3 @@
-# Appendix A: /work/h/l, specs/Room.antt (proved but for the line named above)
-```
 -- Room that is reserved at a topic, and who is waited for there.
 use Rattle.std.specs.Prelude.{◌≡◌, ◌≤◌, ◌<◌, ◌+◌, ◌-◌, ◌==◌, ◌&&◌, ◌++◌, nat_lt, not, ℕ, Bool, false, List}
 use Rattle.std.specs.Prelude.{[], length, filter, Option, Some, None, Result, Ok, Err, if◌then◌else◌}
@@ -182,4 +180,3 @@ pub record StaysRoomy : Type 0 where
       (drained : Result (List LogRow) E) (number : ℕ)
       → KeepsRoom state old.cells.group → HasTurned old new told drained → In number state.waited
       → subscription_state number new.cells.group.topic ≡ Some SubState.Open
-```
