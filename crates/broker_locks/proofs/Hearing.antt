@@ -84,7 +84,7 @@ fits_more due n g new h f = go (shown_at n g) (shown_at n new) h f
         grind (arith, nat_tests)
 
 -- who has room has it still
-room_more : (due : ℕ) (n : ℕ) (g new : GroupState) → new.topic ≡ g.topic → KnowsMoreOf (shown_at n g) (shown_at n new) → HasRoom due g n → HasRoom due new n
+pub room_more : (due : ℕ) (n : ℕ) (g new : GroupState) → new.topic ≡ g.topic → KnowsMoreOf (shown_at n g) (shown_at n new) → HasRoom due g n → HasRoom due new n
 room_more due n g new same h r =
     let found : find_entry n new.topic.subscriptions ≡ Some r.entry = ap (λ x. find_entry n x.subscriptions) same ∙ r.found in
     let was : shown_at n g ≡ Some (shows r.entry r.gauge) = ap (λ (o : Option Entry). shown_with o (gauge_at n g.topic.subscriptions g.gauges)) r.found ∙ ap (shown_with (Some r.entry)) r.gauged in

@@ -1,6 +1,7 @@
 //! What one topic's lock guards.
 
-ghost use Rattle.std.specs.Prelude.{◌≡◌, ◌≢◌, ◌⊎◌, ◌+◌, ◌*◌, ◌<◌, ℕ, [], None, Some, IfOk, IfErr, IfSome, OnOk, OnErr};
+ghost use Rattle.std.specs.Prelude.{◌≡◌, ◌≢◌, ◌⊎◌, ◌+◌, ◌++◌, ◌*◌, ◌<◌, ◌==◌, ℕ, [], true, false, None, Some, IfOk, IfErr, IfSome, OnOk, OnErr};
+ghost use Rattle.std.specs.List.{list_any};
 ghost use Rattle.sub_queue.specs.Ends.{shown_of_source};
 ghost use Rattle.mcast_group.specs.CellGroup.{open_count};
 ghost use Rattle.mcast_group.specs.Group.{or_no_memory, result_of};
@@ -8,7 +9,8 @@ ghost use Rattle.mcast_group.specs.declared.fault.ProposeFault.TheVariants.{Cloc
 ghost use Rattle.mcast_group.specs.Machine.{cancel_fault, next_number};
 ghost use Rattle.delivery.specs.Topics.{max_topics};
 ghost use Rattle.trace_audit.specs.declared.fault.AddFault.TheVariants.{Misfit};
-ghost use Rattle.broker_locks.specs.Place.{HasDoneNothing, HasTurned, IsIdle, new_place, place_after_cancel, place_after_propose, place_after_subscribe, place_after_unsubscribe, place_fault, topic_limit};
+ghost use Rattle.broker_locks.specs.Place.{HasDoneNothing, HasTurned, IsIdle, new_place, place_after_cancel, place_after_propose, place_after_subscribe, place_after_unsubscribe, place_fault, place_subscribe_fault, topic_limit};
+ghost use Rattle.broker_locks.specs.Room.{HasHeard, IsFirstOfLacking, KeepsRoom, lacking_room, one_given_back, one_reserved, reserve_answer, room_after_enter, waiting_for, waiting_without};
 
 use crate::counts::Counts;
 use crate::place::Place;
@@ -41,7 +43,7 @@ pub(crate) struct LockedTopic<R: Wait, T: Side> {
     ghost limit: { place.cells.group.topic.log_limit ≡ 65536 },
     ghost one: { share.parts ≡ 1 },
     ghost counted: { share.amount ≡ place.tickets },
-    ghost roomy: { KeepsRoom room place.cells.group },
+    ghost roomy: { ∥ KeepsRoom room place.cells.group ∥₁ },
 }
 
 impl<R: Wait, T: Side> Drop for LockedTopic<R, T> {
@@ -157,9 +159,13 @@ impl<R: Wait, T: Side> LockedTopic<R, T> {
         let mut counter = TotalCounter::new(rt, total, theirs, here);
         let answer = place.enter(floor, proposal, &mut counter);
         (*mine, *share) = counter.into_shares();
-        let ticket = answer?;
-        room.enter(rt, with_reserved, place);
-        Ok(ticket)
+        match answer {
+            Ok(ticket) => {
+                room.enter(rt, with_reserved, place);
+                Ok(ticket)
+            }
+            Err(fault) => Err(fault),
+        }
     }
 
     /// Takes the transaction's part out, as the place does.
@@ -167,6 +173,7 @@ impl<R: Wait, T: Side> LockedTopic<R, T> {
         ensures answer { result ≡ result_of (cancel_fault id self.old.place.cells.group.topic) }
         ensures ok { OnOk result (self.new.place ≡ place_after_cancel id self.old.place) }
         ensures err { OnErr result (self.new.place ≡ self.old.place) }
+        ensures room { self.new.room ≡ self.old.room }
     {
         self.place.cancel(id)
     }
@@ -183,6 +190,7 @@ impl<R: Wait, T: Side> LockedTopic<R, T> {
         ensures turned { HasTurned self.old.place self.new.place result.0 result.1 }
         ensures idle { IsIdle self.old.place → self.new.place.cells.notes ≡ self.old.place.cells.notes
             → HasDoneNothing self.old.place self.new.place result.0 result.1 }
+        ensures room { self.new.room ≡ self.old.room }
     {
         self.place.head_turned(rt)
     }
@@ -204,6 +212,7 @@ impl<R: Wait, T: Side> LockedTopic<R, T> {
         ensures next { IfOk result
             (λ _. IfSome self.new.next (λ next. (k : ℕ) × (self.old.next ≡ Some k) × (next ≡ k + 1))) }
         ensures err { OnErr result ((self.new.place ≡ self.old.place) × (self.new.next ≡ self.old.next)) }
+        ensures room { self.new.room ≡ self.old.room }
     {
         let Some(k) = self.next else {
             return Err(SubFault::SubInUse);
@@ -211,23 +220,24 @@ impl<R: Wait, T: Side> LockedTopic<R, T> {
         let Some(number) = number_of(k, topic) else {
             return Err(SubFault::SubInUse);
         };
-        match self.place.subscribe(number, source) {
+        match begun(&mut self.place, number, source) {
             Ok(from) => {
                 self.next = k.checked_add(1);
                 Ok((number, from))
             }
-            Err((fault, _source)) => Err(fault),
+            Err(fault) => Err(fault),
         }
     }
 
-    /// Ends the subscription of this number, as the place does.
+    /// Ends the subscription of this number, as the place does. It isn't waited for any more.
     pub(crate) fn unsubscribe(&mut self, number: u64) -> Result<Ended<Source<R>>, NoSub>
         ensures ok { OnOk result (self.new.place ≡ place_after_unsubscribe number self.old.place) }
         ensures err { OnErr result (self.new.place ≡ self.old.place) }
+        ensures room { self.new.room ≡ waiting_without number self.old.room }
     {
-        let ended = self.place.unsubscribe(number)?;
+        self.place.balanced();
         self.room.forget(number);
-        Ok(ended)
+        self.place.unsubscribe(number)
     }
 
     /// Reserves room for one part more, where a topic has room for so many. Refused by the first of the subscriptions
@@ -268,6 +278,10 @@ impl<R: Wait, T: Side> LockedTopic<R, T> {
         list: &mut Vec<u64>,
     ) -> Result<(), NoMemory>
         ensures heard { HasHeard self.old.place self.new.place }
+        ensures ok { OnOk result (list.new.items
+            ≡ list.old.items ++ lacking_room capacity self.new.place.cells.group self.old.room) }
+        ensures err { OnErr result
+            (IsFirstOfLacking capacity self.new.place.cells.group self.old.room list.old.items list.new.items) }
         ensures room { self.new.room ≡ self.old.room }
     {
         self.room.lacking(rt, capacity, &mut self.place, list)
@@ -277,10 +291,27 @@ impl<R: Wait, T: Side> LockedTopic<R, T> {
     /// waited for no longer.
     pub(crate) fn pass_over(&mut self, rt: &R, capacity: usize, number: u64) -> bool
         ensures heard { HasHeard self.old.place self.new.place }
+        ensures answer { result ≡ list_any (λ n. n == number)
+            (lacking_room capacity self.new.place.cells.group self.old.room) }
         ensures yes { result ≡ true → self.new.room ≡ waiting_without number self.old.room }
         ensures no { result ≡ false → self.new.room ≡ self.old.room }
     {
         self.room.pass_over(rt, capacity, number, &mut self.place)
+    }
+}
+
+/// `Place::subscribe`, which lets the source go where it is refused.
+fn begun<R: Wait>(place: &mut Place<R>, number: u64, source: Source<R>) -> Result<Stamp, SubFault>
+    requires { source.items ≡ [] }
+    ensures from { IfOk result (λ from. from ≡ place.old.cells.group.topic.frontier) }
+    ensures allowed { OnOk result (place_subscribe_fault number place.old ≡ None) }
+    ensures ok { OnOk result
+        (place.new ≡ place_after_subscribe number (shown_of_source source).gauge place.old) }
+    ensures err { OnErr result (place.new ≡ place.old) }
+{
+    match place.subscribe(number, source) {
+        Ok(from) => Ok(from),
+        Err((fault, _source)) => Err(fault),
     }
 }
 

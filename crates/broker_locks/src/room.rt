@@ -1,10 +1,13 @@
 //! Room that is reserved at a topic, and who is waited for there.
 
-ghost use Rattle.std.specs.Prelude.{◌≡◌, ◌+◌, ℕ, [], false, filter, not, Some, None, IfOk, OnOk, OnErr};
+ghost use Rattle.std.specs.Prelude.{◌≡◌, ◌+◌, ◌++◌, ◌==◌, ℕ, [], true, false, filter, not, Some, None, IfOk, OnOk, OnErr};
 ghost use Rattle.std.specs.List.{find, list_any};
+ghost use Rattle.mcast_txn.proofs.Rising.{Finds, IsGap};
 ghost use Rattle.mcast_txn.specs.Lists.{RisesBy};
-ghost use Rattle.broker_locks.specs.Place.{PlaceState};
-ghost use Rattle.broker_locks.specs.Room.{BeginsWith, HasHeard, due_at, fits, is_waited_for, lacking_room, one_given_back, one_reserved, passing_over, reserve_answer, waiting_for, waiting_without, IsPushed};
+ghost use Rattle.mcast_group.specs.Group.{IsTold};
+ghost use Rattle.broker_locks.specs.Inner.Waited.{waited_number};
+ghost use Rattle.broker_locks.specs.Room.{HasHeard, HasRoom, IsFirstOfLacking, IsPushed, due_at, fits, is_waited_for};
+ghost use Rattle.broker_locks.specs.Room.{lacking_room, one_given_back, one_reserved, passing_over, reserve_answer, room_after_enter, waiting_for, waiting_without};
 
 use crate::place::Place;
 use mcast_group::SubState;
@@ -35,13 +38,14 @@ impl Drop for Room {
 
 impl Model for Room {
     ghost use Rattle.mcast_txn.specs.Lists.{RisesBy};
+    ghost use Rattle.broker_locks.specs.Inner.Waited.{waited_number};
     ghost use Rattle.broker_locks.specs.Room.{RoomState};
 
     ghost Value = { RoomState };
 
     ghost view = { λ r. record { reserved = r.reserved; waited = r.waited.items } };
 
-    ghost invariant = { λ r. RisesBy (λ n. n) r.waited.items };
+    ghost invariant = { λ r. RisesBy waited_number r.waited.items };
 }
 
 impl Room {
@@ -119,35 +123,45 @@ impl Room {
         self.free_empty();
     }
 
+    /// The index of the subscription of this number among those that are waited for, or else the one at which it would
+    /// come.
+    fn search(&self, number: u64) -> Result<usize, usize>
+        ensures { Finds waited_number self.now.waited number result }
+    {
+        self.waited.binary_search_by_key(&number, |other| *other)
+    }
+
     /// Whether this subscription is waited for.
     fn is_waited_for(&self, number: u64) -> bool
         ensures { result ≡ is_waited_for number self.now }
     {
-        self.waited.iter().any(|other| *other == number)
+        self.search(number).is_ok()
     }
 
     /// Whether the subscription is waited for from now on: it is open, and has room for all parts that are due, once
     /// it was asked what was taken. So it is where it was waited for. Not where there is no memory for one place more
     /// in the list of them.
-    pub(crate) fn wait_for<R: Wait>(&mut self, rt: &R, number: u64, place: &mut Place<R>) -> bool {
-        if self.is_waited_for(number) {
+    pub(crate) fn wait_for<R: Wait>(&mut self, rt: &R, number: u64, place: &mut Place<R>) -> bool
+        ensures heard { HasHeard place.old place.new }
+        ensures yes { result ≡ true → self.new ≡ waiting_for number self.old }
+        ensures has { result ≡ true → is_waited_for number self.old ≡ false
+            → HasRoom (due_at self.old place.new.cells.group) place.new.cells.group number }
+        ensures was { result ≡ false → is_waited_for number self.old ≡ false }
+        ensures no { result ≡ false → self.new ≡ self.old }
+    {
+        let Err(index) = self.search(number) else {
             return true;
-        }
-        if place.state(number) != Some(SubState::Open) {
-            return false;
-        }
-        if !takes(rt, self.due(place), number, place) {
-            return false;
-        }
-        self.put(number)
+        };
+        is_ready(rt, self.due(place), number, place) && self.put(index, number)
     }
 
-    /// Puts a number among those that are waited for. Not where there is no memory for it.
-    fn put(&mut self, number: u64) -> bool {
-        let index = match self.waited.iter().position(|other| *other > number) {
-            Some(index) => index,
-            None => self.waited.len(),
-        };
+    /// Puts a number among those that are waited for, at the index where it comes. Not where there is no memory for
+    /// it.
+    fn put(&mut self, index: usize, number: u64) -> bool
+        requires { IsGap waited_number self.old.waited number index }
+        ensures yes { result ≡ true → self.new ≡ waiting_for number self.old }
+        ensures no { result ≡ false → self.new ≡ self.old }
+    {
         self.waited.insert(index, number).is_ok()
     }
 
@@ -171,6 +185,8 @@ impl Room {
         ensures heard { HasHeard place.old place.new }
         ensures ok { OnOk result
             (list.new.items ≡ list.old.items ++ lacking_room capacity place.new.cells.group self.now) }
+        ensures err { OnErr result
+            (IsFirstOfLacking capacity place.new.cells.group self.now list.old.items list.new.items) }
     {
         let due = self.due(place);
         if due >= capacity as u128 {
@@ -187,9 +203,17 @@ impl Room {
         capacity: usize,
         number: u64,
         place: &mut Place<R>,
-    ) -> bool {
+    ) -> bool
+        ensures heard { HasHeard place.old place.new }
+        ensures answer { result ≡ list_any (λ n. n == number) (lacking_room capacity place.new.cells.group self.old) }
+        ensures yes { result ≡ true → self.new ≡ waiting_without number self.old }
+        ensures no { result ≡ false → self.new ≡ self.old }
+    {
         let due = self.due(place);
-        if due >= capacity as u128 || !self.is_waited_for(number) {
+        if due >= capacity as u128 {
+            return false;
+        }
+        if !self.is_waited_for(number) {
             return false;
         }
         if takes(rt, due + 1, number, place) {
@@ -210,9 +234,21 @@ impl Room {
     }
 }
 
+/// Whether the subscription of this number is open, and takes so many items more, once it was asked what was taken.
+fn is_ready<R: Wait>(rt: &R, due: u128, number: u64, place: &mut Place<R>) -> bool
+    ensures heard { HasHeard place.old place.new }
+    ensures has { result ≡ true → HasRoom due place.new.cells.group number }
+{
+    place.state(number) == Some(SubState::Open) && takes(rt, due, number, place)
+}
+
 /// Whether the outlet of the subscription of this number, if there is one, takes so many items more, once it was asked
 /// what was taken.
-fn takes<R: Wait>(rt: &R, due: u128, number: u64, place: &mut Place<R>) -> bool {
+fn takes<R: Wait>(rt: &R, due: u128, number: u64, place: &mut Place<R>) -> bool
+    ensures told { IsTold number place.old.cells.group place.new.cells.group }
+    ensures heard { HasHeard place.old place.new }
+    ensures answer { result ≡ fits due place.new.cells.group number }
+{
     match place.room(rt, number) {
         Some(room) => due <= room as u128,
         None => false,
@@ -220,7 +256,10 @@ fn takes<R: Wait>(rt: &R, due: u128, number: u64, place: &mut Place<R>) -> bool 
 }
 
 /// The first of these subscriptions that doesn't take so many items more.
-fn first_lacking<R: Wait>(rt: &R, due: u128, waited: &[u64], place: &mut Place<R>) -> Option<u64> {
+fn first_lacking<R: Wait>(rt: &R, due: u128, waited: &[u64], place: &mut Place<R>) -> Option<u64>
+    ensures heard { HasHeard place.old place.new }
+    ensures first { result ≡ find (λ n. not (fits due place.new.cells.group n)) waited.now }
+{
     for &number in waited {
         if !takes(rt, due, number, place) {
             return Some(number);
@@ -230,7 +269,11 @@ fn first_lacking<R: Wait>(rt: &R, due: u128, waited: &[u64], place: &mut Place<R
 }
 
 /// Keeps those that take so many items more.
-fn keep_fitting<R: Wait>(rt: &R, due: u128, waited: &mut Vec<u64>, place: &mut Place<R>) {
+fn keep_fitting<R: Wait>(rt: &R, due: u128, waited: &mut Vec<u64>, place: &mut Place<R>)
+    requires { RisesBy waited_number waited.old.items }
+    ensures heard { HasHeard place.old place.new }
+    ensures kept { waited.new.items ≡ filter (fits due place.new.cells.group) waited.old.items }
+{
     let mut kept = 0;
     for index in 0..waited.len() {
         let number = waited[index];
@@ -249,7 +292,14 @@ fn add_lacking<R: Wait>(
     waited: &[u64],
     place: &mut Place<R>,
     list: &mut Vec<u64>,
-) -> Result<(), NoMemory> {
+) -> Result<(), NoMemory>
+    requires { RisesBy waited_number waited.now }
+    ensures heard { HasHeard place.old place.new }
+    ensures ok { OnOk result (list.new.items
+        ≡ list.old.items ++ filter (λ n. not (fits due place.new.cells.group n)) waited.now) }
+    ensures err { OnErr result (IsPushed (filter (λ n. not (fits due place.new.cells.group n)) waited.now)
+        list.old.items list.new.items) }
+{
     for &number in waited {
         if !takes(rt, due, number, place) {
             list.push(number)?;
