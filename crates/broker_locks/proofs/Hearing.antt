@@ -100,3 +100,11 @@ pub keeps_heard : (state : RoomState) (old new : PlaceState) → HasHeard old ne
 keeps_heard state old new h keeps n i =
     let due : due_at state new.cells.group ≡ due_at state old.cells.group = ap (λ x. length x.pending + state.reserved) h.topic in
     subst (λ (k : ℕ). HasRoom k new.cells.group n) (sym due) (room_more (due_at state old.cells.group) n old.cells.group new.cells.group h.topic (h.each n) (keeps n i))
+
+-- what fits, fits where it is less
+pub fits_less : (less due : ℕ) (g : GroupState) (n : ℕ) → less ≤ due → fits due g n ≡ true → fits less g n ≡ true
+fits_less less due g n le f = go (shown_at n g) f
+  where
+    go : (o : Option Shown) → option_map_or (takes_more due) o false ≡ true → option_map_or (takes_more less) o false ≡ true
+    go None f = f
+    go (Some s) f = grind (arith, nat_tests)

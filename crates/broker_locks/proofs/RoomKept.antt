@@ -1,9 +1,11 @@
 -- Each call of a topic behind a lock keeps room for whoever is waited for.
-use Rattle.std.proofs.Common.{◌≡◌, ◌≢◌, ℕ, ◌+◌, ◌-◌, ◌<◌, ◌≤◌, ◌==◌, ◌&&◌, nat_lt, not, Bool, true, false, cond, inl, inr, List, [], ◌∷◌, length, Option, Some, None, Result, Ok, Err, OnOk, OnErr, refl, sym, ap, subst, ◌∙◌, arith}
+use Rattle.std.proofs.Common.{◌≡◌, ◌≢◌, ℕ, zero, suc, ◌+◌, ◌-◌, ◌<◌, ◌≤◌, ◌==◌, ◌&&◌, nat_lt, not, Bool, true, false, cond, inl, inr, List, [], ◌∷◌, length, Option, Some, None, Result, Ok, Err, OnOk, OnErr, refl, sym, ap, subst, ◌∙◌, arith}
 use Rattle.std.specs.List.{filter, find, list_any}
 use Rattle.std.specs.Option.{is_some, option_map_or}
 use Rattle.std.proofs.lemmas.Bool.{eq-eqb, eqb-true, ne_eqb, true≢false, false≢true, not-true}
 use Rattle.std.proofs.lemmas.Bool.Decides.{nat_tests}
+use Rattle.std.proofs.Math.Bool.{Bool-set}
+use Rattle.std.proofs.Math.Logic.{∥∥₁_elim}
 use Rattle.mcast_txn.specs.Lists.{In, insert_by_number}
 use Rattle.mcast_txn.proofs.Inserting.{In-insert_cases}
 use Rattle.mcast_txn.proofs.Members.{In-filter_cases, any_from}
@@ -19,8 +21,9 @@ use Rattle.mcast_group.specs.declared.fault.SubFault.TheVariants.{SubInUse}
 use Rattle.mcast_group.proofs.Parts.{none_some}
 use Rattle.broker_locks.specs.KeptTrace.{was_used}
 use Rattle.broker_locks.specs.Place.{IsBalanced, PlaceState, place_after_cancel, place_after_propose, place_after_subscribe, place_after_unsubscribe, place_subscribe_fault}
-use Rattle.broker_locks.specs.Room.{HasHeard, HasRoom, KeepsRoom, RoomState, due_at, fits, is_waited_for, one_given_back, one_reserved, passing_over, reserve_answer, room_after_enter, takes_more, waiting_for, waiting_without}
-use Rattle.broker_locks.proofs.Hearing.{keeps_heard, room_more}
+use Rattle.broker_locks.specs.Room.{HasHeard, HasRoom, KeepsRoom, RoomState, due_at, fits, is_waited_for, one_given_back, one_reserved, passing_over, more_reserved, room_after_enter, takes_more, waiting_for, waiting_without}
+use Rattle.broker_locks.specs.Inner.Waited.{HaveSpare, spare_after_enter}
+use Rattle.broker_locks.proofs.Hearing.{fits_less, keeps_heard, room_more}
 use Rattle.broker_locks.proofs.Lookups.{Has, beside_ended, beside_new}
 use Rattle.broker_locks.proofs.Roomy.{entered_longer, keeps_cancelled, keeps_of, room_of}
 
@@ -36,41 +39,43 @@ fits_room due some g n h f =
     at_least : (r : ℕ) → not (nat_lt r due) ≡ true → due ≤ r
     at_least r t = grind (arith, nat_tests)
 
+-- who has room for so many items has an outlet that takes them
+pub room_fits : (due : ℕ) (g : GroupState) (n : ℕ) → HasRoom due g n → fits due g n ≡ true
+room_fits due g n h =
+    let is : shown_at n g ≡ Some (shows h.entry h.gauge) = ap (λ (o : Option Entry). shown_with o (gauge_at n g.topic.subscriptions g.gauges)) h.found ∙ ap (shown_with (Some h.entry)) h.gauged in
+    ap (λ (o : Option Shown). option_map_or (takes_more due) o false) is ∙ at_least (room (shows h.entry h.gauge)) h.fits
+  where
+    at_least : (r : ℕ) → due ≤ r → not (nat_lt r due) ≡ true
+    at_least r le = grind (arith, nat_tests)
+
+-- ---- what is spared
+
+more_due : (spare : ℕ) (state : RoomState) (g : GroupState) → due_at (more_reserved spare state) g ≡ due_at state g + spare
+more_due spare state g = omega arith
+
+have_spare : (spare : ℕ) (state : RoomState) (g : GroupState) → KeepsRoom (more_reserved spare state) g → HaveSpare spare state g
+have_spare spare state g keeps n i = subst (λ (k : ℕ). fits k g n ≡ true) (more_due spare state g) (room_fits (due_at (more_reserved spare state) g) g n (keeps n i))
+
+-- whoever is waited for takes the spare, where room is kept for it
+pub known_spare : (spare : ℕ) (state : RoomState) (g : GroupState) → ∥ KeepsRoom (more_reserved spare state) g ∥₁ → HaveSpare spare state g
+known_spare spare state g keeps n i = ∥∥₁_elim keeps (Bool-set _ _) (λ k. have_spare spare state g k n i)
+
+-- room is kept for the spare, where whoever is waited for takes it
+pub keeps_spare : (spare : ℕ) (some state : RoomState) (g : GroupState) → ((n : ℕ) → In n state.waited → In n some.waited) → KeepsRoom some g → HaveSpare spare state g → KeepsRoom (more_reserved spare state) g
+keeps_spare spare some state g fewer keeps have n i =
+    subst (λ (k : ℕ). HasRoom k g n) (sym (more_due spare state g)) (fits_room (due_at state g + spare) (due_at some g) g n (keeps n (fewer n i)) (have n i))
+
 -- ---- a reservation
 
-answer_fits : (capacity : ℕ) (state : RoomState) (g : GroupState) → Ok tt ≡ reserve_answer capacity state g → find (λ n. not (fits (due_at state g + 1) g n)) state.waited ≡ None
-answer_fits capacity state g is = go (nat_lt (due_at state g) capacity) (find (λ n. not (fits (due_at state g + 1) g n)) state.waited) is
-  where
-    go : (b : Bool) (o : Option ℕ) → ◌≡◌ {A = Result Unit (Option ℕ)} (Ok tt) (cond b (elim o [ None ↦ Ok tt | Some number ↦ Err (Some number) ]) (Err None)) → o ≡ None
-    go true None e = refl
-    go true (Some number) e = cc
-    go false o e = cc
-
-none_lacks : (p : ℕ → Bool) (xs : List ℕ) → find (λ n. not (p n)) xs ≡ None → (n : ℕ) → In n xs → p n ≡ true
-none_lacks p [] e n i = absurd i
-none_lacks p (x ∷ xs) e n i = go (p x) refl e i (none_lacks p xs)
-  where
-    go : (b : Bool) → p x ≡ b → cond (not b) (Some x) (find (λ m. not (p m)) xs) ≡ None → In n (x ∷ xs) → (find (λ m. not (p m)) xs ≡ None → (m : ℕ) → In m xs → p m ≡ true) → p n ≡ true
-    go true k f (inl is) more = ap p (sym is) ∙ k
-    go true k f (inr j) more = more f n j
-    go false k f j more = none_some x (sym f)
-
 -- a reservation keeps room
-pub keeps_reserve : (r : Result Unit (Option ℕ)) (capacity : ℕ) (old new : RoomState) (g : GroupState) → r ≡ reserve_answer capacity old g → OnOk r (new ≡ one_reserved old) → OnErr r (new ≡ old) → KeepsRoom old g → KeepsRoom new g
-keeps_reserve (Err e) capacity old new g is ok err keeps = subst (λ (s : RoomState). KeepsRoom s g) (sym err) keeps
-keeps_reserve (Ok u) capacity old new g is ok err keeps = subst (λ (s : RoomState). KeepsRoom s g) (sym ok) reserved
-  where
-    more : due_at (one_reserved old) g ≡ due_at old g + 1
-    more = omega arith
-
-    reserved : KeepsRoom (one_reserved old) g
-    reserved n i =
-        let f = none_lacks (fits (due_at old g + 1) g) old.waited (answer_fits capacity old g is) n i in
-        subst (λ (k : ℕ). HasRoom k g n) (sym more) (fits_room (due_at old g + 1) (due_at old g) g n (keeps n i) f)
+pub keeps_reserve : (r : Result Unit (Option ℕ)) (had spare : ℕ) (old new : RoomState) (g : GroupState) → OnOk r (new ≡ one_reserved old) → OnOk r (HaveSpare spare new g) → OnErr r (new ≡ old) → OnErr r (spare ≡ had) → KeepsRoom (more_reserved had old) g → KeepsRoom (more_reserved spare new) g
+keeps_reserve (Err e) had spare old new g ok have err same keeps = rw (err, same) keeps
+keeps_reserve (Ok u) had spare old new g ok have err same keeps =
+    keeps_spare spare (more_reserved had old) new g (λ n i. subst (λ (s : RoomState). In n s.waited) ok i) keeps have
 
 -- what is given back keeps room
-pub keeps_given_back : (state : RoomState) (g : GroupState) → KeepsRoom state g → KeepsRoom (one_given_back state) g
-keeps_given_back state g keeps = keeps_of state (one_given_back state) g g refl refl (λ n i. i) (omega arith) keeps
+pub keeps_given_back : (spare : ℕ) (state : RoomState) (g : GroupState) → KeepsRoom (more_reserved spare state) g → KeepsRoom (more_reserved spare (one_given_back state)) g
+keeps_given_back spare state g keeps = keeps_of (more_reserved spare state) (more_reserved spare (one_given_back state)) g g refl refl (λ n i. i) (omega arith) keeps
 
 -- ---- a part that enters
 
@@ -80,9 +85,17 @@ keeps_passed state g some n i =
     let f = In-filter_cases (fits (due_at state g) g) n state.waited i in
     fits_room (due_at state g) 0 g n (some n f.stands) f.passes
 
+-- where a part was entered, whoever was waited for takes what was spared, but for one
+pub entered_spare : (spare : ℕ) (state : RoomState) (floor : Stamp) (proposal : ProposalState) (old : PlaceState) → 0 < spare → HaveSpare spare state old.cells.group → HaveSpare 0 state (place_after_propose floor proposal old).cells.group
+entered_spare spare state floor proposal old some have n i =
+    let longer = entered_longer (record { part = proposal.part; number = next_number floor old.cells.group.topic; learnt = None }) old.cells.group.topic.pending in
+    let less : due_at state (place_after_propose floor proposal old).cells.group + 0 ≤ due_at state old.cells.group + spare = omega (arith, longer, some) in
+    fits_less _ (due_at state old.cells.group + spare) old.cells.group n less (have n i)
+
 -- a part that is entered keeps room
-pub keeps_enter : (with_reserved : Bool) (state : RoomState) (floor : Stamp) (proposal : ProposalState) (old new : PlaceState) → HasHeard (place_after_propose floor proposal old) new → KeepsRoom state old.cells.group → KeepsRoom (room_after_enter with_reserved new.cells.group state) new.cells.group
-keeps_enter with_reserved state floor proposal old new heard keeps = go (with_reserved && nat_lt 0 state.reserved) refl
+pub keeps_enter : (with_reserved : Bool) (spare left : ℕ) (state new_state : RoomState) (floor : Stamp) (proposal : ProposalState) (old new : PlaceState) → HasHeard (place_after_propose floor proposal old) new → new_state ≡ room_after_enter with_reserved new.cells.group state → left ≡ spare_after_enter with_reserved state spare
+    → KeepsRoom (more_reserved spare state) old.cells.group → KeepsRoom (more_reserved left new_state) new.cells.group
+keeps_enter with_reserved spare left state new_state floor proposal old new heard is leaves keeps = rw (is, leaves) (go (with_reserved && nat_lt 0 state.reserved) refl)
   where
     mid : PlaceState
     mid = place_after_propose floor proposal old
@@ -94,23 +107,40 @@ keeps_enter with_reserved state floor proposal old new heard keeps = go (with_re
     is_reserved true e = grind (arith, nat_tests)
     is_reserved false e = absurd (true≢false (sym e))
 
-    go : (b : Bool) → (with_reserved && nat_lt 0 state.reserved) ≡ b → KeepsRoom (cond b (one_given_back state) (passing_over new.cells.group state)) new.cells.group
+    passed : KeepsRoom (passing_over new.cells.group state) new.cells.group
+    passed = keeps_passed state new.cells.group (λ n i.
+        room_more 0 n mid.cells.group new.cells.group heard.topic (heard.each n) (room_of (due_at (more_reserved spare state) old.cells.group) 0 n old.cells.group mid.cells.group refl refl (omega arith) (keeps n i)))
+
+    -- where one was spared, all have room for the others, and nobody is passed over
+    spared : (k : ℕ) → spare ≡ k → KeepsRoom (more_reserved (k - 1) (passing_over new.cells.group state)) new.cells.group
+    spared zero e = subst (λ (s : RoomState). KeepsRoom s new.cells.group) (nothing_more (passing_over new.cells.group state)) passed
+      where
+        nothing_more : (s : RoomState) → s ≡ more_reserved (0 - 1) s
+        nothing_more s = ap (λ (r : ℕ). record s { reserved = r }) (omega arith)
+    spared (suc k) e = λ n i.
+        let f = In-filter_cases (fits (due_at state new.cells.group) new.cells.group) n state.waited i in
+        keeps_heard (more_reserved (suc k - 1) state) mid new heard
+        (keeps_of (more_reserved spare state) (more_reserved (suc k - 1) state) old.cells.group mid.cells.group refl refl (λ m j. j) (omega (arith, longer, e)) keeps) n f.stands
+
+    go : (b : Bool) → (with_reserved && nat_lt 0 state.reserved) ≡ b → KeepsRoom (more_reserved (cond b spare (spare - 1)) (cond b (one_given_back state) (passing_over new.cells.group state))) new.cells.group
     go true e =
         let some : 0 < state.reserved = is_reserved with_reserved e in
-        keeps_heard (one_given_back state) mid new heard
-        (keeps_of state (one_given_back state) old.cells.group mid.cells.group refl refl (λ n i. i) (omega (arith, longer, some)) keeps)
-    go false e = keeps_passed state new.cells.group (λ n i.
-        room_more 0 n mid.cells.group new.cells.group heard.topic (heard.each n) (room_of (due_at state old.cells.group) 0 n old.cells.group mid.cells.group refl refl (omega arith) (keeps n i)))
+        keeps_heard (more_reserved spare (one_given_back state)) mid new heard
+        (keeps_of (more_reserved spare state) (more_reserved spare (one_given_back state)) old.cells.group mid.cells.group refl refl (λ n i. i) (omega (arith, longer, some)) keeps)
+    go false e = spared spare refl
 
 -- ---- who is waited for
 
 -- one more
-pub keeps_waiting : (n : ℕ) (state : RoomState) (g : GroupState) → (is_waited_for n state ≡ false → HasRoom (due_at state g) g n) → KeepsRoom state g → KeepsRoom (waiting_for n state) g
-keeps_waiting n state g has keeps = go (is_waited_for n state) refl
+pub keeps_waiting : (spare : ℕ) (n : ℕ) (state : RoomState) (g : GroupState) → (is_waited_for n state ≡ false → HasRoom (due_at state g + spare) g n) → KeepsRoom (more_reserved spare state) g → KeepsRoom (more_reserved spare (waiting_for n state)) g
+keeps_waiting spare n state g has keeps = go (is_waited_for n state) refl
   where
-    go : (b : Bool) → is_waited_for n state ≡ b → KeepsRoom (cond b state (record state { waited = insert_by_number (λ m. m) n state.waited })) g
+    go : (b : Bool) → is_waited_for n state ≡ b → KeepsRoom (more_reserved spare (cond b state (record state { waited = insert_by_number (λ m. m) n state.waited }))) g
     go true e = λ m i. keeps m i
-    go false e = λ m i. elim (In-insert_cases _ m n state.waited i) [ inl is ↦ subst (λ (k : ℕ). HasRoom (due_at state g) g k) is (has e) | inr j ↦ keeps m j ]
+    go false e = λ m i. elim (In-insert_cases _ m n state.waited i) [
+      | inl is ↦ subst (λ (k : ℕ). HasRoom (due_at (more_reserved spare state) g) g k) is (subst (λ (k : ℕ). HasRoom k g n) (sym (more_due spare state g)) (has e))
+      | inr j ↦ keeps m j
+    ]
 
 -- one less
 pub keeps_without : (n : ℕ) (state : RoomState) (g : GroupState) → KeepsRoom state g → KeepsRoom (waiting_without n state) g
@@ -162,10 +192,16 @@ pub either : {A E : Type 0} (P : PlaceState → Type 0) (r : Result A E) (old do
 either P (Ok a) old done new ok err h k = subst P (sym ok) h
 either P (Err e) old done new ok err h k = subst P (sym err) k
 
-pub keeps_wait : (b : Bool) (n : ℕ) (old new : RoomState) (g : GroupState) → (b ≡ true → new ≡ waiting_for n old) → (b ≡ true → is_waited_for n old ≡ false → HasRoom (due_at old g) g n) → (b ≡ false → new ≡ old) → KeepsRoom old g → KeepsRoom new g
-keeps_wait true n old new g done has same keeps = subst (λ (s : RoomState). KeepsRoom s g) (sym (done refl)) (keeps_waiting n old g (has refl) keeps)
-keeps_wait false n old new g done has same keeps = subst (λ (s : RoomState). KeepsRoom s g) (sym (same refl)) keeps
+pub keeps_wait : (b : Bool) (n had spare : ℕ) (old new : RoomState) (g : GroupState) → spare ≤ had → (b ≡ true → new ≡ waiting_for n old) → (b ≡ true → is_waited_for n old ≡ false → HasRoom (due_at old g + spare) g n) → (b ≡ false → new ≡ old) → KeepsRoom (more_reserved had old) g → KeepsRoom (more_reserved spare new) g
+keeps_wait b n had spare old new g le done has same keeps = go b refl
+  where
+    less : KeepsRoom (more_reserved spare old) g
+    less = keeps_of (more_reserved had old) (more_reserved spare old) g g refl refl (λ m i. i) (omega (arith, le)) keeps
 
-pub keeps_pass_over : (b : Bool) (n : ℕ) (old new : RoomState) (g : GroupState) → (b ≡ true → new ≡ waiting_without n old) → (b ≡ false → new ≡ old) → KeepsRoom old g → KeepsRoom new g
-keeps_pass_over true n old new g done same keeps = subst (λ (s : RoomState). KeepsRoom s g) (sym (done refl)) (keeps_without n old g keeps)
-keeps_pass_over false n old new g done same keeps = subst (λ (s : RoomState). KeepsRoom s g) (sym (same refl)) keeps
+    go : (c : Bool) → b ≡ c → KeepsRoom (more_reserved spare new) g
+    go true e = subst (λ (s : RoomState). KeepsRoom (more_reserved spare s) g) (sym (done e)) (keeps_waiting spare n old g (has e) less)
+    go false e = subst (λ (s : RoomState). KeepsRoom (more_reserved spare s) g) (sym (same e)) less
+
+pub keeps_pass_over : (b : Bool) (n spare : ℕ) (old new : RoomState) (g : GroupState) → (b ≡ true → new ≡ waiting_without n old) → (b ≡ false → new ≡ old) → KeepsRoom (more_reserved spare old) g → KeepsRoom (more_reserved spare new) g
+keeps_pass_over true n spare old new g done same keeps = subst (λ (s : RoomState). KeepsRoom (more_reserved spare s) g) (sym (done refl)) (keeps_without n (more_reserved spare old) g keeps)
+keeps_pass_over false n spare old new g done same keeps = subst (λ (s : RoomState). KeepsRoom (more_reserved spare s) g) (sym (same refl)) keeps

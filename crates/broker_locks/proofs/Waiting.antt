@@ -1,5 +1,5 @@
 -- Whoever is waited for: numbers that rise, of which each is asked in its turn.
-use Rattle.std.proofs.Common.{◌≡◌, ◌≢◌, ℕ, zero, suc, ◌+◌, ◌<◌, ◌≤◌, ◌==◌, nat_lt, not, ◌&&◌, Bool, true, false, cond, inl, inr, ◌⊎◌, List, [], ◌∷◌, ◌++◌, length, take, drop, get_or, Option, Some, None, refl, sym, ap, subst, ◌∙◌, append-nil, append_assoc, Result, Ok, Err, OnErr, ◌||◌, arith}
+use Rattle.std.proofs.Common.{◌≡◌, ◌≢◌, ℕ, zero, suc, ◌+◌, ◌<◌, ◌≤◌, ◌==◌, nat_lt, not, ◌&&◌, Bool, true, false, cond, inl, inr, ◌⊎◌, List, [], ◌∷◌, ◌++◌, length, take, drop, get_or, Option, Some, None, refl, sym, ap, subst, ◌∙◌, append-nil, append_assoc, min, IfSome, IfNone, Result, Ok, Err, OnErr, ◌||◌, arith}
 use Rattle.std.specs.List.{AllByRecursion, filter, find, list_any}
 use Rattle.std.proofs.lemmas.Bool.{eq-eqb, eqb-true, ne_eqb, true≢false, not-false, not-true}
 use Rattle.std.proofs.lemmas.Bool.Decides.{nat_tests}
@@ -7,19 +7,19 @@ use Rattle.std.proofs.lemmas.List.{get_or-drop, take-append-drop, take_all}
 use Rattle.std.proofs.lemmas.List.Elements.{filter-append, filter_more}
 use Rattle.std.proofs.lemmas.List.Filters.{FiltersInPlace}
 use Rattle.std.specs.List.{insert}
-use Rattle.std.specs.Option.{option_map_or}
+use Rattle.std.specs.Option.{is_some, option_map_or}
 use Rattle.std.specs.Result.{is_ok}
 use Rattle.sub_queue.specs.Shown.{Shown}
 use Rattle.mcast_txn.specs.Lists.{In, RisesBy, insert_by_number}
 use Rattle.mcast_txn.proofs.Inserting.{puts_in_gap, rises_inserted}
-use Rattle.mcast_txn.proofs.Members.{In-filter_cases, In-get_or, any_found, any_from, filter_same}
+use Rattle.mcast_txn.proofs.Members.{In-filter_cases, In-get_or, any_found, any_from, filter_all, filter_same}
 use Rattle.mcast_txn.proofs.Rising.{Finds, IsAt, IsGap, none_in_gap}
 use Rattle.mcast_group.specs.Group.{GroupState, IsTold, group_told, shown_at}
 use Rattle.mcast_group.specs.Machine.{Entry}
 use Rattle.broker_locks.specs.Place.{PlaceState}
-use Rattle.broker_locks.specs.Room.{HasHeard, IsFirstOfLacking, IsPushed, RoomState, due_at, fits, is_waited_for, lacking_room, takes_more, waiting_for}
-use Rattle.broker_locks.specs.Inner.Waited.{waited_number}
-use Rattle.broker_locks.proofs.Hearing.{fits_more}
+use Rattle.broker_locks.specs.Room.{HasHeard, IsFirstOfLacking, IsPushed, RoomState, due_at, fits, is_waited_for, lacking_room, reserve_answer, room_after_enter, takes_more, waiting_for}
+use Rattle.broker_locks.specs.Inner.Waited.{HaveSpare, waited_number}
+use Rattle.broker_locks.proofs.Hearing.{fits_less, fits_more}
 use Rattle.broker_locks.proofs.Lookups.{shown_beside}
 
 -- ---- lists
@@ -114,16 +114,52 @@ asked_more due xs i d old new heard l asked e n m =
       | inr is ↦ subst (λ (j : ℕ). fits due new.cells.group j ≡ true) is e
     ]
 
+-- those who were asked, and one more, have the least spare of all
+pub spare_more : (due : ℕ) (xs : List ℕ) (i d least more : ℕ) (old new : PlaceState) → HasHeard old new → i < length xs → ((n : ℕ) → In n (take i xs) → fits (due + least) old.cells.group n ≡ true)
+    → fits (due + more) new.cells.group (get_or xs i d) ≡ true → (n : ℕ) → In n (take (i + 1) xs) → fits (due + min least more) new.cells.group n ≡ true
+spare_more due xs i d least more old new heard l asked e =
+    let fewer : due + min least more ≤ due + least = omega arith in
+    let fewer_here : due + min least more ≤ due + more = omega arith in
+    asked_more (due + min least more) xs i d old new heard l
+    (λ n m. fits_less (due + min least more) (due + least) old.cells.group n fewer (asked n m))
+    (fits_less (due + min least more) (due + more) new.cells.group (get_or xs i d) fewer_here e)
+
 -- the first who has none is found
-pub first_found : (due : ℕ) (xs : List ℕ) (i d : ℕ) (old new : PlaceState) → HasHeard old new → i < length xs → ((n : ℕ) → In n (take i xs) → fits due old.cells.group n ≡ true)
-    → fits due new.cells.group (get_or xs i d) ≡ false → Some (get_or xs i d) ≡ find (λ n. not (fits due new.cells.group n)) xs
-first_found due xs i d old new heard l asked e =
-    sym (found_first (λ n. not (fits due new.cells.group n)) xs i d l (λ n m. ap not (fits_more due n old.cells.group new.cells.group (heard.each n) (asked n m))) (ap not e))
+pub first_found : (due : ℕ) (xs : List ℕ) (i d least : ℕ) (old new : PlaceState) → HasHeard old new → i < length xs → ((n : ℕ) → In n (take i xs) → fits (due + least) old.cells.group n ≡ true)
+    → fits due new.cells.group (get_or xs i d) ≡ false → find (λ n. not (fits due new.cells.group n)) xs ≡ Some (get_or xs i d)
+first_found due xs i d least old new heard l asked e =
+    let fewer : due ≤ due + least = omega arith in
+    found_first (λ n. not (fits due new.cells.group n)) xs i d l (λ n m. ap not (fits_more due n old.cells.group new.cells.group (heard.each n) (fits_less due (due + least) old.cells.group n fewer (asked n m)))) (ap not e)
+
+-- all were asked
+pub all_asked : (due : ℕ) (xs : List ℕ) (i : ℕ) (g : GroupState) → length xs ≤ i → ((n : ℕ) → In n (take i xs) → fits due g n ≡ true) → (n : ℕ) → In n xs → fits due g n ≡ true
+all_asked due xs i g l asked n m = asked n (subst (In n) (sym (take_all i xs l)) m)
 
 -- where all have room, nobody is found
-pub nobody_found : (due : ℕ) (xs : List ℕ) (i : ℕ) (g : GroupState) → length xs ≤ i → ((n : ℕ) → In n (take i xs) → fits due g n ≡ true) → None ≡ find (λ n. not (fits due g n)) xs
-nobody_found due xs i g l asked =
-    sym (found_none (λ n. not (fits due g n)) xs (λ n m. ap not (asked n (subst (In n) (sym (take_all i xs l)) m))))
+pub nobody_found : (due least : ℕ) (xs : List ℕ) (g : GroupState) → ((n : ℕ) → In n xs → fits (due + least) g n ≡ true) → find (λ n. not (fits due g n)) xs ≡ None
+nobody_found due least xs g asked =
+    let fewer : due ≤ due + least = omega arith in
+    found_none (λ n. not (fits due g n)) xs (λ n m. ap not (fits_less due (due + least) g n fewer (asked n m)))
+
+-- whether there is a spare says whether it fits
+pub spare_says : (due n : ℕ) (g : GroupState) (o : Option ℕ) → IfSome o (λ more. fits (due + more) g n ≡ true) → IfNone o (fits due g n ≡ false) → is_some o ≡ fits due g n
+spare_says due n g None some none = sym none
+spare_says due n g (Some more) some none = let fewer : due ≤ due + more = omega arith in sym (fits_less due (due + more) g n fewer some)
+
+-- a reservation of the spare is allowed
+pub spare_answers : (capacity spare : ℕ) (state : RoomState) (g : GroupState) → due_at state g < capacity → 0 < spare → HaveSpare spare state g → Ok tt ≡ reserve_answer capacity state g
+spare_answers capacity spare state g less some have =
+    let fewer : due_at state g + 1 ≤ due_at state g + spare = omega (arith, some) in
+    let nobody = found_none (λ n. not (fits (due_at state g + 1) g n)) state.waited (λ n m. ap not (fits_less (due_at state g + 1) (due_at state g + spare) g n fewer (have n m))) in
+    let many : nat_lt (due_at state g) capacity ≡ true = grind (arith, nat_tests) in
+    rw (many, nobody) refl
+
+-- where all have room, nobody is passed over
+pub spare_passes : (with_reserved : Bool) (state : RoomState) (g : GroupState) → (with_reserved && nat_lt 0 state.reserved) ≡ false → HaveSpare 0 state g → state ≡ room_after_enter with_reserved g state
+spare_passes with_reserved state g none have =
+    let plain : due_at state g + 0 ≡ due_at state g = omega arith in
+    let all = filter_all (fits (due_at state g) g) state.waited (λ n m. subst (λ (k : ℕ). fits k g n ≡ true) plain (have n m)) in
+    rw none (ap (λ (ns : List ℕ). record { reserved = state.reserved; waited = ns }) (sym all))
 
 -- who was asked before shows the same as another is told
 pub told_same : (due : ℕ) (number n : ℕ) (g new : GroupState) → IsTold number g new → number ≢ n → fits due new n ≡ fits due g n

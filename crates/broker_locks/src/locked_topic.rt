@@ -10,7 +10,7 @@ ghost use Rattle.mcast_group.specs.Machine.{cancel_fault, next_number};
 ghost use Rattle.delivery.specs.Topics.{max_topics};
 ghost use Rattle.trace_audit.specs.declared.fault.AddFault.TheVariants.{Misfit};
 ghost use Rattle.broker_locks.specs.Place.{HasDoneNothing, HasTurned, IsIdle, new_place, place_after_cancel, place_after_propose, place_after_subscribe, place_after_unsubscribe, place_fault, place_subscribe_fault, topic_limit};
-ghost use Rattle.broker_locks.specs.Room.{HasHeard, IsFirstOfLacking, KeepsRoom, lacking_room, one_given_back, one_reserved, reserve_answer, room_after_enter, waiting_for, waiting_without};
+ghost use Rattle.broker_locks.specs.Room.{HasHeard, IsFirstOfLacking, KeepsRoom, lacking_room, more_reserved, one_given_back, one_reserved, reserve_answer, room_after_enter, waiting_for, waiting_without};
 
 use crate::counts::Counts;
 use crate::place::Place;
@@ -34,16 +34,18 @@ pub const LOG_LIMIT: usize = 65_536;
 /// A topic's place, of at most 65,536 parts and rows, what room is reserved there and who is waited for, which of its
 /// subscriptions is next, from 0, if one is left, and its share of the tickets, which are those that it gave. Each
 /// subscription that is waited for is open, and its queue has room for all parts that are pending and for those for
-/// which room is reserved.
+/// which room is reserved, and for the spare beside them, which is used up before anybody is asked what was taken.
 pub(crate) struct LockedTopic<R: Wait, T: Side> {
     pub(crate) place: Place<R>,
     pub(crate) room: Room,
+    /// So many more parts could be reserved.
+    pub(crate) spare: u64,
     pub(crate) next: Option<u64>,
     pub(crate) share: Share<T>,
     ghost limit: { place.cells.group.topic.log_limit ≡ 65536 },
     ghost one: { share.parts ≡ 1 },
     ghost counted: { share.amount ≡ place.tickets },
-    ghost roomy: { ∥ KeepsRoom room place.cells.group ∥₁ },
+    ghost roomy: { ∥ KeepsRoom (more_reserved spare room) place.cells.group ∥₁ },
 }
 
 impl<R: Wait, T: Side> Drop for LockedTopic<R, T> {
@@ -52,6 +54,7 @@ impl<R: Wait, T: Side> Drop for LockedTopic<R, T> {
         let LockedTopic {
             place,
             room,
+            spare: _,
             next: _,
             share,
         } = self;
@@ -76,6 +79,7 @@ impl<R: Wait, T: Side> LockedTopic<R, T> {
         LockedTopic {
             place: Place::new(alloc, topic, clock, LOG_LIMIT, keep_trace),
             room: Room::new(alloc),
+            spare: 0,
             next: Some(0),
             share,
         }
@@ -90,6 +94,7 @@ impl<R: Wait, T: Side> LockedTopic<R, T> {
         let LockedTopic {
             place,
             room: _,
+            spare: _,
             next: _,
             share: _,
         } = self;
@@ -109,6 +114,7 @@ impl<R: Wait, T: Side> LockedTopic<R, T> {
         let LockedTopic {
             place,
             room: _,
+            spare: _,
             next: _,
             share,
         } = self;
@@ -150,6 +156,7 @@ impl<R: Wait, T: Side> LockedTopic<R, T> {
         let LockedTopic {
             place,
             room,
+            spare,
             next: _,
             share,
         } = self;
@@ -161,7 +168,7 @@ impl<R: Wait, T: Side> LockedTopic<R, T> {
         (*mine, *share) = counter.into_shares();
         match answer {
             Ok(ticket) => {
-                room.enter(rt, with_reserved, place);
+                room.enter(rt, with_reserved, place, spare);
                 Ok(ticket)
             }
             Err(fault) => Err(fault),
@@ -248,7 +255,8 @@ impl<R: Wait, T: Side> LockedTopic<R, T> {
         ensures ok { OnOk result (self.new.room ≡ one_reserved self.old.room) }
         ensures err { OnErr result (self.new.room ≡ self.old.room) }
     {
-        self.room.reserve(rt, capacity, &mut self.place)
+        self.room
+            .reserve(rt, capacity, &mut self.place, &mut self.spare)
     }
 
     /// Gives back what was reserved for one part, where it is reserved.
@@ -266,7 +274,8 @@ impl<R: Wait, T: Side> LockedTopic<R, T> {
         ensures yes { result ≡ true → self.new.room ≡ waiting_for number self.old.room }
         ensures no { result ≡ false → self.new.room ≡ self.old.room }
     {
-        self.room.wait_for(rt, number, &mut self.place)
+        self.room
+            .wait_for(rt, number, &mut self.place, &mut self.spare)
     }
 
     /// Adds the numbers of those that are waited for and lack room for one part more to a list, where a topic has room

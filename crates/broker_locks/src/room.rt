@@ -1,11 +1,11 @@
 //! Room that is reserved at a topic, and who is waited for there.
 
-ghost use Rattle.std.specs.Prelude.{◌≡◌, ◌+◌, ◌++◌, ◌==◌, ℕ, [], true, false, filter, not, Some, None, IfOk, OnOk, OnErr};
+ghost use Rattle.std.specs.Prelude.{◌≡◌, ◌≤◌, ◌<◌, ◌+◌, ◌++◌, ◌==◌, ◌&&◌, nat_lt, ℕ, [], true, false, filter, not, Some, None, IfOk, IfErr, IfSome, IfNone, OnOk, OnErr};
 ghost use Rattle.std.specs.List.{find, list_any};
 ghost use Rattle.mcast_txn.proofs.Rising.{Finds, IsGap};
-ghost use Rattle.mcast_txn.specs.Lists.{RisesBy};
+ghost use Rattle.mcast_txn.specs.Lists.{In, RisesBy};
 ghost use Rattle.mcast_group.specs.Group.{IsTold};
-ghost use Rattle.broker_locks.specs.Inner.Waited.{waited_number};
+ghost use Rattle.broker_locks.specs.Inner.Waited.{HaveSpare, spare_after_enter, waited_number};
 ghost use Rattle.broker_locks.specs.Room.{HasHeard, HasRoom, IsFirstOfLacking, IsPushed, due_at, fits, is_waited_for};
 ghost use Rattle.broker_locks.specs.Room.{lacking_room, one_given_back, one_reserved, passing_over, reserve_answer, room_after_enter, waiting_for, waiting_without};
 
@@ -68,28 +68,41 @@ impl Room {
         u128::from(pending) + u128::from(self.reserved)
     }
 
-    /// Reserves room for one part more, where a topic has room for so many. Those that are waited for are asked first
-    /// what was taken. Refused by the first of them that lacks room, or by none where as many are due.
+    /// Reserves room for one part more, where a topic has room for so many. `spare` is how many items more than parts
+    /// are due each that is waited for takes at least: where it is 0, they are asked what was taken, and it is found
+    /// anew. Refused by the first of them that lacks room, or by none where as many are due.
     pub(crate) fn reserve<R: Wait>(
         &mut self,
         rt: &R,
         capacity: usize,
         place: &mut Place<R>,
+        spare: &mut u64,
     ) -> Result<(), Option<u64>>
+        requires { HaveSpare spare.old self.old place.old.cells.group }
         ensures heard { HasHeard place.old place.new }
         ensures answer { result ≡ reserve_answer capacity self.old place.new.cells.group }
         ensures ok { OnOk result (self.new ≡ one_reserved self.old) }
+        ensures spare { OnOk result (HaveSpare spare.new self.new place.new.cells.group) }
         ensures err { OnErr result (self.new ≡ self.old) }
+        ensures same { OnErr result (spare.new ≡ spare.old) }
     {
         let due = self.due(place);
         if due >= capacity as u128 {
             return Err(None);
         }
-        if let Some(number) = first_lacking(rt, due + 1, &self.waited, place) {
-            return Err(Some(number));
+        if *spare > 0 {
+            *spare -= 1;
+            self.reserved += 1;
+            return Ok(());
         }
-        self.reserved += 1;
-        Ok(())
+        match least_spare(rt, due + 1, &self.waited, place) {
+            Ok(least) => {
+                *spare = least;
+                self.reserved += 1;
+                Ok(())
+            }
+            Err(number) => Err(Some(number)),
+        }
     }
 
     /// Gives back what was reserved for one part, where it is reserved.
@@ -99,17 +112,36 @@ impl Room {
         self.reserved = self.reserved.saturating_sub(1);
     }
 
-    /// A part was entered: with a reservation, where there is one, that is used up; else who has no room now is passed
-    /// over.
-    pub(crate) fn enter<R: Wait>(&mut self, rt: &R, with_reserved: bool, place: &mut Place<R>)
+    /// Whether a part that is entered with a reservation, or without, uses one up.
+    fn has_reserved(&self, with_reserved: bool) -> bool
+        ensures { result ≡ with_reserved && nat_lt 0 self.now.reserved }
+    {
+        with_reserved && self.reserved > 0
+    }
+
+    /// A part was entered: with a reservation, where there is one, that is used up; else the spare, of which one is
+    /// used up; and else who has no room now is passed over.
+    pub(crate) fn enter<R: Wait>(
+        &mut self,
+        rt: &R,
+        with_reserved: bool,
+        place: &mut Place<R>,
+        spare: &mut u64,
+    )
+        requires { 0 < spare.old → HaveSpare 0 self.old place.old.cells.group }
         ensures heard { HasHeard place.old place.new }
         ensures room { self.new ≡ room_after_enter with_reserved place.new.cells.group self.old }
+        ensures spare { spare.new ≡ spare_after_enter with_reserved self.old spare.old }
     {
-        if with_reserved && self.reserved > 0 {
+        if self.has_reserved(with_reserved) {
             self.give_back();
-        } else {
-            self.pass_over_full(rt, place);
+            return;
         }
+        if *spare > 0 {
+            *spare -= 1;
+            return;
+        }
+        self.pass_over_full(rt, place);
     }
 
     /// Those that are waited for and have no room for all parts that are due are passed over, once they were asked
@@ -139,20 +171,34 @@ impl Room {
     }
 
     /// Whether the subscription is waited for from now on: it is open, and has room for all parts that are due, once
-    /// it was asked what was taken. So it is where it was waited for. Not where there is no memory for one place more
-    /// in the list of them.
-    pub(crate) fn wait_for<R: Wait>(&mut self, rt: &R, number: u64, place: &mut Place<R>) -> bool
+    /// it was asked what was taken; the spare is then no more than it has beside them. So it is where it was waited
+    /// for. Not where there is no memory for one place more in the list of them.
+    pub(crate) fn wait_for<R: Wait>(
+        &mut self,
+        rt: &R,
+        number: u64,
+        place: &mut Place<R>,
+        spare: &mut u64,
+    ) -> bool
         ensures heard { HasHeard place.old place.new }
         ensures yes { result ≡ true → self.new ≡ waiting_for number self.old }
         ensures has { result ≡ true → is_waited_for number self.old ≡ false
-            → HasRoom (due_at self.old place.new.cells.group) place.new.cells.group number }
+            → HasRoom (due_at self.old place.new.cells.group + spare.new) place.new.cells.group number }
         ensures was { result ≡ false → is_waited_for number self.old ≡ false }
         ensures no { result ≡ false → self.new ≡ self.old }
+        ensures spare { spare.new ≤ spare.old }
     {
         let Err(index) = self.search(number) else {
             return true;
         };
-        is_ready(rt, self.due(place), number, place) && self.put(index, number)
+        let Some(more) = ready_spare(rt, self.due(place), number, place) else {
+            return false;
+        };
+        if !self.put(index, number) {
+            return false;
+        }
+        *spare = (*spare).min(more);
+        true
     }
 
     /// Puts a number among those that are waited for, at the index where it comes. Not where there is no memory for
@@ -234,12 +280,32 @@ impl Room {
     }
 }
 
-/// Whether the subscription of this number is open, and takes so many items more, once it was asked what was taken.
-fn is_ready<R: Wait>(rt: &R, due: u128, number: u64, place: &mut Place<R>) -> bool
+/// How many items more than these the outlet of the subscription of this number takes at least, where it is open and
+/// takes these, once it was asked what was taken.
+fn ready_spare<R: Wait>(rt: &R, due: u128, number: u64, place: &mut Place<R>) -> Option<u64>
     ensures heard { HasHeard place.old place.new }
-    ensures has { result ≡ true → HasRoom due place.new.cells.group number }
+    ensures has { IfSome result (λ more. HasRoom (due + more) place.new.cells.group number) }
 {
-    place.state(number) == Some(SubState::Open) && takes(rt, due, number, place)
+    if place.state(number) != Some(SubState::Open) {
+        return None;
+    }
+    spare_of(rt, due, number, place)
+}
+
+/// How many items more than these the outlet of the subscription of this number takes at least, if there is one that
+/// takes these, once it was asked what was taken.
+fn spare_of<R: Wait>(rt: &R, due: u128, number: u64, place: &mut Place<R>) -> Option<u64>
+    ensures told { IsTold number place.old.cells.group place.new.cells.group }
+    ensures heard { HasHeard place.old place.new }
+    ensures some { IfSome result (λ more. fits (due + more) place.new.cells.group number ≡ true) }
+    ensures none { IfNone result (fits due place.new.cells.group number ≡ false) }
+{
+    let room = place.room(rt, number)?;
+    if room as u128 >= due {
+        Some((room as u128 - due) as u64)
+    } else {
+        None
+    }
 }
 
 /// Whether the outlet of the subscription of this number, if there is one, takes so many items more, once it was asked
@@ -249,23 +315,27 @@ fn takes<R: Wait>(rt: &R, due: u128, number: u64, place: &mut Place<R>) -> bool
     ensures heard { HasHeard place.old place.new }
     ensures answer { result ≡ fits due place.new.cells.group number }
 {
-    match place.room(rt, number) {
-        Some(room) => due <= room as u128,
-        None => false,
-    }
+    spare_of(rt, due, number, place).is_some()
 }
 
-/// The first of these subscriptions that doesn't take so many items more.
-fn first_lacking<R: Wait>(rt: &R, due: u128, waited: &[u64], place: &mut Place<R>) -> Option<u64>
+/// How many items more than these each of these subscriptions takes at least; or the first of them that doesn't take
+/// these.
+fn least_spare<R: Wait>(rt: &R, due: u128, waited: &[u64], place: &mut Place<R>) -> Result<u64, u64>
     ensures heard { HasHeard place.old place.new }
-    ensures first { result ≡ find (λ n. not (fits due place.new.cells.group n)) waited.now }
+    ensures each { IfOk result (λ least. (n : ℕ) → In n waited.now
+        → fits (due + least) place.new.cells.group n ≡ true) }
+    ensures none { OnOk result (find (λ n. not (fits due place.new.cells.group n)) waited.now ≡ None) }
+    ensures first { IfErr result
+        (λ number. find (λ n. not (fits due place.new.cells.group n)) waited.now ≡ Some number) }
 {
+    let mut least = u64::MAX;
     for &number in waited {
-        if !takes(rt, due, number, place) {
-            return Some(number);
+        match spare_of(rt, due, number, place) {
+            Some(more) => least = least.min(more),
+            None => return Err(number),
         }
     }
-    None
+    Ok(least)
 }
 
 /// Keeps those that take so many items more.

@@ -1,8 +1,6 @@
-use Rattle.broker_locks.proofs.Hearing.{heard_told}
+use Rattle.std.proofs.Common.{sym, ◌∙◌}
+use Rattle.broker_locks.proofs.Waiting.{spare_says}
 use Rattle.broker_locks.proofs.room.takes.Goals as goal
 
-pub returns-in-Some-clause-heard : goal.returns-in-Some-clause-heard
-returns-in-Some-clause-heard g c = heard_told c.args.number c.args.place.now c.room.new.self c.room.ensures.told c.room.ensures.same
-
-pub returns-in-None-clause-heard : goal.returns-in-None-clause-heard
-returns-in-None-clause-heard g c = heard_told c.args.number c.args.place.now c.room.new.self c.room.ensures.told c.room.ensures.same
+pub returns-clause-answer : goal.returns-clause-answer
+returns-clause-answer g c = c.is_some.ensures ∙ spare_says c.args.due c.args.number c.spare_of.new.place.cells.group c.spare_of.result c.spare_of.ensures.some c.spare_of.ensures.none

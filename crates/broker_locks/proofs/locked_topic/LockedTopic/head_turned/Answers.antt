@@ -1,5 +1,6 @@
 use Rattle.std.proofs.Common.{sym, ◌∙◌}
 use Rattle.std.proofs.Math.Logic.{∥∥₁_map}
+use Rattle.broker_locks.specs.Room.{more_reserved}
 use Rattle.broker_locks.proofs.Roomy.{keeps_head}
 use Rattle.broker_locks.proofs.Limits.{head_limit, head_tickets}
 use Rattle.broker_locks.proofs.locked_topic.LockedTopic.head_turned.Goals as goal
@@ -12,4 +13,4 @@ invariant_of-self-clause-counted g c = c.args.self.now.counted ∙ sym (head_tic
 
 pub invariant_of-self-clause-roomy : goal.invariant_of-self-clause-roomy
 invariant_of-self-clause-roomy g c =
-    ∥∥₁_map c.args.self.now.roomy (λ k. keeps_head c.args.self.now.room c.args.self.now.place c.head_turned.new.self c.head_turned.result.0 c.head_turned.result.1 k c.head_turned.ensures.turned)
+    ∥∥₁_map c.args.self.now.roomy (λ k. keeps_head (more_reserved c.args.self.now.spare c.args.self.now.room) c.args.self.now.place c.head_turned.new.self c.head_turned.result.0 c.head_turned.result.1 k c.head_turned.ensures.turned)

@@ -1,5 +1,6 @@
 use Rattle.std.proofs.Common.{sym, ◌∙◌}
 use Rattle.std.proofs.Math.Logic.{∥∥₁_map}
+use Rattle.broker_locks.specs.Room.{more_reserved}
 use Rattle.broker_locks.proofs.Hearing.{keeps_heard}
 use Rattle.broker_locks.proofs.RoomKept.{heard_limit, heard_tickets, keeps_pass_over}
 use Rattle.broker_locks.proofs.locked_topic.LockedTopic.pass_over.Goals as goal
@@ -12,5 +13,5 @@ invariant_of-self-clause-counted g c = c.args.self.now.counted ∙ sym (heard_ti
 
 pub invariant_of-self-clause-roomy : goal.invariant_of-self-clause-roomy
 invariant_of-self-clause-roomy g c =
-    ∥∥₁_map c.args.self.now.roomy (λ k. keeps_pass_over c.pass_over.result c.args.number c.args.self.now.room c.pass_over.new.self c.pass_over.new.place.cells.group c.pass_over.ensures.yes c.pass_over.ensures.no
-    (keeps_heard c.args.self.now.room c.args.self.now.place c.pass_over.new.place c.pass_over.ensures.heard k))
+    ∥∥₁_map c.args.self.now.roomy (λ k. keeps_pass_over c.pass_over.result c.args.number c.args.self.now.spare c.args.self.now.room c.pass_over.new.self c.pass_over.new.place.cells.group c.pass_over.ensures.yes c.pass_over.ensures.no
+    (keeps_heard (more_reserved c.args.self.now.spare c.args.self.now.room) c.args.self.now.place c.pass_over.new.place c.pass_over.ensures.heard k))

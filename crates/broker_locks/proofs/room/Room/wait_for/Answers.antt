@@ -11,8 +11,8 @@ pub returns-in_default-clause-has : goal.returns-in_default-clause-has
 returns-in_default-clause-has g c is e =
     absurd (true≢false (sym (waited_at c.args.self.now.waited c.args.number c.in_default.field-0 c.in_default.ensures.found) ∙ e))
 
-pub returns-then-is_ready-clause-was : goal.returns-then-is_ready-clause-was
-returns-then-is_ready-clause-was g c is = unwaited_at c.args.self.now.waited c.args.number c.in-Err.index c.in-Err.ensures.absent
+pub returns-in_default-ready_spare-clause-was : goal.returns-in_default-ready_spare-clause-was
+returns-in_default-ready_spare-clause-was g c is = unwaited_at c.args.self.now.waited c.args.number c.in-Err.index c.in-Err.ensures.absent
 
-pub returns-else-is_ready-clause-was : goal.returns-else-is_ready-clause-was
-returns-else-is_ready-clause-was g c is = unwaited_at c.args.self.now.waited c.args.number c.in-Err.index c.in-Err.ensures.absent
+pub returns-then-not-put-clause-was : goal.returns-then-not-put-clause-was
+returns-then-not-put-clause-was g c is = unwaited_at c.args.self.now.waited c.args.number c.in-Err.index c.in-Err.ensures.absent
