@@ -1,13 +1,11 @@
 -- Outlets that are told what was taken have no less room.
-use Rattle.std.proofs.Common.{◌≡◌, ◌≢◌, ℕ, ◌+◌, ◌-◌, ◌<◌, ◌≤◌, ◌==◌, nat_lt, not, Bool, true, false, List, [], ◌∷◌, length, Option, Some, None, IfSome, refl, sym, ap, subst, ◌∙◌, arith}
+use Rattle.std.proofs.Common.{◌≡◌, ℕ, ◌+◌, ◌≤◌, ◌==◌, Bool, true, false, length, Option, Some, None, IfSome, refl, sym, ap, subst, ◌∙◌, arith}
 use Rattle.std.specs.Option.{option_map, option_map_or}
-use Rattle.std.proofs.lemmas.Bool.{ne_eqb, eqb-true, true≢false, le-ltb, ltb-false}
+use Rattle.std.proofs.lemmas.Bool.{eqb-true, true≢false}
 use Rattle.std.proofs.lemmas.Bool.Decides.{nat_tests}
-use Rattle.mcast_txn.specs.Lists.{In}
 use Rattle.sub_queue.specs.Shown.{Gauge, Shown, known_taken, room, shown_told}
 use Rattle.mcast_group.specs.Group.{GroupState, IsTold, gauge_at, group_told, shown_at, shown_with, shows}
 use Rattle.mcast_group.specs.Machine.{Entry, find_entry}
-use Rattle.mcast_group.proofs.Parts.{none_some, some_same}
 use Rattle.mcast_group.proofs.Telling.{shown_after_told}
 use Rattle.broker_locks.specs.Place.{PlaceState}
 use Rattle.broker_locks.specs.Room.{HasHeard, HasRoom, KeepsRoom, KnowsMore, KnowsMoreOf, RoomState, due_at, fits, takes_more}

@@ -19,3 +19,4 @@ pub mod Waiting
 pub mod Roomy
 pub mod RoomKept
 mod Examples
+mod ExamplesRoom

@@ -1,31 +1,27 @@
 -- Each call of a topic behind a lock keeps room for whoever is waited for.
-use Rattle.std.proofs.Common.{◌≡◌, ◌≢◌, ℕ, zero, suc, ◌+◌, ◌-◌, ◌<◌, ◌≤◌, ◌==◌, ◌&&◌, nat_lt, not, Bool, true, false, cond, inl, inr, List, [], ◌∷◌, length, Option, Some, None, Result, Ok, Err, OnOk, OnErr, refl, sym, ap, subst, ◌∙◌, arith}
-use Rattle.std.specs.List.{filter, find, list_any}
+use Rattle.std.proofs.Common.{◌≡◌, ◌≢◌, ℕ, zero, suc, ◌+◌, ◌-◌, ◌<◌, ◌≤◌, ◌==◌, ◌&&◌, nat_lt, not, Bool, true, false, cond, inl, inr, [], length, Option, Some, None, Result, Ok, Err, OnOk, OnErr, refl, sym, ap, subst, ◌∙◌, arith}
 use Rattle.std.specs.Option.{is_some, option_map_or}
-use Rattle.std.proofs.lemmas.Bool.{eq-eqb, eqb-true, ne_eqb, true≢false, false≢true, not-true}
+use Rattle.std.proofs.lemmas.Bool.{eq-eqb, true≢false, not-true}
 use Rattle.std.proofs.lemmas.Bool.Decides.{nat_tests}
 use Rattle.std.proofs.Math.Bool.{Bool-set}
 use Rattle.std.proofs.Math.Logic.{∥∥₁_elim}
 use Rattle.mcast_txn.specs.Lists.{In, insert_by_number}
 use Rattle.mcast_txn.proofs.Inserting.{In-insert_cases}
-use Rattle.mcast_txn.proofs.Members.{In-filter_cases, any_from}
-use Rattle.mcast_txn.specs.declared.id.TxnId.{TxnId}
+use Rattle.mcast_txn.proofs.Members.{In-filter_cases}
 use Rattle.mcast_txn.specs.declared.stamp.Stamp.{Stamp}
 use Rattle.sub_queue.specs.Shown.{Gauge, Shown, room}
 use Rattle.mcast_group.specs.CellGroup.{ProposalState}
 use Rattle.mcast_group.specs.Group.{GroupState, gauge_at, shown_at, shown_with, shows}
-use Rattle.mcast_group.specs.Machine.{Entry, find_entry, next_number, subscribe_fault}
-use Rattle.mcast_group.specs.Sound.{IsSound}
-use Rattle.mcast_group.specs.declared.fault.SubFault.{SubFault}
+use Rattle.mcast_group.specs.Machine.{Entry, find_entry, next_number}
 use Rattle.mcast_group.specs.declared.fault.SubFault.TheVariants.{SubInUse}
 use Rattle.mcast_group.proofs.Parts.{none_some}
 use Rattle.broker_locks.specs.KeptTrace.{was_used}
-use Rattle.broker_locks.specs.Place.{IsBalanced, PlaceState, place_after_cancel, place_after_propose, place_after_subscribe, place_after_unsubscribe, place_subscribe_fault}
+use Rattle.broker_locks.specs.Place.{IsBalanced, PlaceState, place_after_propose, place_after_subscribe, place_after_unsubscribe, place_subscribe_fault}
 use Rattle.broker_locks.specs.Room.{HasHeard, HasRoom, KeepsRoom, RoomState, due_at, fits, is_waited_for, one_given_back, one_reserved, passing_over, more_reserved, room_after_enter, takes_more, waiting_for, waiting_without}
 use Rattle.broker_locks.specs.Inner.Waited.{HaveSpare, spare_after_enter}
 use Rattle.broker_locks.proofs.Hearing.{fits_less, keeps_heard, room_more}
-use Rattle.broker_locks.proofs.Lookups.{Has, beside_ended, beside_new}
-use Rattle.broker_locks.proofs.Roomy.{entered_longer, keeps_cancelled, keeps_of, room_of}
+use Rattle.broker_locks.proofs.Lookups.{beside_ended, beside_new}
+use Rattle.broker_locks.proofs.Roomy.{entered_longer, keeps_of, room_of}
 
 -- ---- what fits
 

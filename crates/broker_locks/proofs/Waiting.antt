@@ -1,7 +1,7 @@
 -- Whoever is waited for: numbers that rise, of which each is asked in its turn.
 use Rattle.std.proofs.Common.{◌≡◌, ◌≢◌, ℕ, zero, suc, ◌+◌, ◌<◌, ◌≤◌, ◌==◌, nat_lt, not, ◌&&◌, Bool, true, false, cond, inl, inr, ◌⊎◌, List, [], ◌∷◌, ◌++◌, length, take, drop, get_or, Option, Some, None, refl, sym, ap, subst, ◌∙◌, append-nil, append_assoc, min, IfSome, IfNone, Result, Ok, Err, OnErr, ◌||◌, arith}
 use Rattle.std.specs.List.{AllByRecursion, filter, find, list_any}
-use Rattle.std.proofs.lemmas.Bool.{eq-eqb, eqb-true, ne_eqb, true≢false, not-false, not-true}
+use Rattle.std.proofs.lemmas.Bool.{eq-eqb, eqb-true, ne_eqb, true≢false}
 use Rattle.std.proofs.lemmas.Bool.Decides.{nat_tests}
 use Rattle.std.proofs.lemmas.List.{get_or-drop, take-append-drop, take_all}
 use Rattle.std.proofs.lemmas.List.Elements.{filter-append, filter_more}
@@ -10,14 +10,13 @@ use Rattle.std.specs.List.{insert}
 use Rattle.std.specs.Option.{is_some, option_map_or}
 use Rattle.std.specs.Result.{is_ok}
 use Rattle.sub_queue.specs.Shown.{Shown}
-use Rattle.mcast_txn.specs.Lists.{In, RisesBy, insert_by_number}
+use Rattle.mcast_txn.specs.Lists.{In, RisesBy}
 use Rattle.mcast_txn.proofs.Inserting.{puts_in_gap, rises_inserted}
-use Rattle.mcast_txn.proofs.Members.{In-filter_cases, In-get_or, any_found, any_from, filter_all, filter_same}
+use Rattle.mcast_txn.proofs.Members.{In-get_or, any_found, any_from, filter_all, filter_same}
 use Rattle.mcast_txn.proofs.Rising.{Finds, IsAt, IsGap, none_in_gap}
-use Rattle.mcast_group.specs.Group.{GroupState, IsTold, group_told, shown_at}
-use Rattle.mcast_group.specs.Machine.{Entry}
+use Rattle.mcast_group.specs.Group.{GroupState, IsTold}
 use Rattle.broker_locks.specs.Place.{PlaceState}
-use Rattle.broker_locks.specs.Room.{HasHeard, IsFirstOfLacking, IsPushed, RoomState, due_at, fits, is_waited_for, lacking_room, reserve_answer, room_after_enter, takes_more, waiting_for}
+use Rattle.broker_locks.specs.Room.{HasHeard, IsPushed, RoomState, due_at, fits, is_waited_for, lacking_room, reserve_answer, room_after_enter, takes_more, waiting_for}
 use Rattle.broker_locks.specs.Inner.Waited.{HaveSpare, waited_number}
 use Rattle.broker_locks.proofs.Hearing.{fits_less, fits_more}
 use Rattle.broker_locks.proofs.Lookups.{shown_beside}

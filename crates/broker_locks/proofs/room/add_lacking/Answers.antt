@@ -1,4 +1,4 @@
-use Rattle.std.proofs.Common.{◌≡◌, List, ℕ, sym, ap, subst, ◌∙◌}
+use Rattle.std.proofs.Common.{sym, ap, ◌∙◌}
 use Rattle.broker_locks.proofs.Hearing.{heard_then}
 use Rattle.broker_locks.proofs.Waiting.{lack_none, lack_one, on_err_anyway, pushed_first}
 use Rattle.broker_locks.proofs.room.add_lacking.Goals.{then-not-takes+in_ok-push, else-not-takes}

@@ -1,4 +1,3 @@
-use Rattle.std.proofs.Common.{sym, ◌∙◌}
 use Rattle.broker_locks.proofs.Hearing.{heard_then}
 use Rattle.broker_locks.proofs.Waiting.{all_asked, first_found, nobody_found, spare_more}
 use Rattle.broker_locks.proofs.room.least_spare.Goals as goal

@@ -1,4 +1,4 @@
-use Rattle.std.proofs.Common.{sym, ◌∙◌}
+use Rattle.std.proofs.Common.{◌∙◌}
 use Rattle.broker_locks.proofs.Waiting.{spare_says}
 use Rattle.broker_locks.proofs.room.takes.Goals as goal
 

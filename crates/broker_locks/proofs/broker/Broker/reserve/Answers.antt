@@ -1,4 +1,3 @@
-use Rattle.std.proofs.Common.{arith}
 use Rattle.mcast_txn.proofs.Members.{In-get_or}
 use Rattle.broker_locks.proofs.broker.Broker.reserve.Goals as goal
 

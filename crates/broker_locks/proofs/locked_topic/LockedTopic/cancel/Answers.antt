@@ -1,4 +1,3 @@
-use Rattle.std.proofs.Common.{refl}
 use Rattle.std.proofs.Math.Logic.{∥∥₁_map}
 use Rattle.broker_locks.specs.Place.{PlaceState, place_after_cancel}
 use Rattle.broker_locks.specs.Room.{KeepsRoom, more_reserved}

@@ -1,9 +1,8 @@
-use Rattle.std.proofs.Common.{◌≡◌, ◌==◌, ℕ, not, List, sym, ap, subst, ◌∙◌, rules}
-use Rattle.std.specs.List.{filter}
+use Rattle.std.proofs.Common.{◌==◌, ℕ, not, List, sym, ap, subst, ◌∙◌, rules}
 use Rattle.std.proofs.lemmas.Fn.{filter_same}
 use Rattle.mcast_txn.specs.Lists.{RisesBy}
 use Rattle.broker_locks.specs.Inner.Waited.{waited_number}
-use Rattle.broker_locks.specs.Room.{RoomState, waiting_without}
+use Rattle.broker_locks.specs.Room.{waiting_without}
 use Rattle.broker_locks.proofs.Waiting.{rises_filter}
 use Rattle.broker_locks.proofs.room.Room.forget.Goals as goal
 

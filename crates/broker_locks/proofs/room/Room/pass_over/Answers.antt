@@ -1,5 +1,4 @@
 use Rattle.std.proofs.Common.{◌≤◌, sym, subst, ◌∙◌}
-use Rattle.broker_locks.specs.Room.{due_at}
 use Rattle.broker_locks.proofs.Waiting.{due_heard, lacks_fitting, lacks_full, lacks_one, lacks_unwaited}
 use Rattle.broker_locks.proofs.room.Room.pass_over.Goals as goal
 
