@@ -1,7 +1,8 @@
 //! What a topic's senders wait for those who take slowly.
 
 ghost use Rattle.std.specs.Prelude.{◌≡◌, ◌-◌, false, nat_lt, if◌then◌else◌};
-ghost use Rattle.broker_server.specs.Purses.{counted, full_purse, holding, looked_at, may_wait, settled};
+ghost use Rattle.broker_server.specs.Purses.{after_look, after_time, full_purse, may_wait, purse_with};
+ghost use Rattle.broker_server.specs.Counts.{plus};
 
 use crate::serving::cost::Cost;
 use crate::serving::moment::Moment;
@@ -70,7 +71,7 @@ impl Purse {
 
     /// It holds so much from now on.
     fn hold(&mut self, left: u64)
-        ensures { self.new ≡ holding self.old left }
+        ensures { self.new ≡ purse_with self.old left }
     {
         self.left = left;
         self.spent = left == 0 || (self.spent && left < LEAST);
@@ -78,7 +79,7 @@ impl Purse {
 
     /// Pays until this moment, at this price, or comes back.
     fn settle(&mut self, now: Moment, price: Price)
-        ensures { self.new ≡ settled self.old now price }
+        ensures { self.new ≡ after_time self.old now price }
     {
         let time = now.since(self.at);
         self.at = self.at.later(now);
@@ -92,7 +93,7 @@ impl Purse {
     /// Somebody finds no room at this moment. Whether those that lack it, of whom the dearest has this price, may be
     /// waited for: else each of those that costs something is to be passed over.
     fn look(&mut self, now: Moment, price: Price) -> bool
-        ensures after { self.new ≡ looked_at self.old now price }
+        ensures after { self.new ≡ after_look self.old now price }
         ensures may { result ≡ may_wait self.new }
     {
         self.settle(now, price);
@@ -102,8 +103,8 @@ impl Purse {
 
     /// One more waits; whether those that lack room may be waited for.
     pub(crate) fn begins(&mut self, now: Moment, price: Price) -> bool
-        ensures after { let purse = looked_at self.old now price in
-            self.new ≡ record purse { waiting = counted self.old.waiting 1 } }
+        ensures after { let purse = after_look self.old now price in
+            self.new ≡ record purse { waiting = plus self.old.waiting 1 } }
         ensures may { result ≡ may_wait self.new }
     {
         let may_wait = self.look(now, price);
@@ -113,7 +114,7 @@ impl Purse {
 
     /// One that waits finds no room again; whether those that lack it may be waited for.
     pub(crate) fn goes_on(&mut self, now: Moment, price: Price) -> bool
-        ensures after { self.new ≡ looked_at self.old now price }
+        ensures after { self.new ≡ after_look self.old now price }
         ensures may { result ≡ may_wait self.new }
     {
         self.look(now, price)
@@ -121,7 +122,7 @@ impl Purse {
 
     /// One waits no longer.
     pub(crate) fn ends(&mut self, now: Moment)
-        ensures { let purse = settled self.old now self.old.price in
+        ensures { let purse = after_time self.old now self.old.price in
             self.new ≡ record purse { waiting = self.old.waiting - 1 } }
     {
         self.settle(now, self.price);
@@ -130,8 +131,8 @@ impl Purse {
 
     /// One that was waited for ends while it is behind, and pays what it owes.
     pub(crate) fn pays(&mut self, now: Moment, owed: Cost)
-        ensures { let purse = settled self.old now self.old.price in
-            self.new ≡ holding purse (purse.left - owed.0) }
+        ensures { let purse = after_time self.old now self.old.price in
+            self.new ≡ purse_with purse (purse.left - owed.0) }
     {
         self.settle(now, self.price);
         self.hold(self.left.saturating_sub(owed.0));
