@@ -1,7 +1,8 @@
 //! What the system took of a connection's octets, by tenths of a second.
 
-ghost use Rattle.std.specs.Prelude.{◌≡◌, ◌≤◌};
-ghost use Rattle.broker_server.specs.Purses.{counted_octets, lately_taken, no_tenths, tenth_octets, tenths_after};
+ghost use Rattle.std.specs.Prelude.{◌≡◌, ℕ, ◌+◌, ◌/◌, ◌<◌, ◌≤◌};
+ghost use Rattle.broker_server.specs.Counts.{plus};
+ghost use Rattle.broker_server.specs.Purses.{counted_octets, lately_taken, no_tenths, tenth, tenth_octets, tenths_after};
 
 use crate::serving::moment::Moment;
 
@@ -50,8 +51,14 @@ impl Tenths {
     }
 
     /// More octets were taken at this moment.
+    #[tactic(auto, using(crate::proofs::PurseLemmas::octets_of_this, crate::proofs::PurseLemmas::octets_of_another))]
     pub(crate) fn add(&mut self, now: Moment, octets: u64)
-        ensures { self.new.tenths ≡ tenths_after self.old.tenths now octets }
+        ensures after { self.new.tenths ≡ tenths_after self.old.tenths now octets }
+        ensures this { let number = now.0 / tenth in
+            tenth_octets self.new.tenths number ≡ plus (tenth_octets self.old.tenths number) octets }
+        // of the ten tenths before, nothing is forgotten
+        ensures others { (n : ℕ) → n < now.0 / tenth → now.0 / tenth < n + 11
+            → tenth_octets self.new.tenths n ≡ tenth_octets self.old.tenths n }
     {
         let number = now.0 / TENTH;
         let octets = self.octets_in(number).saturating_add(octets);
