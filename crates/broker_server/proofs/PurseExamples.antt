@@ -1,5 +1,5 @@
 -- Worked examples of what a topic's senders wait for those who take slowly.
-use Rattle.std.proofs.Common.{◌≡◌, ℕ, ◌*◌, true, false, List, Some, None, refl}
+use Rattle.std.proofs.Common.{◌≡◌, ℕ, ◌*◌, true, false, List, [], ◌∷◌, Some, None, refl, arith}
 use Rattle.broker_server.specs.declared.serving.moment.Moment.{Moment}
 use Rattle.broker_server.specs.declared.serving.price.Price.{Price}
 use Rattle.broker_server.specs.declared.serving.price.Price.TheVariants.{Free, Sixtieth, Full}
@@ -7,7 +7,7 @@ use Rattle.broker_server.specs.declared.serving.tenths.Tenth.{Tenth}
 use Rattle.broker_server.specs.declared.serving.pace.Pace.{Pace}
 use Rattle.broker_server.specs.declared.serving.purse.Purse.{Purse}
 use Rattle.broker_server.specs.declared.serving.account.Account.{Account}
-use Rattle.broker_server.specs.Purses.{tenth, later_moment, time_since, dearer, no_tenths, tenth_octets, tenths_after, lately_taken, has_rate, price_at, known_price, after_octets, after_falling_behind, after_catching_up, after_keeping_up, after_giving_up, full_purse, purse_with, after_time, after_look, may_wait, spared_after, spared_at, price_at_look, account_at_look, debt, is_line_due}
+use Rattle.broker_server.specs.Purses.{tenth, later_moment, time_since, dearer, no_tenths, tenth_octets, tenths_after, lately_taken, has_rate, price_at, known_price, after_octets, after_falling_behind, after_catching_up, after_keeping_up, after_giving_up, full_purse, most_lacking, purse_with, after_time, may_wait, PurseCall, Begins, GoesOn, Ends, Pays, after_call, after_calls, AreInTime, waited_cost, spared_after, spared_at, price_at_look, account_at_look, debt, is_line_due}
 
 -- this many tenths of a second from the clock's beginning
 abbrev at : ℕ → Moment
@@ -133,54 +133,77 @@ no_longer = refl
 
 -- a full one where somebody waits since the tenth second, at this price
 abbrev waiting_at : Price → Purse
-waiting_at price = record { left = full_purse; spent = false; at = at 100; waiting = 1; price = price }
+waiting_at price = record { lacks = 0; spent = false; at = at 100; waiting = 1; price = price }
 
 -- one that is empty, and where nobody waits since then
 abbrev spent_purse : Purse
-spent_purse = record { left = 0; spent = true; at = at 100; waiting = 0; price = Full }
+spent_purse = record { lacks = full_purse; spent = true; at = at 100; waiting = 0; price = Full }
 
 -- it pays for a second less a nanosecond at the full price, and is empty after a second
-pub pays_in_full : (after_time (waiting_at Full) (record { 0 = 10999999999 }) Full).left ≡ 600
+pub pays_in_full : may_wait (after_call (waiting_at Full) (GoesOn (record { 0 = 10999999999 }) Full)) ≡ true
 pays_in_full = refl
 
-pub is_empty : after_look (waiting_at Full) (at 110) Full ≡ record (waiting_at Full) { left = 0; spent = true; at = at 110 }
+pub is_empty : after_call (waiting_at Full) (GoesOn (at 110) Full) ≡ record (waiting_at Full) { lacks = full_purse; spent = true; at = at 110 }
 is_empty = refl
 
--- a minute at a sixtieth
-pub pays_a_minute : (after_time (waiting_at Sixtieth) (at 699) Sixtieth).left ≡ 1000000000
+pub passes_over : may_wait (after_call (waiting_at Full) (GoesOn (at 110) Full)) ≡ false
+passes_over = refl
+
+-- it pays for a minute at a sixtieth
+pub pays_a_minute : (after_time (waiting_at Sixtieth) (at 699) Sixtieth).lacks ≡ 599000000000
 pays_a_minute = refl
 
 pub empty_after_a_minute : (after_time (waiting_at Sixtieth) (at 700) Sixtieth).spent ≡ true
 empty_after_a_minute = refl
 
--- one who waits for nothing costs nothing, and a purse isn't more than full
+-- a time that costs nothing costs nothing, and a full purse isn't more than full
 pub free_for_ever : after_time (waiting_at Free) (at 100000) Free ≡ record (waiting_at Free) { at = at 100000 }
 free_for_ever = refl
 
+-- who waited for two seconds before anybody looked took what it held, and a tenth that it did not
+pub a_tenth_more : (after_time (waiting_at Full) (at 120) Full).lacks ≡ most_lacking
+a_tenth_more = refl
+
 -- an empty one is full after ten minutes, and pays nothing until one minute has passed
-pub comes_back : (after_time spent_purse (at 6100) Free).left ≡ full_purse
+pub comes_back : (after_time spent_purse (at 6100) Free).lacks ≡ 0
 comes_back = refl
 
-pub not_in_59_seconds : may_wait (after_look spent_purse (at 699) Full) ≡ false
+pub not_in_59_seconds : may_wait (after_call spent_purse (Begins (at 699) Full)) ≡ false
 not_in_59_seconds = refl
 
-pub after_a_minute : may_wait (after_look spent_purse (at 700) Full) ≡ true
+pub after_a_minute : may_wait (after_call spent_purse (Begins (at 700) Full)) ≡ true
 after_a_minute = refl
 
--- who costs nothing is waited for still
-pub free_at_an_empty_one : may_wait (after_look spent_purse (at 101) Free) ≡ true
+-- who costs nothing is waited for still, and what is empty comes back then, too
+pub free_at_an_empty_one : may_wait (after_call spent_purse (Begins (at 101) Free)) ≡ true
 free_at_an_empty_one = refl
 
--- an empty one comes back, too, where somebody waits
-pub empty_and_awaited : (after_time (record spent_purse { waiting = 1 }) (at 110) Full).left ≡ 1000000000
+pub empty_and_awaited : (after_time (record spent_purse { waiting = 1 }) (at 110) Free).lacks ≡ 599000000000
 empty_and_awaited = refl
 
 -- one that has a tenth back isn't spent, and one that paid half of that isn't either
-pub has_a_tenth : (purse_with spent_purse 60000000000).spent ≡ false
+pub has_a_tenth : (purse_with spent_purse 540000000000).spent ≡ false
 has_a_tenth = refl
 
-pub pays_on : (purse_with (purse_with spent_purse 60000000000) 30000000000).spent ≡ false
+pub pays_on : (purse_with (purse_with spent_purse 540000000000) 570000000000).spent ≡ false
 pays_on = refl
+
+-- one that ends behind, and was spared half a second, pays that
+pub pays_what_was_spared : (after_call (waiting_at Free) (Pays (at 101) 300000000000)).lacks ≡ 300000000000
+pays_what_was_spared = refl
+
+-- one waits for a tenth of a second at the full price, for another at a sixtieth, and then for nothing
+abbrev some_calls : List PurseCall
+some_calls = GoesOn (at 101) Full ∷ GoesOn (at 102) Sixtieth ∷ GoesOn (at 103) Free ∷ Ends (at 104) ∷ []
+
+pub cost_of_these : waited_cost (waiting_at Full) some_calls ≡ 61000000000
+cost_of_these = refl
+
+pub nobody_waits : (after_calls (waiting_at Full) some_calls).waiting ≡ 0
+nobody_waits = refl
+
+pub came_in_time : AreInTime (waiting_at Full) some_calls
+came_in_time = (λ some. omega arith, (λ some. omega arith, (λ some. omega arith, (λ some. omega arith, tt))))
 
 -- ---- what is spared
 

@@ -1,6 +1,6 @@
 -- What a topic's senders wait for those who take slowly. Times are in nanoseconds, and what waiting costs is in
 -- six-hundredths of one, so that a sixtieth of a time and a six-hundredth of it are whole numbers.
-use Rattle.std.specs.Prelude.{ℕ, ◌+◌, ◌-◌, ◌*◌, ◌/◌, ◌%◌, nat_lt, nat_le, min, max, Bool, false, not, ◌&&◌, ◌||◌, ◌==◌, List, sum_by, replicate, get_or, slice_set, Option, Some, None, is_some, if◌then◌else◌}
+use Rattle.std.specs.Prelude.{ℕ, ◌<◌, ◌≤◌, [], ◌∷◌, ◌+◌, ◌-◌, ◌*◌, ◌/◌, ◌%◌, nat_lt, nat_le, min, max, Bool, false, not, ◌&&◌, ◌||◌, ◌==◌, List, sum_by, replicate, get_or, slice_set, Option, Some, None, is_some, if◌then◌else◌}
 use Rattle.std.specs.List.{range_with_len}
 use Rattle.broker_server.specs.declared.serving.moment.Moment.{Moment}
 use Rattle.broker_server.specs.declared.serving.price.Price.{Price}
@@ -165,32 +165,98 @@ full_purse = 600 * second
 abbrev pub least_purse : ℕ
 least_purse = 600 * tenth
 
--- A purse that holds so much from now on. It is spent once it is empty, and until a tenth is back.
+-- what it lacks at most: who waits looks each tenth of a second, and may then have waited for a tenth more than it held
+abbrev pub most_lacking : ℕ
+most_lacking = full_purse + least_purse
+
+-- A purse that lacks so much from now on. It is spent once it lacks all, until a tenth is back.
 abbrev pub purse_with : Purse → ℕ → Purse
-purse_with purse left =
-    record purse { left = left; spent = left == 0 || (purse.spent && nat_lt left least_purse) }
+purse_with purse lacks = record purse {
+  lacks = min lacks most_lacking;
+  spent = nat_le full_purse lacks || (purse.spent && nat_lt full_purse (lacks + least_purse));
+}
 
 -- Time at this price costs something: somebody waits, and the purse isn't spent.
 abbrev pub is_paying : Purse → Price → Bool
 is_paying purse price = nat_lt 0 purse.waiting && not purse.spent && not (is_free price)
 
--- what it holds after a time at this price: the time is paid for, or a six-hundredth of it comes back
-abbrev pub left_after : Purse → Price → ℕ → ℕ
-left_after purse price time =
-    if is_paying purse price then purse.left - rate price * time else min (purse.left + time) full_purse
+-- what a time at this price costs
+abbrev pub cost_of : Purse → Price → ℕ → ℕ
+cost_of purse price time = if is_paying purse price then rate price * time else 0
+
+-- what it lacks after a time at this price: that is paid for, or a six-hundredth of it comes back
+abbrev pub lacks_after : Purse → Price → ℕ → ℕ
+lacks_after purse price time =
+    if is_paying purse price then purse.lacks + rate price * time else purse.lacks - time
 
 -- a purse after the time until this moment, at this price
 abbrev pub after_time : Purse → Moment → Price → Purse
 after_time purse now price =
-    purse_with (record purse { at = later_moment purse.at now }) (left_after purse price (now.0 - purse.at.0))
-
--- after somebody found no room, where the dearest of those that lack it has this price
-abbrev pub after_look : Purse → Moment → Price → Purse
-after_look purse now price = record (after_time purse now price) { price = price }
+    purse_with (record purse { at = later_moment purse.at now }) (lacks_after purse price (now.0 - purse.at.0))
 
 -- Those that lack room may be waited for.
 abbrev pub may_wait : Purse → Bool
 may_wait purse = is_free purse.price || not purse.spent
+
+-- what happens at a topic
+pub data PurseCall : Type 0 where
+  -- somebody finds no room, where the dearest of those that lack it has this price
+  Begins : Moment → Price → PurseCall
+  -- one that waits finds none again
+  GoesOn : Moment → Price → PurseCall
+  -- one waits no longer
+  Ends : Moment → PurseCall
+  -- one that was waited for ends while it is behind, and owes so much
+  Pays : Moment → ℕ → PurseCall
+
+-- when it happens
+abbrev pub moment_of : PurseCall → Moment
+moment_of (Begins now price) = now
+moment_of (GoesOn now price) = now
+moment_of (Ends now) = now
+moment_of (Pays now owed) = now
+
+-- the price of the time until then: the one that is found, else the one that was found last
+abbrev pub price_until : Purse → PurseCall → Price
+price_until purse (Begins now price) = price
+price_until purse (GoesOn now price) = price
+price_until purse (Ends now) = purse.price
+price_until purse (Pays now owed) = purse.price
+
+-- what else it changes
+abbrev pub change_by : PurseCall → Purse → Purse
+change_by (Begins now price) purse = record purse { price = price; waiting = plus purse.waiting 1 }
+change_by (GoesOn now price) purse = record purse { price = price }
+change_by (Ends now) purse = record purse { waiting = purse.waiting - 1 }
+change_by (Pays now owed) purse = purse_with purse (purse.lacks + owed)
+
+-- a purse after that
+abbrev pub after_call : Purse → PurseCall → Purse
+after_call purse call = change_by call (after_time purse (moment_of call) (price_until purse call))
+
+abbrev pub after_calls : Purse → List PurseCall → Purse
+after_calls purse [] = purse
+after_calls purse (call ∷ calls) = after_calls (after_call purse call) calls
+
+-- Where somebody waits, the next call comes within a tenth of a second.
+abbrev pub AreInTime : Purse → List PurseCall → Type 0
+AreInTime purse [] = Unit
+AreInTime purse (call ∷ calls) =
+    (0 < purse.waiting → (moment_of call).0 ≤ purse.at.0 + tenth) × AreInTime (after_call purse call) calls
+
+-- what all the time cost in which somebody waited
+abbrev pub waited_cost : Purse → List PurseCall → ℕ
+waited_cost purse [] = 0
+waited_cost purse (call ∷ calls) =
+    cost_of purse (price_until purse call) ((moment_of call).0 - purse.at.0)
+    + waited_cost (after_call purse call) calls
+
+-- In any stretch of what happens at a topic, all waiting for those that cost something costs a second and a tenth at
+-- most, and a six-hundredth of the stretch's time: so that who never reads holds a topic's senders up for no longer.
+abbrev pub IsBounded : Purse → Type 0
+IsBounded purse = (before calls : List PurseCall) → AreInTime (after_calls purse before) calls
+    → waited_cost (after_calls purse before) calls
+    ≤ most_lacking + ((after_calls (after_calls purse before) calls).at.0 - (after_calls purse before).at.0)
 
 -- ---- what a subscription is spared
 
