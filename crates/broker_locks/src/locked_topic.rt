@@ -12,6 +12,7 @@ ghost use Rattle.broker_locks.specs.Place.{HasDoneNothing, HasTurned, IsIdle, ne
 
 use crate::counts::Counts;
 use crate::place::Place;
+use crate::room::Room;
 use crate::side::Side;
 use crate::total::Total;
 use crate::total_counter::TotalCounter;
@@ -28,15 +29,19 @@ use trace_audit::AddFault;
 /// The most parts and undrained rows of a topic, taken together (our choice).
 pub const LOG_LIMIT: usize = 65_536;
 
-/// A topic's place, of at most 65,536 parts and rows, which of its subscriptions is next, from 0, if one is left, and
-/// its share of the tickets, which are those that it gave.
+/// A topic's place, of at most 65,536 parts and rows, what room is reserved there and who is waited for, which of its
+/// subscriptions is next, from 0, if one is left, and its share of the tickets, which are those that it gave. Each
+/// subscription that is waited for is open, and its queue has room for all parts that are pending and for those for
+/// which room is reserved.
 pub(crate) struct LockedTopic<R: Wait, T: Side> {
     pub(crate) place: Place<R>,
+    pub(crate) room: Room,
     pub(crate) next: Option<u64>,
     pub(crate) share: Share<T>,
     ghost limit: { place.cells.group.topic.log_limit ≡ 65536 },
     ghost one: { share.parts ≡ 1 },
     ghost counted: { share.amount ≡ place.tickets },
+    ghost roomy: { KeepsRoom room place.cells.group },
 }
 
 impl<R: Wait, T: Side> Drop for LockedTopic<R, T> {
@@ -44,10 +49,12 @@ impl<R: Wait, T: Side> Drop for LockedTopic<R, T> {
     fn drop(self) {
         let LockedTopic {
             place,
+            room,
             next: _,
             share,
         } = self;
         drop(place);
+        drop(room);
         drop(share);
     }
 }
@@ -66,6 +73,7 @@ impl<R: Wait, T: Side> LockedTopic<R, T> {
     {
         LockedTopic {
             place: Place::new(alloc, topic, clock, LOG_LIMIT, keep_trace),
+            room: Room::new(alloc),
             next: Some(0),
             share,
         }
@@ -79,6 +87,7 @@ impl<R: Wait, T: Side> LockedTopic<R, T> {
     {
         let LockedTopic {
             place,
+            room: _,
             next: _,
             share: _,
         } = self;
@@ -97,6 +106,7 @@ impl<R: Wait, T: Side> LockedTopic<R, T> {
     {
         let LockedTopic {
             place,
+            room: _,
             next: _,
             share,
         } = self;
@@ -104,8 +114,9 @@ impl<R: Wait, T: Side> LockedTopic<R, T> {
     }
 
     /// Enters a part, and counts its ticket as the worker's that has this share. All memory is made first; then the
-    /// total's lock is taken, for the count alone, and nothing is refused after that. Refused as by the place, and then
-    /// by 40 where the total is full; then nothing has changed, and nothing is counted.
+    /// total's lock is taken, for the count alone, and nothing is refused after that. With a reservation that is used
+    /// up; without, those that are waited for are asked what was taken, and who has no room now is passed over. Refused
+    /// as by the place, and then by 40 where the total is full; then nothing has changed, and nothing is counted.
     pub(crate) fn propose<W: Side>(
         &mut self,
         rt: &R,
@@ -113,6 +124,7 @@ impl<R: Wait, T: Side> LockedTopic<R, T> {
         mine: &mut Share<W>,
         floor: Stamp,
         proposal: Proposal,
+        with_reserved: bool,
     ) -> Result<Ticket, ProposeFault>
         requires { 0 < mine.old.parts }
         ensures parts { mine.new.parts ≡ mine.old.parts }
@@ -122,16 +134,20 @@ impl<R: Wait, T: Side> LockedTopic<R, T> {
           topic = self.old.place.cells.group.topic.topic;
           n = next_number floor self.old.place.cells.group.topic;
         }) }
-        ensures ok { OnOk result (self.new.place ≡ place_after_propose floor proposal self.old.place) }
+        ensures ok { OnOk result
+            (HasHeard (place_after_propose floor proposal self.old.place) self.new.place) }
+        ensures room { OnOk result
+            (self.new.room ≡ room_after_enter with_reserved self.new.place.cells.group self.old.room) }
         ensures counted { OnOk result (mine.new.amount ≡ mine.old.amount + 1) }
         ensures fault { IfErr result
             (λ fault. (fault ≡ or_no_memory (place_fault floor proposal.part self.old.place))
             ⊎ ((place_fault floor proposal.part self.old.place ≡ None) × (fault ≡ ClockFull))) }
-        ensures same { OnErr result (self.new.place ≡ self.old.place) }
+        ensures same { OnErr result ((self.new.place ≡ self.old.place) × (self.new.room ≡ self.old.room)) }
         ensures uncounted { OnErr result (mine.new.amount ≡ mine.old.amount) }
     {
         let LockedTopic {
             place,
+            room,
             next: _,
             share,
         } = self;
@@ -141,7 +157,9 @@ impl<R: Wait, T: Side> LockedTopic<R, T> {
         let mut counter = TotalCounter::new(rt, total, theirs, here);
         let answer = place.enter(floor, proposal, &mut counter);
         (*mine, *share) = counter.into_shares();
-        answer
+        let ticket = answer?;
+        room.enter(rt, with_reserved, place);
+        Ok(ticket)
     }
 
     /// Takes the transaction's part out, as the place does.
@@ -207,7 +225,62 @@ impl<R: Wait, T: Side> LockedTopic<R, T> {
         ensures ok { OnOk result (self.new.place ≡ place_after_unsubscribe number self.old.place) }
         ensures err { OnErr result (self.new.place ≡ self.old.place) }
     {
-        self.place.unsubscribe(number)
+        let ended = self.place.unsubscribe(number)?;
+        self.room.forget(number);
+        Ok(ended)
+    }
+
+    /// Reserves room for one part more, where a topic has room for so many. Refused by the first of the subscriptions
+    /// that are waited for whose queue lacks room, or by none where as many parts are pending and reserved.
+    pub(crate) fn reserve(&mut self, rt: &R, capacity: usize) -> Result<(), Option<u64>>
+        ensures heard { HasHeard self.old.place self.new.place }
+        ensures answer { result ≡ reserve_answer capacity self.old.room self.new.place.cells.group }
+        ensures ok { OnOk result (self.new.room ≡ one_reserved self.old.room) }
+        ensures err { OnErr result (self.new.room ≡ self.old.room) }
+    {
+        self.room.reserve(rt, capacity, &mut self.place)
+    }
+
+    /// Gives back what was reserved for one part, where it is reserved.
+    pub(crate) fn give_back(&mut self)
+        ensures place { self.new.place ≡ self.old.place }
+        ensures room { self.new.room ≡ one_given_back self.old.room }
+    {
+        self.room.give_back();
+    }
+
+    /// Whether the subscription is waited for from now on: it is open, and has room for all parts that are pending and
+    /// reserved. Not where there is no memory for one place more in the list of them.
+    pub(crate) fn wait_for(&mut self, rt: &R, number: u64) -> bool
+        ensures heard { HasHeard self.old.place self.new.place }
+        ensures yes { result ≡ true → self.new.room ≡ waiting_for number self.old.room }
+        ensures no { result ≡ false → self.new.room ≡ self.old.room }
+    {
+        self.room.wait_for(rt, number, &mut self.place)
+    }
+
+    /// Adds the numbers of those that are waited for and lack room for one part more to a list, where a topic has room
+    /// for so many parts. Out of memory, the first of them were added.
+    pub(crate) fn lacking(
+        &mut self,
+        rt: &R,
+        capacity: usize,
+        list: &mut Vec<u64>,
+    ) -> Result<(), NoMemory>
+        ensures heard { HasHeard self.old.place self.new.place }
+        ensures room { self.new.room ≡ self.old.room }
+    {
+        self.room.lacking(rt, capacity, &mut self.place, list)
+    }
+
+    /// Whether this subscription was waited for and lacked room for one part more, as `lacking` says: then it is
+    /// waited for no longer.
+    pub(crate) fn pass_over(&mut self, rt: &R, capacity: usize, number: u64) -> bool
+        ensures heard { HasHeard self.old.place self.new.place }
+        ensures yes { result ≡ true → self.new.room ≡ waiting_without number self.old.room }
+        ensures no { result ≡ false → self.new.room ≡ self.old.room }
+    {
+        self.room.pass_over(rt, capacity, number, &mut self.place)
     }
 }
 
