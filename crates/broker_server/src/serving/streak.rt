@@ -1,0 +1,39 @@
+//! What the system took of a connection's octets in a row.
+
+ghost use Rattle.std.specs.Prelude.{◌≡◌, ◌&&◌, nat_lt, nat_le};
+ghost use Rattle.broker_server.specs.Purses.{counted, fast};
+
+/// So many octets taken in a row are more than the system's buffers hold (our choice).
+const KEEPS_UP: u64 = 8_388_608;
+
+/// How many octets the system took in a row, while the connection wasn't behind.
+#[derive(Clone, Copy)]
+pub(crate) struct Streak {
+    octets: u64,
+}
+
+impl Streak {
+    /// None yet.
+    pub(crate) fn new() -> Streak
+        ensures { result.octets ≡ 0 }
+    {
+        Streak { octets: 0 }
+    }
+
+    /// So many more; whether it has 8 MiB by these, which is once in a streak.
+    pub(crate) fn adds(&mut self, octets: u64) -> bool
+        ensures octets { self.new.octets ≡ counted self.old.octets octets }
+        ensures reached { result ≡ (nat_lt self.old.octets fast && nat_le fast self.new.octets) }
+    {
+        let before = self.octets;
+        self.octets = before.saturating_add(octets);
+        before < KEEPS_UP && self.octets >= KEEPS_UP
+    }
+
+    /// The connection falls behind.
+    pub(crate) fn ends(&mut self)
+        ensures { self.new.octets ≡ 0 }
+    {
+        self.octets = 0;
+    }
+}
