@@ -8,7 +8,7 @@
 #ifndef TOPICS                   /* 1 or 2 */
 #define TOPICS 2
 #endif
-#ifndef SUBS                     /* subscriptions; sub s is at topic s % TOPICS */
+#ifndef SUBS                     /* subscriptions; the first is at the last topic, and so on */
 #define SUBS 2
 #endif
 #ifndef SENDERS                  /* connections that send */
@@ -38,7 +38,10 @@
 #define TAKER(s) (SENDERS + (s) % TAKERS)
 #define TAKES(c) ((c) >= SENDERS)
 #endif
-#ifndef STOPS                    /* so often the clients of those who take may stop reading for a while */
+#ifndef FILLED                   /* of these, there at the beginning */
+#define FILLED 0
+#endif
+#ifndef STOPS                    /* so often the clients of those who take don't read for a while: from the beginning, and then */
 #define STOPS 0
 #endif
 #ifndef PASSES                   /* so often a subscription may be passed over, where its client doesn't read */
@@ -59,7 +62,7 @@
 /* NEVER: the client of the first subscription never reads. CLOSES: the server ends, at some time. HEADS: a head turns
    what was committed by who has committed more than one. BOTH: each transaction is to both topics; CROSSED: the first
    sender's are, and each of the others' is to one. SETTLES: a verdict is a step of its own. */
-#define TOPIC(s) ((s) % TOPICS)
+#define TOPIC(s) (TOPICS - 1 - (s) % TOPICS)
 #define SENDS(c) ((c) < SENDERS)
 #define BIT(n) (1 << (n))
 #if TOPICS == 1
@@ -124,7 +127,11 @@ byte passes, refusals, given_back;
 #define SEAT_RING(sub) if :: stuck[TAKER(sub)] -> skip :: else -> RING(TAKER(sub)) fi
 
 /* What is due at a topic, what a subscription is known to hold, and whether that leaves room for so many. */
+#ifdef M_RESERVED_UNCOUNTED
+#define DUE(t) (pending[t])
+#else
 #define DUE(t) (pending[t] + reserved[t])
+#endif
 #define USED(sub) (queue[sub] + untold[sub] + told[sub])
 #define FITS(sub, count) (USED(sub) + DUE(TOPIC(sub)) + (count) <= CAPACITY)
 #define LACKS(sub) (waited[sub] && DUE(TOPIC(sub)) < CAPACITY && !FITS(sub, 1))
@@ -603,11 +610,21 @@ ask:                                                             /* calls.rt res
   fi;
   if
   :: without == 0 -> goto enter
+#ifndef M_WAITS_OWING
   :: without > 0 && commits > 0 -> without = 0; goto go_on
-  :: without > 0 && commits == 0                                    /* calls.rt wait_at */
+  :: without > 0 && commits == 0                                 /* calls.rt wait_at */
+#else
+  :: without > 0
+#endif
   fi;
 #ifndef M_PUTS_AFTER
   waiters_put(without - 1, c);
+#endif
+#ifdef M_WAITS_AT_ALL
+  if
+  :: want == 3 -> waiters_put(2 - without, c)
+  :: want < 3
+  fi;
 #endif
 #ifndef M_NO_SECOND_ASK
   d_step { n = without; without = 0 };
@@ -762,7 +779,7 @@ end:
 
 /* A client of who takes: it stops reading for a while, or says its frames. */
 proctype Client(byte c) {
-  byte stops, said;
+  byte stops = 1, said;
 end:
   do
   :: atomic { reads[c] && stops < STOPS -> stops++; reads[c] = false }
@@ -800,6 +817,7 @@ proctype Monitor() {
   byte i, t;
   (timeout);
   for (i : 0 .. CONNS - 1) { assert(!desk[i]) }
+  for (i : 0 .. SUBS - 1) { assert(!telling[i]); told[i] = 0 }   /* who asks hears what was told */
   for (t : 0 .. TOPICS - 1) { assert(!topic[t] && !seats[t] && !waiters[t]);
     assert(pending[t] == 0 && undecided[t] == 0 && reserved[t] == 0) }
   for (i : 0 .. SENDERS - 1) {
@@ -831,15 +849,18 @@ init {
     for (i : 0 .. SUBS - 1) {
       if
       :: LATE && i == SUBS - 1 -> skip
-      :: else -> seated[i] = true; open_[i] = true; waited[i] = true; has[i] = true
+      :: else -> seated[i] = true; open_[i] = true; waited[i] = true; has[i] = true; queue[i] = FILLED
       fi
     }
-#ifdef NEVER
-    reads[TAKER(0)] = false;
-#endif
     for (i : 0 .. CONNS - 1) {
       at_desk[i] = TAKES(i);
-      if :: SENDS(i) -> skip :: else -> bell[i] = Asleep fi;
+      if :: SENDS(i) -> skip :: else -> bell[i] = (FILLED > 0 -> Told : Asleep); woken[i] = (FILLED > 0) fi;
+#ifdef NEVER
+      reads[i] = (STOPS == 0 && i != TAKER(0));
+#else
+      reads[i] = (STOPS == 0);
+#endif
+      if :: reads[i] -> skip :: else -> wire[i] = WIRE; blocked[i] = true fi;
       run Connection(i);
 #if STOPS > 0 || FRAMES > 0 || defined(NEVER)
       if :: TAKES(i) -> run Client(i) :: else fi
@@ -857,3 +878,9 @@ init {
     i = 0
   }
 }
+
+#ifdef FAIR
+/* Where each thread goes on as long as it can: in the end all sleep. */
+#define RESTS(c) (bell[c] == Asleep && !woken[c])
+ltl delivers { <> [] (RESTS(0) && RESTS(1) && RESTS(CONNS - 1)) }
+#endif
