@@ -14,8 +14,11 @@
 #ifndef SENDERS                  /* connections that send */
 #define SENDERS 2
 #endif
-#ifndef COMMITS                  /* transactions of each */
+#ifndef COMMITS                  /* transactions of the first, */
 #define COMMITS 1
+#endif
+#ifndef OTHERS                   /* and of each of the others */
+#define OTHERS COMMITS
 #endif
 #ifndef CAPACITY                 /* items that a queue holds, and parts that may be due at a topic */
 #define CAPACITY 1
@@ -60,16 +63,18 @@
 #define GIVEN_BACK 0
 #endif
 /* NEVER: the client of the first subscription never reads. CLOSES: the server ends, at some time. HEADS: a head turns
-   what was committed by who has committed more than one. BOTH: each transaction is to both topics; CROSSED: the first
-   sender's are, and each of the others' is to one. SETTLES: a verdict is a step of its own. */
+   what was committed by who has committed more than one. Transactions are to either topic or both; BOTH: to both; OTHER:
+   the first sender's are to both, and the others' to those of these bits. SETTLES: a verdict is a step of its own. ONCE:
+   who reads a transaction that finds no room sleeps, where the code asks twice again before. */
 #define TOPIC(s) (TOPICS - 1 - (s) % TOPICS)
 #define SENDS(c) ((c) < SENDERS)
+#define MAKES(c) ((c) == 0 -> COMMITS : OTHERS)
 #define BIT(n) (1 << (n))
 #if TOPICS == 1
-#define FIRST(want) 0
+#define LEAST(want) 0
 #define NEXT(want, t) TOPICS
 #else
-#define FIRST(want) ((want) & 1 -> 0 : 1)
+#define LEAST(want) ((want) & 1 -> 0 : 1)
 #define NEXT(want, t) ((t) == 0 && ((want) & 2) -> 1 : TOPICS)
 #endif
 
@@ -169,10 +174,10 @@ inline waiters_put(at, c) {
 #endif
 }
 
-/* broker.rt reserve, room.rt reserve behind each topic's lock, and hub.rt reserve, which rings where room was given back.
-   without is the first topic without room, and one, or 0 */
+/* broker.rt reserve: room.rt reserve behind each topic's lock, and broker.rt give_back_at where one has no room; then
+   hub.rt reserve rings where room was given back. without is the first topic without room, and one; or 0 */
 inline hub_reserve() {
-  t = FIRST(want);
+  t = LEAST(want);
   do
   :: d_step { t < TOPICS && without == 0 && !topic[t] ->
        HEAR_AT(t);
@@ -198,7 +203,7 @@ inline hub_reserve() {
   fi
 #endif
 }
-/* taker.rt tell, in place of what was told and isn't heard yet, and topic_seats.rt ring_waiters */
+/* calls.rt tell_taken: taker.rt tell, in place of what was told and isn't heard yet, and hub.rt ring_waiters */
 inline tell_taken(sub, is_rung) {
 #ifdef M_RINGS_BEFORE_TELL
   if
@@ -228,8 +233,8 @@ inline tell_taken(sub, is_rung) {
 #else
 #define NONE_RINGS true
 #endif
-/* calls.rt take_passed_over: a swap, and behind the topic's lock wait_for; what isn't waited for then stays passed over */
-inline take_passed_over(sub) {
+/* calls.rt find_empty: a swap, and room.rt wait_for behind the topic's lock; what isn't waited for then stays passed over */
+inline wait_again(sub) {
   d_step { some = passed_over[sub]; passed_over[sub] = false };
   if
   :: some ->
@@ -273,7 +278,7 @@ inline talk_close(c) {
   e = 0
 }
 /* conversation.rt drain_queue, of each queue in turn, calls.rt take */
-inline talk_drain(c) {
+inline talk_drain(c, waits) {
   do
   :: d_step { s < SUBS ->
        if
@@ -294,7 +299,7 @@ inline talk_drain(c) {
      :: got == Half -> tell_taken(s, HALF_RINGS)
      :: got == Last || got == None ->
 #ifdef M_WAITS_BEFORE_TELL
-        take_passed_over(s);
+        wait_again(s);
 #endif
         if
         :: got == Last -> tell_taken(s, NONE_RINGS)
@@ -302,11 +307,11 @@ inline talk_drain(c) {
         fi;
 #if PASSES > 0
 #ifndef M_WAITS_BEFORE_TELL
-        take_passed_over(s);
+        wait_again(s);
 #endif
         if                                                       /* calls.rt has_lagged */
-        :: lagged[s] -> over = true; break
-        :: !lagged[s] -> s++
+        :: lagged[s] && !(waits) -> over = true; break           /* not while a transaction waits */
+        :: !lagged[s] || (waits) -> s++
         fi
 #else
         s++
@@ -322,14 +327,14 @@ inline talk_drain(c) {
   fi
 }
 /* desk.rt deliver: it isn't stuck from before it looks */
-inline desk_deliver(c) {
+inline desk_deliver(c, waits) {
 #if STOPS > 0 || defined(NEVER)
   if
   :: stuck[c] -> stuck[c] = false
   :: !stuck[c]
   fi;
 #endif
-  talk_drain(c)
+  talk_drain(c, waits)
 }
 /* socket.rt write */
 #define WRITE(c) if \
@@ -343,7 +348,7 @@ inline desks_stand_in(c) {
   :: atomic { !desk[c] -> desk[c] = true };
      if
      :: at_desk[c] ->
-        desk_deliver(c);
+        desk_deliver(c, held[c] > 0);
         d_step { WRITE(c); sent = false; done = (wire[c] == 0 && !more[c] && !leaving[c]) }
      :: else
      fi;
@@ -425,7 +430,7 @@ inline hub_turned(at, stands_in) {
   fi
 }
 #define FEW_SLEEP(sub) (sub >= SUBS || !(owes & BIT(TOPIC(sub))) || !seated[sub] || bell[TAKER(sub)] == Asleep && !stuck[TAKER(sub)])
-/* connection.rt stands_in, or calls.rt turn_now, or (HEADS) calls.rt turn_topics: turns what it owes */
+/* connection.rt stands_in, or calls.rt turn_now or turn_topics: turns what it owes */
 inline turn_owed(may_tell) {
   if
   :: FEW_SLEEP(0) && FEW_SLEEP(1) -> stands = true               /* hub.rt few_sleep, turn_for */
@@ -465,7 +470,8 @@ inline turn_owed(may_tell) {
   od;
   x = 0
 }
-/* room_wait.rt look: who lacks room at this topic may be passed over, and is told of it; then who waits for room */
+/* room_wait.rt look: who lacks room at this topic may be passed over, room.rt pass_over behind its lock, and is told of
+   it, topic_seats.rt pass_over; then who waits for room */
 inline look(at) {
 #if PASSES > 0
   do
@@ -510,7 +516,7 @@ inline look(at) {
 proctype Connection(byte c) {
   SCRATCH;
   byte made, want, commits, owes;
-  bool busy, may, stands;
+  bool busy, may, stands, again;
   if
   :: SENDS(c) -> desk[c] = TAKES(c)
   :: !SENDS(c) -> goto sleeps                                    /* all is as it is at rest */
@@ -529,10 +535,10 @@ heard:
   if
   :: TAKES(c) ->
      if
-     :: may -> may = false; desk_deliver(c)
+     :: may -> may = false; desk_deliver(c, want > 0)
      :: !may
      fi;
-     d_step { WRITE(c); busy = sent; sent = false; over = leaving[c]; may = (more[c] && blocked[c]) };
+     d_step { WRITE(c); busy = sent; sent = false; again = false; over = leaving[c]; may = (more[c] && blocked[c]) };
      if
      :: over -> may = false; over = false; goto leave
      :: !over
@@ -557,7 +563,7 @@ heard:
         :: e >= SUBS
         fi;
         e = 0
-     :: frame[c] == End && want == 0 -> goto leave
+     :: frame[c] == End && want == 0 -> talk_close(c); goto leave
      fi
 #endif
   :: !TAKES(c) -> may = false
@@ -566,8 +572,8 @@ heard:
   :: SENDS(c) ->
      if
      :: want > 0 -> goto go_on
-     :: want == 0 && made < COMMITS -> goto hear
-     :: want == 0 && made == COMMITS && commits > 0 -> goto turn
+     :: want == 0 && made < MAKES(c) -> goto hear
+     :: want == 0 && made == MAKES(c) && commits > 0 -> goto turn
      :: else
      fi
   :: !SENDS(c)
@@ -575,17 +581,15 @@ heard:
   goto idle;
 hear:                                                            /* connection.rt hear: it may hear more before it turns */
   if
-  :: made < COMMITS ->
-     made++;
-     if                                                          /* calls.rt reserve, of the topics of the next frame */
+  :: made < MAKES(c) ->
+     made++; busy = true; again = false;
+     if                                                          /* conversation.rt send, of the next frame */
 #if TOPICS == 1
      :: want = 1
 #elif defined(BOTH)
      :: want = 3
-#elif defined(CROSSED)
-     :: c == 0 -> want = 3
-     :: c > 0 -> want = 1
-     :: c > 0 -> want = 2
+#elif defined(OTHER)
+     :: want = (c == 0 -> 3 : OTHER)
 #else
      :: want = 1
      :: want = 2
@@ -599,13 +603,18 @@ turn:                                                            /* the end of c
   turn_owed(true);
   goto round;
 go_on:                                                           /* connection.rt go_on */
+  again = true;
+#ifndef M_WAITS_OWING
   if
   :: commits > 0 -> turn_owed(false)
   :: commits == 0
   fi;
+#endif
 ask:                                                             /* calls.rt reserve */
   if
+#ifndef M_WAITS_OWING
   :: commits > 0 -> goto go_on                                   /* once it has committed many: it looks for who sleeps */
+#endif
   :: true -> hub_reserve()
   fi;
   if
@@ -647,7 +656,18 @@ ask:                                                             /* calls.rt res
 #else
   look(without - 1); without = 0;
 #endif
-  goto idle;                                                     /* conversation.rt hold */
+#ifdef ONCE
+  if
+  :: !again -> busy = false
+  :: again
+  fi;
+#else
+  if
+  :: !again -> goto go_on                                        /* connection.rt hear_read */
+  :: again
+  fi;
+#endif
+  goto idle;
 enter:
 #if GIVEN_BACK > 0
   if
@@ -655,7 +675,7 @@ enter:
   :: true
   fi;
   if
-  :: some ->                                                     /* calls.rt give_room_back */
+  :: some ->                                                     /* calls.rt give_room_back: hub.rt release_room */
      some = false;
      do
      :: d_step { t < TOPICS && (want & BIT(t)) && !topic[t] -> reserved[t]--; want = want - BIT(t); t++ }
@@ -674,8 +694,8 @@ enter:
   :: !some
   fi;
 #endif
-  /* commit.rt propose_all: by rising topic, behind each one's lock, room.rt enter */
-  t = FIRST(want);
+  /* broker.rt commit_reserved, commit.rt propose_all: by rising topic, room.rt enter behind its lock */
+  t = LEAST(want);
   do
   :: d_step { t < TOPICS && !topic[t] ->
        assert(reserved[t] > 0);
@@ -695,14 +715,15 @@ enter:
      fi
 #if REFUSALS > 0
   :: d_step { t < TOPICS && NEXT(want, t) >= TOPICS && !topic[t] && refusals < REFUSALS ->
-       refusals++; reserved[t]--; owes = owes | BIT(t); without = t };
+       refusals++; owes = owes | BIT(t) };
      if                                                          /* commit.rt cancel_all */
-     :: without > 0 && (want & 1) -> d_step { !topic[0] -> pending[0]--; undecided[0]-- }
+     :: t == 1 && (want & 1) -> d_step { !topic[0] -> pending[0]--; undecided[0]-- }
      :: else
      fi;
-     want = 0; without = 0; t = 0;
+     d_step { !topic[t] -> reserved[t]-- };                      /* broker.rt release_room, of what is left */
+     want = 0; t = 0;
 #ifndef M_REFUSED_SILENT
-     do                                                          /* calls.rt commit: rings at every topic */
+     do                                                          /* calls.rt commit: hub.rt ring_all_waiters */
      :: t < TOPICS -> waiters_ring(t); t++
      :: t >= TOPICS -> break
      od;
@@ -718,8 +739,15 @@ enter:
   t = 0; commits++;
 entered:
   want = 0;
+#ifdef OWN
+  if                                                             /* connection.rt end_wait */
+  :: again && TAKES(c) -> desk_deliver(c, false); sent = false
+  :: !again || !TAKES(c)
+  fi;
+#endif
+  busy = true; again = false;
   if
-  :: made < COMMITS || commits > 0 -> goto hear
+  :: made < MAKES(c) || commits > 0 -> goto hear
   :: else
   fi;
   goto round;
@@ -754,16 +782,19 @@ end:
     may = (bell[c] == Told || more[c]); bell[c] = Awake };
   goto heard;
 leave:
-  want = 0;                                                      /* conversation.rt lose */
+  want = 0;
   if
-  :: TAKES(c) -> talk_close(c)
+  :: TAKES(c) ->
+     desk[c] = false;
+     atomic { !desk[c] -> at_desk[c] = false };                  /* connection.rt run takes the desk out */
+     talk_close(c)                                               /* connection.rt leave, conversation.rt lose */
   :: !TAKES(c)
   fi;
   if
   :: commits > 0 -> turn_owed(true)
   :: commits == 0
   fi;
-  d_step { desk[c] = false; at_desk[c] = false; gone[c] = true }
+  gone[c] = true
 }
 
 #ifdef HEADS
@@ -854,7 +885,11 @@ init {
     }
     for (i : 0 .. CONNS - 1) {
       at_desk[i] = TAKES(i);
-      if :: SENDS(i) -> skip :: else -> bell[i] = (FILLED > 0 -> Told : Asleep); woken[i] = (FILLED > 0) fi;
+      if
+      :: TAKES(i) && FILLED > 0 -> bell[i] = Told; woken[i] = !SENDS(i)
+      :: !SENDS(i) && FILLED == 0 -> bell[i] = Asleep
+      :: else
+      fi;
 #ifdef NEVER
       reads[i] = (STOPS == 0 && i != TAKER(0));
 #else
