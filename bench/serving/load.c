@@ -61,6 +61,13 @@ static void watch(int descriptor, struct client *it)
     epoll_ctl(poller, EPOLL_CTL_ADD, descriptor, &event);
 }
 
+/* Puts what each publisher may send now; it is written once its socket is said to be writable. */
+static void fill_all(int64_t now)
+{
+    for (int at = 0; at < plan.publishers; at++)
+        publishers_fill(&plan, at, now);
+}
+
 static void start(void)
 {
     struct itimerspec every = {.it_interval.tv_nsec = MILLISECOND, .it_value.tv_nsec = MILLISECOND};
@@ -74,6 +81,8 @@ static void start(void)
         timerfd_settime(timer, 0, &every, NULL);
         watch(timer, NULL);
     }
+    if (plan.burst)
+        fill_all(clock_now());
     begun = clock_now();
     measured_begin(&plan, begun);
 }
@@ -165,6 +174,7 @@ static bool is_given_up(int64_t now)
 static void run(void)
 {
     int64_t now = begun;
+    measured_tick(&plan, now);
     while (!measured_is_over(now) && !is_given_up(now) && !publishers_sent_all(&plan)) {
         send_all(now);
         now = wait();

@@ -7,6 +7,9 @@
 
 enum { DIGITS = 16, OF_PUBLISHER = 4 };
 
+/* Octets that wait to be written, from which on an unpaced publisher puts no more. */
+enum { AHEAD = 1 << 18 };
+
 struct publisher *publishers;
 
 /* For each topic the front of a SEND to it and how many subscriptions it has; what is between front and body; the body's rest. */
@@ -88,6 +91,8 @@ static void put_bound(struct publisher *it, const char *command, int64_t transac
 static bool may_send(const struct plan *plan, const struct publisher *it)
 {
     int64_t then = it->sent + plan->sends;
+    if (plan->unpaced && octets_size(&it->client->out) >= AHEAD)
+        return false;
     return then - it->done <= plan->window && then <= plan->most && (plan->rate == 0 || then <= it->due);
 }
 
