@@ -120,6 +120,8 @@ static void hear_frames(struct client *client, int64_t now)
             return;
         if (TEXT_IS(frame.command, "MESSAGE"))
             hear_message(client, &frame, now);
+        else if (plan.receipts && client->publisher >= 0 && TEXT_IS(frame.command, "RECEIPT"))
+            publishers[client->publisher].receipts++;
         else
             client_fail("it answered ", TEXT_IS(frame.command, "ERROR") ? frame.message : frame.command);
         in->from += size;

@@ -66,6 +66,8 @@ static void keep(struct plan *plan, const char *word)
         plan->burst = true;
     else if (strcmp(word, "unpaced") == 0)
         plan->unpaced = true;
+    else if (strcmp(word, "receipts") == 0)
+        plan->receipts = true;
     else if (equals != NULL && strncmp(word, "prefix=", 7) == 0)
         plan->prefix = equals + 1;
     else if (equals != NULL && strncmp(word, "most=", 5) == 0)
