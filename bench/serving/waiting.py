@@ -62,26 +62,32 @@ def slow_subscribers_that_subscribe_again(trial):
 
 
 def beside_slow(trial, count, **way):
-    """Streams beside slow subscribers of each pace, each pace at a topic of its own."""
-    seconds, count, topics = max(LEAST_SECONDS, trial.part(SECONDS)), trial.part(count), [trial.topic_alone() for _ in PACES]
+    """Streams beside slow subscribers of each pace, each pace at a topic of its own, and one at a topic without any."""
+    seconds, count, topics = max(LEAST_SECONDS, trial.part(SECONDS)), trial.part(count), [trial.topic_alone() for _ in (None, *PACES)]
     with contextlib.ExitStack() as block:
         streams = [block.enter_context(Steady(trial, prefix, BEFORE + seconds + BEHIND, 250)) for prefix, _ in topics]
         time.sleep(BEFORE)
-        slow = [block.enter_context(Slow(trial, topic, count, pace, **way)) for pace, (_, topic) in zip(PACES, topics)]
+        slow = [block.enter_context(Slow(trial, topic, count, pace, **way)) for pace, (_, topic) in zip(PACES, topics[1:])]
         time.sleep(seconds)
         for it in slow:
             it.may_come = False
-        return "; ".join(judged(trial, it, stream.report()) for it, stream in zip(slow, streams))
+        alone, *reports = (it.report() for it in streams)
+        trial.expect(alone["still"] <= MOST_STILL, f"a stream without slow subscribers stood still for {alone['still']:.2f} s")
+        said = (judged(trial, it, report, alone["still"]) for it, report in zip(slow, reports))
+        return f"a stream without slow subscribers was still for {alone['still']:.2f} s; {'; '.join(said)}"
 
 
-def judged(trial, slow, report):
-    """Whether a stream stood still for too long, and has its rate again; in words what it had."""
-    before, behind = (statistics.median(it) for it in (report["seconds"][1:BEFORE], report["seconds"][-BEHIND + 1 :]))
+def judged(trial, slow, report, alone):
+    """Whether a stream stood still for too long, and has its rate again; in words what it had. What the machine stops stands still beside
+    no slow subscribers, too."""
     what = f"{slow.came} that read {slow.pace.name}"
-    trial.expect(report["still"] <= MOST_STILL, f"beside {what} a stream stood still for {report['still']:.2f} s")
+    if report["trouble"]:
+        return f"beside {what} the stream ended"
+    before, behind = (statistics.median(it) for it in (report["seconds"][1:BEFORE], report["seconds"][-BEHIND + 1 :]))
+    trial.expect(report["still"] - alone <= MOST_STILL, f"beside {what} a stream stood still for {report['still']:.2f} s")
     trial.expect(behind >= RATE_AGAIN * before, f"behind {what} a stream has {behind:,.0f}/s, and had {before:,.0f}")
     trial.expect(slow.refused == 0, f"{slow.refused} of {what} couldn't connect")
-    return f"beside {what} still for {report['still']:.2f} s, {before:,.0f}/s before and {behind:,.0f}/s behind"
+    return f"beside {what} {report['still']:.2f} s, {before:,.0f}/s before and {behind:,.0f}/s behind"
 
 
 def slow_for_a_minute(trial):
@@ -92,11 +98,12 @@ def slow_for_a_minute(trial):
         with Slow(trial, topic, 1, SLOW_BUT_READING):
             rates = stream.report()["seconds"]
     before = statistics.median(rates[1:BEFORE])
-    slow = [at for at, it in enumerate(rates) if at >= BEFORE and it < RATE_AGAIN * before]
+    # A second is slow where most of it and its two neighbours are: the machine may stop all for a moment.
+    slow = [at for at in range(BEFORE, len(rates) - 1) if statistics.median(rates[at - 1 : at + 2]) < RATE_AGAIN * before]
     until = slow[-1] + 1 - BEFORE if slow else 0
     trial.expect(until <= AGAIN_WITHIN, f"a stream hasn't its rate again: {rates[-BEHIND:]} a second, and {before:,.0f} before")
     held = statistics.median(rates[it] for it in slow) if slow else before
-    return f"another's {before:,.0f}/s were {held:,.0f}/s in {len(slow)} seconds, the last of them the {until}th"
+    return f"another's {before:,.0f}/s were {held:,.0f}/s in {len(slow)} seconds, the last of them its second {until}"
 
 
 def fast_enough(trial, count=6000):
