@@ -22,7 +22,7 @@ MOST_TOPICS = 1024
 TOPICS = [b"/topic/T%d" % at for at in range(64)]
 MINE = b"/topic/own0"
 # Topics that one row uses alone, each /topic/ with this and 0 behind it, as the load generator names its first.
-ALONE = [f"alone{at}." for at in range(32)]
+ALONE = [f"alone{at}." for at in range(64)]
 NAMES = [*(it.decode() for it in (*TOPICS, MINE)), *(f"/topic/{it}0" for it in ALONE)]
 NOT_USED = itertools.cycle(ALONE)
 

@@ -1,6 +1,6 @@
-/* The load generator and checker of bench/serve: sends by windows or by the clock, on one thread over epoll, and sees that each
- * message comes at each who is to get it, once and in its publisher's order; and whether transactions are whole and all
- * streams in one order. It writes one line, of JSON. Plans are in plan.h.
+/* The load generator and checker of bench/serve: sends by windows, by the clock or without waiting, on one thread over epoll, and sees
+ * that each message comes at each who is to get it, once and in its publisher's order; and whether transactions are whole and
+ * all streams in one order. It writes one line, of JSON. Plans are in plan.h.
  *     load port=N process=N [NAME=VALUE..] */
 #define _GNU_SOURCE
 #include "client.h"

@@ -19,10 +19,11 @@ def load_words(trial, prefix, *words):
 def load(trial, prefix, *words):
     """What the load generator says of a run, in which all has to come."""
     done = subprocess.run(load_words(trial, prefix, *words), stdout=subprocess.PIPE, timeout=180, check=True)
-    return judged(trial, prefix, json.loads(done.stdout))
+    return expect_all(trial, prefix, json.loads(done.stdout))
 
 
-def judged(trial, prefix, report):
+def expect_all(trial, prefix, report):
+    """The report again, of which all has to have come, in one order."""
     fault = order_fault(report, True)
     trial.expect(fault is None, f"the stream of {prefix}: {fault}")
     return report
@@ -39,7 +40,7 @@ class Steady:
     def report(self):
         """What the load generator says, once it is done. `still` is how many seconds nothing came, `seconds` how many came in each."""
         came, _ = self.child.communicate(timeout=self.seconds + 60)
-        report = judged(self.trial, self.prefix, json.loads(came))
+        report = expect_all(self.trial, self.prefix, json.loads(came))
         report["still"] /= 1e9
         report["seconds"] = (report["seconds"] + self.seconds * [0])[: self.seconds]
         return report

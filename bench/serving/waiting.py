@@ -1,6 +1,7 @@
 """What bench/hostile does to see whom a sender waits for, and for how long: rows as in hostility.py."""
 
 import contextlib
+import socket
 import statistics
 import subprocess
 import sys
@@ -8,7 +9,7 @@ import threading
 import time
 
 from client import error_of, send_frame, subscribe
-from hostility import MOST_OPEN, bursts, close_all
+from hostility import MOST_OPEN, TOPICS, bursts, close_all
 from slow import PACES, Pace, Slow
 from steady import Steady, load
 
@@ -23,7 +24,7 @@ MOST_STILL, RATE_AGAIN = 1.5, 0.9
 AGAIN_WITHIN = 70
 SLOW_BUT_READING = Pace("200 KB a second", 2000, 0.01)
 
-# Bursts of so many SENDs of each sender; all that the load generator has to know beside.
+# How many SENDs each sender of a burst has, and what else the load generator has to know of each.
 OF_A_BURST = 2000
 BURSTS = [
     "publishers=2 size=16",
@@ -54,6 +55,11 @@ def slow_subscribers_one_after_another(trial):
 def slow_subscribers_that_come_anew(trial):
     """64 of each; each connects anew once it was ended."""
     return beside_slow(trial, 64, anew=SECONDS)
+
+
+def slow_subscribers_that_come_each_second(trial):
+    """64 of each; each connects anew a second after it came."""
+    return beside_slow(trial, 64, anew=1)
 
 
 def slow_subscribers_that_subscribe_again(trial):
@@ -111,7 +117,7 @@ def fast_enough(trial, count=6000):
     count, (_, topic) = trial.part(count), trial.topic_alone()
     (reader, sender), begun = trial.open(2), time.monotonic()
     reader.ask(subscribe(topic))
-    sending = threading.Thread(target=sender.send, args=(send_frame(topic, bytes(10000).replace(b"\0", b"x")) * count,), daemon=True)
+    sending = threading.Thread(target=sender.send, args=(count * send_frame(topic, b"x" * 10000),), daemon=True)
     sender.socket.settimeout(None)
     sending.start()
     came, number = read_frames(reader, count, 2_000_000, 120)
@@ -161,6 +167,56 @@ def waiting_for_receipts(trial, seconds=20):
     return f"{report['all_came']:,} SENDs of two clients came whole"
 
 
+def sharing_a_slow_topic(trial, seconds=20):
+    """64 clients commit transactions to 64 topics without a rest, and wait for the last of these, whose subscriber reads 200 KB a second. A
+    steady sender at the first keeps half of its rate."""
+    (sender, reader), seconds = trial.open(2), max(5, trial.part(seconds))
+    reader.ask(subscribe(TOPICS[0]))
+    before = rate_by_clock(sender, reader, 3)
+    with Slow(trial, TOPICS[-1], 1, SLOW_BUT_READING), contextlib.ExitStack() as block:
+        for it in trial.open(trial.part(64)):
+            block.callback(hang_up, it)
+            threading.Thread(target=commit_without_end, args=(it,), daemon=True).start()
+        during = rate_by_clock(sender, reader, seconds)
+    close_all([sender, reader])
+    trial.expect(during >= before / 2, f"a steady sender had {during:,.0f}/s, and {before:,.0f} before")
+    return f"a steady sender had {during:,.0f}/s beside {trial.part(64)} that wait at another topic, and {before:,.0f} before"
+
+
+def commit_without_end(client):
+    """Commits transactions to all topics, with 1,000 octets to the last, until the connection ends."""
+    within = b"transaction:t\n"
+    sends = b"".join(send_frame(it, b"o" * (1000 if it == TOPICS[-1] else 1), within) for it in TOPICS)
+    client.socket.settimeout(None)
+    with contextlib.suppress(OSError):
+        while True:
+            client.send(b"BEGIN\n" + within + b"\n\0" + sends + b"COMMIT\n" + within + b"\n\0")
+
+
+def hang_up(client):
+    """Closes, also where a thread waits until it may send."""
+    with contextlib.suppress(OSError):
+        client.socket.shutdown(socket.SHUT_RDWR)
+    client.close()
+
+
+def rate_by_clock(sender, reader, seconds):
+    """Sends 2,000 SENDs a second to the first topic, as far as they are taken; how many of them come at the reader, a second."""
+    frames, to_send, heard, came, turns = send_frame(TOPICS[0], b"steady") * 20, b"", b"", 0, 0
+    for it in (sender, reader):
+        it.socket.settimeout(0.001)
+    begun = time.monotonic()
+    while time.monotonic() < begun + seconds:
+        if time.monotonic() >= begun + 0.01 * turns:
+            to_send, turns = to_send + frames, turns + 1
+        with contextlib.suppress(TimeoutError):
+            to_send = to_send[sender.socket.send(to_send) :]
+        with contextlib.suppress(TimeoutError):
+            heard += reader.socket.recv(1 << 16)
+        came, heard = came + heard.count(b"steady\0"), heard[heard.rfind(b"\0") + 1 :]
+    return came / seconds
+
+
 def bursts_of_many(trial):
     """Senders that write all they have at once, or never wait, to those who read all the time."""
     came, each = 0, max(20, trial.part(OF_A_BURST))
@@ -188,6 +244,7 @@ ROWS = [
     many_slow_subscribers,
     slow_subscribers_one_after_another,
     slow_subscribers_that_come_anew,
+    slow_subscribers_that_come_each_second,
     slow_subscribers_that_subscribe_again,
     slow_for_a_minute,
     fast_enough,
