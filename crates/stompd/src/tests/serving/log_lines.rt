@@ -50,13 +50,29 @@ fn lagged_behind(lines: &[String]) -> Option<u64> {
     }
 }
 
-/// Whether these lines say that the first lagged at A, behind as many items as a queue has room for or more, and fewer than
-/// came; and that it left by 74.
+/// Whether this line says that those who send to A wait for the first connection.
+fn says_who_waits(line: &str) -> bool {
+    let front = "[WARN  serve] senders to the topic A wait for connection 0; ";
+    match line.strip_prefix(front) {
+        Some(rest) => rest.ends_with(" subscriptions passed over"),
+        None => false,
+    }
+}
+
+/// Whether these lines say that senders waited for the first, that it lagged at A, behind as many items as a queue has room
+/// for or more, and fewer than came; and that it left by 74.
 fn say_who_lagged(lines: &[String]) -> bool {
     let behind = lagged_behind(lines);
+    let mut waits = 0usize;
+    for line in lines {
+        if says_who_waits(line.as_str()) {
+            waits = waits.saturating_add(1);
+        }
+    }
     behind.is_some_and(|items| items >= 64 && items < 400)
         && says_of_first(lines, " left: ERROR 74 Lagged")
-        && lines.len() == 6
+        && waits > 0
+        && lines.len() == waits.saturating_add(6)
 }
 
 /// The first subscribes to A and B, and doesn't read while 400 items come to A, and one to B. A queue holds 64 of them.
