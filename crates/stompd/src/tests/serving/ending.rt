@@ -1,7 +1,7 @@
 //! A server that can't begin.
 
 use super::served::quiet;
-use broker_server::{Notice, ProgramFault, ServeWords, run_server};
+use broker_server::{Notice, ProgramFault, Request, run_server};
 use log::Log;
 use mio::net::TcpListener;
 use std::alloc::{AllocError, Global};
@@ -30,7 +30,9 @@ fn ends<R>(rt: &R, alloc: Global, words: &[String]) -> Option<(u8, Option<Notice
 where
     R: Threads + Wait + Net + Clock + Log + Send + Sync,
 {
-    let asked = ServeWords::parse(words)?;
+    let Ok(Request::Serve(asked)) = Request::parse(words) else {
+        return None;
+    };
     let mut written = Vec::new(alloc);
     let ending = run_server(rt, alloc, asked, &mut written);
     Some((ending.status, ending.notice, written.len()))
