@@ -29,7 +29,7 @@ pub fn run_program<R: Read, W: Write>(
     // The end is that of what a run of the program returns, and of the failures that reader and writer keep.
     ensures { (answer : Result Ending ProgramFault)
         × (result ≡ run_ending answer reader.new.failure writer.new.failure)
-        × IsRun (IsEndedBy (asked_of asked)) R.remaining W.contents
+        × IsRun (IsEndedBy (asked_of asked.entry)) R.remaining W.contents
         reader.old reader.new writer.old writer.new answer }
 {
     let answer = match asked {

@@ -4,7 +4,7 @@
 #[cfg(test)]
 mod tests;
 
-use broker_server::{Counting, Ending, LogQueue, Queued, Request, ServeWords, run_program, run_server};
+use broker_server::{Counting, Ending, LogForm, LogQueue, Queued, Request, ServeWords, run_program, run_server};
 use log::{LevelFilter, Logged};
 use std::alloc::Global;
 use std::io::Write;
@@ -27,19 +27,33 @@ fn main(rt: HostRuntime) -> ExitCode {
             let mut writer = Counting::new(rt.stdout());
             run_program(rt.alloc(), asked, &mut reader, &mut writer)
         }
-        Ok(Request::Serve(asked)) => serve(rt, rt.alloc(), asked, &mut rt.stdout()),
+        Ok(Request::Serve(asked)) => serve(rt, rt.alloc(), log_form(&rt), asked, &mut rt.stdout()),
         Err(fault) => Ending::by_words(fault),
     };
     end(&rt, ended)
 }
 
-/// Runs the server that is asked for. A thread of its own writes its log.
-fn serve<R, O>(rt: R, alloc: Global, asked: ServeWords<'_>, writer: &mut O) -> Ending
+/// How the log's lines begin, as the environment says it.
+fn log_form(rt: &HostRuntime) -> LogForm {
+    match env::var(rt, "STOMPD_LOG_PRIORITIES") {
+        Ok(value) if value.as_str() == "1" => LogForm::Prioritized,
+        _ => LogForm::Plain,
+    }
+}
+
+/// Runs the server that is asked for. A thread of its own writes its log, whose lines begin so.
+fn serve<R, O>(
+    rt: R,
+    alloc: Global,
+    form: LogForm,
+    asked: ServeWords<'_>,
+    writer: &mut O,
+) -> Ending
 where
     R: Threads + Wait + Net + Clock + Eprint + Copy + Send + Sync + 'static,
     O: Write,
 {
-    let Ok(queue) = LogQueue::start(rt, alloc) else {
+    let Ok(queue) = LogQueue::start(rt, alloc, form) else {
         return Ending::without_memory();
     };
     let logged = Logged::new(rt, LevelFilter::Info, Queued::new(&rt, &queue));

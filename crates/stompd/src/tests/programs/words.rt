@@ -103,7 +103,7 @@ const WRONG: &[(&[&str], &str)] = &[
     ),
     (
         &["\x1b[2J\\\u{e9}\n78901234567890123456789012345678901234567890123456789012"],
-        "\"\\x1b[2J\\\\\\xc3\\xa9\\x0a78901234567890123456789012345678901234567890123456789\" and 3 octets more: not a program: begin with relay, script, trace, audit or serve, or ask by --help what they do",
+        "\"\\x1b[2J\\\\\\xc3\\xa9\\x0a7890123456789012345678901234567890123456789012345678\" and 4 octets more: not a program: begin with relay, script, trace, audit or serve, or ask by --help what they do",
     ),
     (&["script", "A"], "\"A\": one word too many: leave it out"),
     (&["--version", "--help"], "\"--help\": one word too many: leave it out"),
