@@ -1,5 +1,8 @@
 //! How the lines of a log begin.
 
+ghost use Rattle.std.specs.Prelude.{◌≡◌};
+ghost use Rattle.broker_server.specs.LogForms.{front_of};
+
 use log::Level;
 
 /// How the lines of a log begin.
@@ -13,7 +16,9 @@ pub enum LogForm {
 
 impl LogForm {
     /// What stands before a line of this level.
-    pub(crate) fn front(self, level: Level) -> &'static str {
+    pub(crate) fn front(self, level: Level) -> &'static str
+        ensures { result.now ≡ front_of self level }
+    {
         match (self, level) {
             (LogForm::Plain, _) => "",
             (LogForm::Prioritized, Level::Error) => "<3>",

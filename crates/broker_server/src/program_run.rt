@@ -32,13 +32,27 @@ pub fn run_program<R: Read, W: Write>(
         × IsRun (IsEndedBy (asked_of asked.entry)) R.remaining W.contents
         reader.old reader.new writer.old writer.new answer }
 {
-    let answer = match asked {
+    let answer = run(alloc, asked, reader, writer);
+    Ending::of_run(answer, reader.failure, writer.failure)
+}
+
+/// Runs the program that is asked for.
+fn run<R: Read, W: Write>(
+    alloc: Global,
+    asked: Program<'_>,
+    reader: &mut Counting<R>,
+    writer: &mut Counting<W>,
+) -> Result<Ending, ProgramFault>
+    ensures { IsRun (IsEndedBy (asked_of asked.entry)) R.remaining W.contents
+        reader.old reader.new writer.old writer.new result }
+{
+    let _calls = reader.calls;
+    match asked {
         Program::Relay(name) => relay_input(alloc, name, reader, writer),
         Program::Script => script_input(alloc, reader, writer),
         Program::Trace => trace_input(alloc, reader, writer),
         Program::Audit => audit_input(alloc, reader, writer),
         Program::Help => tell(HELP, writer),
         Program::Version => tell(VERSION, writer),
-    };
-    Ending::of_run(answer, reader.failure, writer.failure)
+    }
 }

@@ -26,10 +26,7 @@ The first four read standard input to its end, and then write standard output.
 The manual is the page stompd(8), and the folder docs beside README.md.";
 
 /// Writes this text and an end of line, and returns how the program ends.
-pub(crate) fn tell<W: Write>(
-    text: &str,
-    writer: &mut Counting<W>,
-) -> Result<Ending, ProgramFault>
+pub(crate) fn tell<W: Write>(text: &str, writer: &mut Counting<W>) -> Result<Ending, ProgramFault>
     ensures written { OnOk result
         (Appends (W.contents writer.old.inner) (W.contents writer.new.inner)
         (text.now ++ codes "\n")) }

@@ -4,7 +4,9 @@
 #[cfg(test)]
 mod tests;
 
-use broker_server::{Counting, Ending, LogForm, LogQueue, Queued, Request, ServeWords, run_program, run_server};
+use broker_server::{
+    Counting, Ending, LogForm, LogQueue, Queued, Request, ServeWords, run_program, run_server,
+};
 use log::{LevelFilter, Logged};
 use std::alloc::Global;
 use std::io::Write;
@@ -42,13 +44,7 @@ fn log_form(rt: &HostRuntime) -> LogForm {
 }
 
 /// Runs the server that is asked for. A thread of its own writes its log, whose lines begin so.
-fn serve<R, O>(
-    rt: R,
-    alloc: Global,
-    form: LogForm,
-    asked: ServeWords<'_>,
-    writer: &mut O,
-) -> Ending
+fn serve<R, O>(rt: R, alloc: Global, form: LogForm, asked: ServeWords<'_>, writer: &mut O) -> Ending
 where
     R: Threads + Wait + Net + Clock + Eprint + Copy + Send + Sync + 'static,
     O: Write,

@@ -7,10 +7,7 @@ use std::alloc::{AllocError, Global};
 use std::io::{Read, Write};
 
 /// These words.
-pub(in crate::tests) fn words_of(
-    alloc: Global,
-    words: &[&str],
-) -> Result<Vec<String>, AllocError> {
+pub(in crate::tests) fn words_of(alloc: Global, words: &[&str]) -> Result<Vec<String>, AllocError> {
     let mut all = Vec::new(alloc);
     for word in words {
         all.push(String::from_str(alloc, word)?)?;
@@ -106,7 +103,10 @@ const WRONG: &[(&[&str], &str)] = &[
         "\"\\x1b[2J\\\\\\xc3\\xa9\\x0a7890123456789012345678901234567890123456789012345678\" and 4 octets more: not a program: begin with relay, script, trace, audit or serve, or ask by --help what they do",
     ),
     (&["script", "A"], "\"A\": one word too many: leave it out"),
-    (&["--version", "--help"], "\"--help\": one word too many: leave it out"),
+    (
+        &["--version", "--help"],
+        "\"--help\": one word too many: leave it out",
+    ),
     (&["relay", "A", ""], "\"\": one word too many: leave it out"),
     (
         &["relay"],

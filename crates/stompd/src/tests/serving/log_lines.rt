@@ -2,12 +2,12 @@
 //! have.
 
 use super::ending::{at_a_used_address, at_port};
-use broker_server::VERSION;
 use super::logged::Kept;
 use super::many::Many;
 use super::peers::Reset;
 use super::served::serves;
 use super::slow::{OneOfTwo, Silent};
+use broker_server::VERSION;
 use log::{LevelFilter, Logged};
 use std::sync::Mutex;
 
