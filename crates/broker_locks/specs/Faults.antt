@@ -4,6 +4,8 @@ use Rattle.mcast_group.specs.declared.fault.ProposeFault.{ProposeFault}
 use Rattle.mcast_group.specs.declared.fault.ProposeFault.TheVariants as propose
 use Rattle.broker_locks.specs.declared.fault.CommitFault.{CommitFault}
 use Rattle.broker_locks.specs.declared.fault.CommitFault.TheVariants as commit
+use Rattle.broker_locks.specs.declared.no_room.NoRoom.{NoRoom}
+use Rattle.broker_locks.specs.declared.no_room.NoRoom.TheVariants as no_room
 use Rattle.broker_locks.specs.declared.server_fault.ServerFault.{ServerFault}
 use Rattle.broker_locks.specs.declared.server_fault.ServerFault.TheVariants as server
 
@@ -28,6 +30,16 @@ commit_fault propose.ClockFull = commit.ClockFull
 commit_fault propose.LogFull = commit.LogFull
 commit_fault propose.NoMemory = commit.NoMemory
 commit_fault propose.Twice = commit.Twice
+
+-- ---- of a reservation (own)
+
+abbrev pub no_room_number : NoRoom → ℕ
+no_room_number (no_room.Full topic sub) = 104
+no_room_number no_room.NoMemory = 105
+
+abbrev pub no_room_title : NoRoom → List ℕ
+no_room_title (no_room.Full topic sub) = codes "104 Full"
+no_room_title no_room.NoMemory = codes "105 NoMemory"
 
 -- ---- of a running broker (own)
 

@@ -5,6 +5,7 @@ pub mod Inner
 pub mod KeptTrace
 pub mod Opening
 pub mod Place
+pub mod Room
 pub mod Rows
 pub mod Tickets
 pub mod TopicTraces

@@ -10,14 +10,17 @@ ghost use Rattle.broker_locks.specs.declared.server_fault.ServerFault.TheVariant
 ghost use Rattle.broker_locks.specs.Commits.{AreTold, IsCommitted, IsRefused, IsUntouched, KnowsStamp, some_refusal, topics_in};
 ghost use Rattle.broker_locks.specs.Gathering.{IsTraceLeft, StopsGathering};
 ghost use Rattle.broker_locks.specs.Opening.{clock_at_start, opening_places};
+ghost use Rattle.broker_locks.specs.Room.{BeginsWith, IsRefusedAt};
 ghost use Rattle.broker_locks.specs.Rows.{PlaceRow};
 
 use crate::commit::commit_on;
 use crate::fault::CommitFault;
 use crate::locked::Locked;
 use crate::locked_topic::LockedTopic;
+use crate::no_room::NoRoom;
 use crate::open_counts::OpenCounts;
 use crate::point::Point;
+use crate::reserved::Reserved;
 use crate::server_fault::ServerFault;
 use crate::shares::Shares;
 use crate::side::Side;
@@ -212,6 +215,29 @@ impl<R: Wait, W: Side, T: Side> Broker<R, W, T> {
         ensures queue { IfOk result
             (λ begun. (begun.taker.items ≡ []) × (begun.taker.capacity ≡ self.now.capacity)) }
     {
+        let (begun, _is_waited_for) = self.begin(rt, topic, false)?;
+        Ok(begun)
+    }
+
+    /// `subscribe`, and in the same hold of the lock `wait_for`: whether the subscription is waited for from its
+    /// beginning. Not where more is pending and reserved than a queue holds, or where there is no memory for the list
+    /// of who is waited for.
+    pub fn subscribe_waited_for(&self, rt: &R, topic: Topic) -> Result<(Subscribed, bool), SubFault>
+        ensures nowhere { max_topics ≤ topic.0 → result ≡ Err SubInUse }
+        ensures number { IfOk result (λ begun. (k : ℕ) × (begun.0.sub ≡ k * max_topics + topic.0)) }
+        ensures queue { IfOk result
+            (λ begun. (begun.0.taker.items ≡ []) × (begun.0.taker.capacity ≡ self.now.capacity)) }
+    {
+        self.begin(rt, topic, true)
+    }
+
+    /// Begins a subscription at the topic, as `subscribe` says; whether it is waited for, where that is asked for.
+    fn begin(&self, rt: &R, topic: Topic, wait: bool) -> Result<(Subscribed, bool), SubFault>
+        ensures nowhere { max_topics ≤ topic.0 → result ≡ Err SubInUse }
+        ensures number { IfOk result (λ begun. (k : ℕ) × (begun.0.sub ≡ k * max_topics + topic.0)) }
+        ensures queue { IfOk result
+            (λ begun. (begun.0.taker.items ≡ []) × (begun.0.taker.capacity ≡ self.now.capacity)) }
+    {
         let Some(lock) = self.lock_of(topic) else {
             return Err(SubFault::SubInUse);
         };
@@ -221,7 +247,8 @@ impl<R: Wait, W: Side, T: Side> Broker<R, W, T> {
         let mut locked = lock.lock(rt);
         let (sub, start) = locked.subscribe(topic, source)?;
         self.opens.note(topic, locked.open_len());
-        Ok(Subscribed { sub, start, taker })
+        let is_waited_for = wait && locked.wait_for(rt, sub);
+        Ok((Subscribed { sub, start, taker }, is_waited_for))
     }
 
     /// Ends the topic's subscription of this number, and returns what it leaves, with no memory. Refused by 48 where
@@ -243,6 +270,119 @@ impl<R: Wait, W: Side, T: Side> Broker<R, W, T> {
         ensures nowhere { max_topics ≤ topic.0 → result ≡ None }
     {
         self.lock_of(topic)?.lock(rt).place.state(sub)
+    }
+
+    /// Room for one part at each of these topics, or at none of them: it is taken topic by topic in this order, each
+    /// lock by itself, and at the first topic that has none what was taken is given back. Those that are waited for are
+    /// asked first what was taken. A topic without a lock has room. The list is made before the first lock, so that
+    /// out of memory nothing was taken.
+    pub fn reserve(&self, rt: &R, topics: &[Topic]) -> Result<Reserved, NoRoom>
+        ensures topics { IfOk result (λ reserved. reserved ≡ topics.now) }
+        ensures refused { IfErr result (IsRefusedAt topics.now) }
+    {
+        let Ok(reserved) = Reserved::at(self.alloc, topics) else {
+            return Err(NoRoom::NoMemory);
+        };
+        for k in 0..topics.len() {
+            let topic = topics[k];
+            if let Err(sub) = self.reserve_at(rt, topic) {
+                self.give_back_at(rt, &topics[..k]);
+                reserved.close();
+                return Err(NoRoom::Full { topic, sub });
+            }
+        }
+        Ok(reserved)
+    }
+
+    /// Gives all of it back.
+    pub fn release_room(&self, rt: &R, reserved: Reserved) {
+        self.give_back_at(rt, reserved.topics());
+        reserved.close();
+    }
+
+    /// Reserves room for one part at the topic. Refused as `NoRoom::Full` says.
+    fn reserve_at(&self, rt: &R, topic: Topic) -> Result<(), Option<u64>>
+        ensures { OnErr result (topic.0 < max_topics) }
+    {
+        match self.lock_of(topic) {
+            Some(lock) => lock.lock(rt).reserve(rt, self.capacity),
+            None => Ok(()),
+        }
+    }
+
+    /// Gives back what was reserved for one part at each of these topics.
+    fn give_back_at(&self, rt: &R, topics: &[Topic]) {
+        for &topic in topics {
+            if let Some(lock) = self.lock_of(topic) {
+                lock.lock(rt).give_back();
+            }
+        }
+    }
+
+    /// Whether the topic's subscription of this number is waited for from now on: it is open, and what it is known to
+    /// leave (its source hears first what its taker told) is room for all parts that are pending and reserved. So it is
+    /// where it was waited for. Not where there is no such lock, or no memory for one place more in the list of them.
+    pub fn wait_for(&self, rt: &R, topic: Topic, sub: u64) -> bool
+        ensures nowhere { max_topics ≤ topic.0 → result ≡ false }
+    {
+        match self.lock_of(topic) {
+            Some(lock) => lock.lock(rt).wait_for(rt, sub),
+            None => false,
+        }
+    }
+
+    /// Adds the numbers of the topic's subscriptions that are waited for and have no room for one part more to the
+    /// list, rising; nobody, where as many parts are pending and reserved as a queue takes. Room for them is made before
+    /// the lock; out of memory, the list has the first of them.
+    pub fn lacking(&self, rt: &R, topic: Topic, list: &mut Vec<u64>) -> Result<(), NoMemory>
+        ensures begins { BeginsWith list.old.items list.new.items }
+        ensures nowhere { max_topics ≤ topic.0 → (result ≡ Ok tt) × (list.new.items ≡ list.old.items) }
+    {
+        let Some(lock) = self.lock_of(topic) else {
+            return Ok(());
+        };
+        list.reserve(self.open_at(topic))?;
+        lock.lock(rt).lacking(rt, self.capacity, list)
+    }
+
+    /// Whether the topic's subscription of this number was waited for and lacked room for one part more, as `lacking`
+    /// says: then it is waited for no longer.
+    pub fn pass_over(&self, rt: &R, topic: Topic, sub: u64) -> bool
+        ensures nowhere { max_topics ≤ topic.0 → result ≡ false }
+    {
+        match self.lock_of(topic) {
+            Some(lock) => lock.lock(rt).pass_over(rt, self.capacity, sub),
+            None => false,
+        }
+    }
+
+    /// `commit`, with room: at a topic of `reserved` the part is entered with what is reserved there, so that nobody is
+    /// passed over; at another without. What is left of the room then, at other topics or where the commit is refused,
+    /// is given back.
+    pub fn commit_reserved<Q: Point>(
+        &self,
+        rt: &R,
+        worker: &mut Worker<W>,
+        flying: Flying,
+        reserved: Reserved,
+        point: &mut Q,
+    ) -> Result<(Gate, Stamp), (Gate, CommitFault)>
+        requires { IsUntouched flying.state }
+        ensures committed { IfOk result
+            (λ done. (old new : List PlaceRow) × IsCommitted flying.state old new done.0 done.1) }
+        ensures told { OnOk result
+            (AreTold Q.told (topics_in flying.state) (length (topics_in flying.state)) point.old point.new) }
+        ensures given { OnOk result
+            (worker.new.tickets ≡ worker.old.tickets + length (topics_in flying.state)) }
+        ensures refused { IfErr result
+            (λ refused. (old new : List PlaceRow) × IsRefused some_refusal Q.told flying.state old new
+            worker.old.tickets worker.new.tickets point.old point.new refused.0 refused.1) }
+        ensures no_less { OnErr result (worker.old.tickets ≤ worker.new.tickets) }
+        ensures no_more { OnErr result
+            (worker.new.tickets ≤ worker.old.tickets + length (topics_in flying.state)) }
+    {
+        let (gate, stamp, _) = self.commit_with(rt, worker, flying, reserved, point)?;
+        Ok((gate, stamp))
     }
 
     /// `commit_seen`, without the note.
@@ -297,12 +437,41 @@ impl<R: Wait, W: Side, T: Side> Broker<R, W, T> {
         ensures no_more { OnErr result
             (worker.new.tickets ≤ worker.old.tickets + length (topics_in flying.state)) }
     {
+        self.commit_with(rt, worker, flying, Reserved::none(self.alloc), point)
+    }
+
+    /// `commit_seen`, with room, as `commit_reserved` says.
+    fn commit_with<Q: Point>(
+        &self,
+        rt: &R,
+        worker: &mut Worker<W>,
+        flying: Flying,
+        reserved: Reserved,
+        point: &mut Q,
+    ) -> Result<(Gate, Stamp, Seen), (Gate, CommitFault)>
+        requires { IsUntouched flying.state }
+        ensures committed { IfOk result
+            (λ done. (old new : List PlaceRow) × IsCommitted flying.state old new done.0 done.1) }
+        ensures set { IfOk result (λ done. KnowsStamp flying.flight done.1 done.2) }
+        ensures told { OnOk result
+            (AreTold Q.told (topics_in flying.state) (length (topics_in flying.state)) point.old point.new) }
+        ensures given { OnOk result
+            (worker.new.tickets ≡ worker.old.tickets + length (topics_in flying.state)) }
+        ensures refused { IfErr result
+            (λ refused. (old new : List PlaceRow) × IsRefused some_refusal Q.told flying.state old new
+            worker.old.tickets worker.new.tickets point.old point.new refused.0 refused.1) }
+        ensures no_less { OnErr result (worker.old.tickets ≤ worker.new.tickets) }
+        ensures no_more { OnErr result
+            (worker.new.tickets ≤ worker.old.tickets + length (topics_in flying.state)) }
+    {
         let Worker { shares } = worker;
         let Shares { workers: _, share } = shares;
         let none = share.empty();
-        let mut locked = Locked::new(self, rt, mem::replace(share, none));
+        let mut locked = Locked::new(self, rt, mem::replace(share, none), reserved);
         let answer = commit_on(flying, &mut locked, point);
-        *share = locked.into_share();
+        let (mine, left) = locked.into_parts();
+        *share = mine;
+        self.release_room(rt, left);
         answer
     }
 

@@ -7,6 +7,7 @@ ghost use Rattle.broker_locks.specs.Place.{proposal_of};
 use crate::broker::Broker;
 use crate::done_rows::DoneRows;
 use crate::places::Places;
+use crate::reserved::Reserved;
 use crate::side::Side;
 use mcast_group::{Proposal, ProposeFault};
 use mcast_txn::{NoMemory, Part, Stamp, Ticket, Topic, TxnId};
@@ -15,13 +16,13 @@ use std::snapshot::Snapshot;
 use std::sync::ledger::Share;
 use std::sync::{Arc, Wait};
 
-/// A broker's locks, the share of the worker that commits, and what its commit did behind them. Each call takes a
-/// topic's lock, within it the total's for one step of a proposal, and lets go of both.
-#[derive(Drop)]
+/// A broker's locks, the share of the worker that commits, the room that is reserved for its commit, and what that did
+/// behind them. Each call takes a topic's lock, within it the total's for one step of a proposal, and lets go of both.
 pub(crate) struct Locked<'a, R: Wait, W: Side, T: Side> {
     broker: &'a Broker<R, W, T>,
     rt: &'a R,
     share: Share<W>,
+    reserved: Reserved,
     done: DoneRows,
     ghost one: { share.parts ≡ 1 },
 }
@@ -32,6 +33,7 @@ impl<'a, R: Wait, W: Side, T: Side> Locked<'a, R, W, T> {
         broker: &'a Broker<R, W, T>,
         rt: &'a R,
         share: Share<W>,
+        reserved: Reserved,
     ) -> Locked<'a, R, W, T>
         requires { share.parts ≡ 1 }
         ensures rows { result.done.rows ≡ [] }
@@ -41,23 +43,25 @@ impl<'a, R: Wait, W: Side, T: Side> Locked<'a, R, W, T> {
             broker,
             rt,
             share,
+            reserved,
             done: DoneRows::new(broker.alloc()),
         }
     }
 
-    /// The worker's share.
-    pub(crate) fn into_share(self) -> Share<W>
-        ensures one { result.parts ≡ 1 }
-        ensures tickets { result.amount ≡ self.entry.share.amount }
+    /// The worker's share, and what is left of the room.
+    pub(crate) fn into_parts(self) -> (Share<W>, Reserved)
+        ensures one { result.0.parts ≡ 1 }
+        ensures tickets { result.0.amount ≡ self.entry.share.amount }
     {
         let Locked {
             broker: _,
             rt: _,
             share,
+            reserved,
             done,
         } = self;
         drop(done);
-        share
+        (share, reserved)
     }
 }
 
@@ -70,7 +74,7 @@ impl<'a, R: Wait, W: Side, T: Side> Places for Locked<'a, R, W, T> {
 
     /// Enters the part behind its topic's lock, before which it is moved to the heap, with a copy for each subscription
     /// that was open there. Refused as there, 49 also where there is no such lock, 42 also where there is no memory to
-    /// move it.
+    /// move it. Where room is reserved at its topic, that is used up as it is entered.
     fn propose(&mut self, floor: Stamp, part: Arc<Part>) -> Result<Ticket, ProposeFault> {
         let Some(lock) = self.broker.lock_of(part.topic) else {
             return Err(ProposeFault::Twice);
@@ -80,13 +84,23 @@ impl<'a, R: Wait, W: Side, T: Side> Places for Locked<'a, R, W, T> {
         };
         let shown = Snapshot::of(&*part);
         let many = self.broker.open_at(part.topic);
+        let index = self.reserved.index_of(part.topic);
         let Ok(proposal) = copied(self.broker.alloc(), part, many) else {
             return Err(ProposeFault::NoMemory);
         };
         let total = self.broker.total();
-        let ticket = lock
-            .lock(self.rt)
-            .propose(self.rt, total, &mut self.share, floor, proposal)?;
+        let with_reserved = index.is_some();
+        let ticket = lock.lock(self.rt).propose(
+            self.rt,
+            total,
+            &mut self.share,
+            floor,
+            proposal,
+            with_reserved,
+        )?;
+        if let Some(index) = index {
+            self.reserved.use_up(index);
+        }
         self.done.enter(shown, floor, ticket.n);
         Ok(ticket)
     }

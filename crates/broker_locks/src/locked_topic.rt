@@ -1,6 +1,7 @@
 //! What one topic's lock guards.
 
-ghost use Rattle.std.specs.Prelude.{◌≡◌, ◌≢◌, ◌⊎◌, ◌+◌, ◌*◌, ◌<◌, ℕ, [], None, Some, IfOk, IfErr, IfSome, OnOk, OnErr};
+ghost use Rattle.std.specs.Prelude.{◌≡◌, ◌≢◌, ◌⊎◌, ◌+◌, ◌++◌, ◌*◌, ◌<◌, ◌==◌, ℕ, [], true, false, None, Some, IfOk, IfErr, IfSome, OnOk, OnErr};
+ghost use Rattle.std.specs.List.{list_any};
 ghost use Rattle.sub_queue.specs.Ends.{shown_of_source};
 ghost use Rattle.mcast_group.specs.CellGroup.{open_count};
 ghost use Rattle.mcast_group.specs.Group.{or_no_memory, result_of};
@@ -8,10 +9,12 @@ ghost use Rattle.mcast_group.specs.declared.fault.ProposeFault.TheVariants.{Cloc
 ghost use Rattle.mcast_group.specs.Machine.{cancel_fault, next_number};
 ghost use Rattle.delivery.specs.Topics.{max_topics};
 ghost use Rattle.trace_audit.specs.declared.fault.AddFault.TheVariants.{Misfit};
-ghost use Rattle.broker_locks.specs.Place.{HasDoneNothing, HasTurned, IsIdle, new_place, place_after_cancel, place_after_propose, place_after_subscribe, place_after_unsubscribe, place_fault, topic_limit};
+ghost use Rattle.broker_locks.specs.Place.{HasDoneNothing, HasTurned, IsIdle, new_place, place_after_cancel, place_after_propose, place_after_subscribe, place_after_unsubscribe, place_fault, place_subscribe_fault, topic_limit};
+ghost use Rattle.broker_locks.specs.Room.{HasHeard, IsFirstOfLacking, KeepsRoom, lacking_room, more_reserved, one_given_back, one_reserved, reserve_answer, room_after_enter, waiting_for, waiting_without};
 
 use crate::counts::Counts;
 use crate::place::Place;
+use crate::room::Room;
 use crate::side::Side;
 use crate::total::Total;
 use crate::total_counter::TotalCounter;
@@ -28,15 +31,21 @@ use trace_audit::AddFault;
 /// The most parts and undrained rows of a topic, taken together (our choice).
 pub const LOG_LIMIT: usize = 65_536;
 
-/// A topic's place, of at most 65,536 parts and rows, which of its subscriptions is next, from 0, if one is left, and
-/// its share of the tickets, which are those that it gave.
+/// A topic's place, of at most 65,536 parts and rows, what room is reserved there and who is waited for, which of its
+/// subscriptions is next, from 0, if one is left, and its share of the tickets, which are those that it gave. Each
+/// subscription that is waited for is open, and its queue has room for all parts that are pending and for those for
+/// which room is reserved, and for the spare beside them, which is used up before anybody is asked what was taken.
 pub(crate) struct LockedTopic<R: Wait, T: Side> {
     pub(crate) place: Place<R>,
+    pub(crate) room: Room,
+    /// So many more parts could be reserved.
+    pub(crate) spare: u64,
     pub(crate) next: Option<u64>,
     pub(crate) share: Share<T>,
     ghost limit: { place.cells.group.topic.log_limit ≡ 65536 },
     ghost one: { share.parts ≡ 1 },
     ghost counted: { share.amount ≡ place.tickets },
+    ghost roomy: { ∥ KeepsRoom (more_reserved spare room) place.cells.group ∥₁ },
 }
 
 impl<R: Wait, T: Side> Drop for LockedTopic<R, T> {
@@ -44,10 +53,13 @@ impl<R: Wait, T: Side> Drop for LockedTopic<R, T> {
     fn drop(self) {
         let LockedTopic {
             place,
+            room,
+            spare: _,
             next: _,
             share,
         } = self;
         drop(place);
+        drop(room);
         drop(share);
     }
 }
@@ -66,6 +78,8 @@ impl<R: Wait, T: Side> LockedTopic<R, T> {
     {
         LockedTopic {
             place: Place::new(alloc, topic, clock, LOG_LIMIT, keep_trace),
+            room: Room::new(alloc),
+            spare: 0,
             next: Some(0),
             share,
         }
@@ -79,6 +93,8 @@ impl<R: Wait, T: Side> LockedTopic<R, T> {
     {
         let LockedTopic {
             place,
+            room: _,
+            spare: _,
             next: _,
             share: _,
         } = self;
@@ -97,6 +113,8 @@ impl<R: Wait, T: Side> LockedTopic<R, T> {
     {
         let LockedTopic {
             place,
+            room: _,
+            spare: _,
             next: _,
             share,
         } = self;
@@ -104,8 +122,9 @@ impl<R: Wait, T: Side> LockedTopic<R, T> {
     }
 
     /// Enters a part, and counts its ticket as the worker's that has this share. All memory is made first; then the
-    /// total's lock is taken, for the count alone, and nothing is refused after that. Refused as by the place, and then
-    /// by 40 where the total is full; then nothing has changed, and nothing is counted.
+    /// total's lock is taken, for the count alone, and nothing is refused after that. With a reservation that is used
+    /// up; without, those that are waited for are asked what was taken, and who has no room now is passed over. Refused
+    /// as by the place, and then by 40 where the total is full; then nothing has changed, and nothing is counted.
     pub(crate) fn propose<W: Side>(
         &mut self,
         rt: &R,
@@ -113,6 +132,7 @@ impl<R: Wait, T: Side> LockedTopic<R, T> {
         mine: &mut Share<W>,
         floor: Stamp,
         proposal: Proposal,
+        with_reserved: bool,
     ) -> Result<Ticket, ProposeFault>
         requires { 0 < mine.old.parts }
         ensures parts { mine.new.parts ≡ mine.old.parts }
@@ -122,16 +142,21 @@ impl<R: Wait, T: Side> LockedTopic<R, T> {
           topic = self.old.place.cells.group.topic.topic;
           n = next_number floor self.old.place.cells.group.topic;
         }) }
-        ensures ok { OnOk result (self.new.place ≡ place_after_propose floor proposal self.old.place) }
+        ensures ok { OnOk result
+            (HasHeard (place_after_propose floor proposal self.old.place) self.new.place) }
+        ensures room { OnOk result
+            (self.new.room ≡ room_after_enter with_reserved self.new.place.cells.group self.old.room) }
         ensures counted { OnOk result (mine.new.amount ≡ mine.old.amount + 1) }
         ensures fault { IfErr result
             (λ fault. (fault ≡ or_no_memory (place_fault floor proposal.part self.old.place))
             ⊎ ((place_fault floor proposal.part self.old.place ≡ None) × (fault ≡ ClockFull))) }
-        ensures same { OnErr result (self.new.place ≡ self.old.place) }
+        ensures same { OnErr result ((self.new.place ≡ self.old.place) × (self.new.room ≡ self.old.room)) }
         ensures uncounted { OnErr result (mine.new.amount ≡ mine.old.amount) }
     {
         let LockedTopic {
             place,
+            room,
+            spare,
             next: _,
             share,
         } = self;
@@ -141,7 +166,13 @@ impl<R: Wait, T: Side> LockedTopic<R, T> {
         let mut counter = TotalCounter::new(rt, total, theirs, here);
         let answer = place.enter(floor, proposal, &mut counter);
         (*mine, *share) = counter.into_shares();
-        answer
+        match answer {
+            Ok(ticket) => {
+                room.enter(rt, with_reserved, place, spare);
+                Ok(ticket)
+            }
+            Err(fault) => Err(fault),
+        }
     }
 
     /// Takes the transaction's part out, as the place does.
@@ -149,6 +180,7 @@ impl<R: Wait, T: Side> LockedTopic<R, T> {
         ensures answer { result ≡ result_of (cancel_fault id self.old.place.cells.group.topic) }
         ensures ok { OnOk result (self.new.place ≡ place_after_cancel id self.old.place) }
         ensures err { OnErr result (self.new.place ≡ self.old.place) }
+        ensures room { self.new.room ≡ self.old.room }
     {
         self.place.cancel(id)
     }
@@ -165,6 +197,7 @@ impl<R: Wait, T: Side> LockedTopic<R, T> {
         ensures turned { HasTurned self.old.place self.new.place result.0 result.1 }
         ensures idle { IsIdle self.old.place → self.new.place.cells.notes ≡ self.old.place.cells.notes
             → HasDoneNothing self.old.place self.new.place result.0 result.1 }
+        ensures room { self.new.room ≡ self.old.room }
     {
         self.place.head_turned(rt)
     }
@@ -186,6 +219,7 @@ impl<R: Wait, T: Side> LockedTopic<R, T> {
         ensures next { IfOk result
             (λ _. IfSome self.new.next (λ next. (k : ℕ) × (self.old.next ≡ Some k) × (next ≡ k + 1))) }
         ensures err { OnErr result ((self.new.place ≡ self.old.place) × (self.new.next ≡ self.old.next)) }
+        ensures room { self.new.room ≡ self.old.room }
     {
         let Some(k) = self.next else {
             return Err(SubFault::SubInUse);
@@ -193,21 +227,100 @@ impl<R: Wait, T: Side> LockedTopic<R, T> {
         let Some(number) = number_of(k, topic) else {
             return Err(SubFault::SubInUse);
         };
-        match self.place.subscribe(number, source) {
+        match begun(&mut self.place, number, source) {
             Ok(from) => {
                 self.next = k.checked_add(1);
                 Ok((number, from))
             }
-            Err((fault, _source)) => Err(fault),
+            Err(fault) => Err(fault),
         }
     }
 
-    /// Ends the subscription of this number, as the place does.
+    /// Ends the subscription of this number, as the place does. It isn't waited for any more.
     pub(crate) fn unsubscribe(&mut self, number: u64) -> Result<Ended<Source<R>>, NoSub>
         ensures ok { OnOk result (self.new.place ≡ place_after_unsubscribe number self.old.place) }
         ensures err { OnErr result (self.new.place ≡ self.old.place) }
+        ensures room { self.new.room ≡ waiting_without number self.old.room }
     {
+        self.place.balanced();
+        self.room.forget(number);
         self.place.unsubscribe(number)
+    }
+
+    /// Reserves room for one part more, where a topic has room for so many. Refused by the first of the subscriptions
+    /// that are waited for whose queue lacks room, or by none where as many parts are pending and reserved.
+    pub(crate) fn reserve(&mut self, rt: &R, capacity: usize) -> Result<(), Option<u64>>
+        ensures heard { HasHeard self.old.place self.new.place }
+        ensures answer { result ≡ reserve_answer capacity self.old.room self.new.place.cells.group }
+        ensures ok { OnOk result (self.new.room ≡ one_reserved self.old.room) }
+        ensures err { OnErr result (self.new.room ≡ self.old.room) }
+    {
+        self.room
+            .reserve(rt, capacity, &mut self.place, &mut self.spare)
+    }
+
+    /// Gives back what was reserved for one part, where it is reserved.
+    pub(crate) fn give_back(&mut self)
+        ensures place { self.new.place ≡ self.old.place }
+        ensures room { self.new.room ≡ one_given_back self.old.room }
+    {
+        self.room.give_back();
+    }
+
+    /// Whether the subscription is waited for from now on: it is open, and has room for all parts that are pending and
+    /// reserved. Not where there is no memory for one place more in the list of them.
+    pub(crate) fn wait_for(&mut self, rt: &R, number: u64) -> bool
+        ensures heard { HasHeard self.old.place self.new.place }
+        ensures yes { result ≡ true → self.new.room ≡ waiting_for number self.old.room }
+        ensures no { result ≡ false → self.new.room ≡ self.old.room }
+    {
+        self.room
+            .wait_for(rt, number, &mut self.place, &mut self.spare)
+    }
+
+    /// Adds the numbers of those that are waited for and lack room for one part more to a list, where a topic has room
+    /// for so many parts. Out of memory, the first of them were added.
+    pub(crate) fn lacking(
+        &mut self,
+        rt: &R,
+        capacity: usize,
+        list: &mut Vec<u64>,
+    ) -> Result<(), NoMemory>
+        ensures heard { HasHeard self.old.place self.new.place }
+        ensures ok { OnOk result (list.new.items
+            ≡ list.old.items ++ lacking_room capacity self.new.place.cells.group self.old.room) }
+        ensures err { OnErr result
+            (IsFirstOfLacking capacity self.new.place.cells.group self.old.room list.old.items list.new.items) }
+        ensures room { self.new.room ≡ self.old.room }
+    {
+        self.room.lacking(rt, capacity, &mut self.place, list)
+    }
+
+    /// Whether this subscription was waited for and lacked room for one part more, as `lacking` says: then it is
+    /// waited for no longer.
+    pub(crate) fn pass_over(&mut self, rt: &R, capacity: usize, number: u64) -> bool
+        ensures heard { HasHeard self.old.place self.new.place }
+        ensures answer { result ≡ list_any (λ n. n == number)
+            (lacking_room capacity self.new.place.cells.group self.old.room) }
+        ensures yes { result ≡ true → self.new.room ≡ waiting_without number self.old.room }
+        ensures no { result ≡ false → self.new.room ≡ self.old.room }
+    {
+        self.room.pass_over(rt, capacity, number, &mut self.place)
+    }
+}
+
+/// `Place::subscribe`, which lets the source go where it is refused.
+fn begun<R: Wait>(place: &mut Place<R>, number: u64, source: Source<R>) -> Result<Stamp, SubFault>
+    requires { source.items ≡ [] }
+    ensures from { IfOk result (λ from. from ≡ place.old.cells.group.topic.frontier) }
+    ensures allowed { OnOk result (place_subscribe_fault number place.old ≡ None) }
+    ensures ok { OnOk result
+        (place.new ≡ place_after_subscribe number (shown_of_source source).gauge place.old) }
+    ensures err { OnErr result (place.new ≡ place.old) }
+{
+    match place.subscribe(number, source) {
+        Ok(from) => Ok(from),
+        Err((fault, _source)) => Err(fault),
     }
 }
 

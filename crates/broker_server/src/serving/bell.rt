@@ -1,5 +1,8 @@
 //! How a connection's thread is told that something may be there for it.
 
+ghost use Rattle.std.specs.Prelude.{◌≡◌};
+
+use crate::serving::intake::Intake;
 use mio::Waker;
 use std::sync::atomic::{AtomicBool, AtomicU8, Ordering};
 
@@ -20,6 +23,7 @@ pub(crate) struct Bell {
     /// Whether more is there for the connection than the system takes of it.
     stuck: AtomicBool,
     waker: Waker,
+    intake: Intake,
 }
 
 impl Bell {
@@ -29,7 +33,15 @@ impl Bell {
             state: AtomicU8::new(AWAKE),
             stuck: AtomicBool::new(false),
             waker,
+            intake: Intake::new(),
         }
+    }
+
+    /// At what pace the system takes what is written to the connection.
+    pub(crate) fn intake(&self) -> &Intake
+        ensures { result.now ≡ self.now.intake }
+    {
+        &self.intake
     }
 
     /// Tells the thread. The system is called only where it waits. (A wake that fails is one whose poll is gone.) Where

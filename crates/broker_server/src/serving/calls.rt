@@ -1,17 +1,20 @@
 //! What one connection asks of the broker.
 
-ghost use Rattle.std.specs.Prelude.{◌≡◌, ◌<◌, ◌⊎◌, ◌-◌, ◌==◌, ◌&&◌};
+ghost use Rattle.std.specs.Prelude.{◌≡◌, ◌<◌, ◌⊎◌, ◌==◌, IfSome, None};
 ghost use Rattle.broker_server.specs.UnturnedTopics.{none_unturned};
 
 use crate::conversation::{BrokerCalls, ConversationFault};
+use crate::serving::account::Account;
 use crate::serving::bell::Bell;
 use crate::serving::hub::Hub;
-use crate::serving::on_way::{OnWay, rest};
+use crate::serving::moment::Moment;
 use crate::serving::peer::Peer;
+use crate::serving::room_wait::RoomWait;
 use crate::serving::seat::Seat;
 use crate::serving::unturned::Unturned;
+use crate::serving::wait_news::WaitNews;
 use crate::spelled::Spelled;
-use broker_locks::{CommitFault, Side, Subscribed, Worker};
+use broker_locks::{CommitFault, NoRoom, Reserved, Side, Subscribed, Worker};
 use log::{Log, info};
 use mcast_group::{SubFault, SubState};
 use mcast_txn::{Released, Topic};
@@ -23,14 +26,18 @@ use std::time::Clock;
 use stomp_frame::ClientFrame;
 use stomp_session::{Names, Session, Step};
 
+/// Behind so many commits that weren't turned it stands in for those who sleep, where it heard little and they are few
+/// (our choice).
+const AT_ONCE: u64 = 16;
+
 /// An open subscription of a connection, with its seat.
 #[derive(Drop)]
 pub(crate) struct SeatedSub {
     topic: Topic,
     begun: Subscribed,
     seat: Arc<Seat>,
-    /// The number of the stamp of what was taken last, or of where it begins.
-    last: u64,
+    /// How many items were taken since the topic was told how many were.
+    untold: u64,
     /// Whether it has ended at its topic.
     over: AtomicBool,
 }
@@ -48,7 +55,9 @@ pub(crate) struct Calls<'a, R: Wait + Log + Clock, W: Side, T: Side> {
     commits: u64,
     /// That is done at once when they are so many: half of what a queue holds, and one at least.
     most: u64,
-    on_way: OnWay,
+    /// Whether what it heard since then is little.
+    heard_little: bool,
+    wait: RoomWait,
     /// How many subscriptions it has.
     subs: u64,
     /// How many it had, with these.
@@ -70,7 +79,7 @@ impl<'a, R: Wait + Log + Clock, W: Side, T: Side> Calls<'a, R, W, T> {
         ensures unturned { result.unturned ≡ none_unturned }
         ensures commits { result.commits ≡ 0 }
         ensures subs { (result.subs ≡ 0) × (result.begun ≡ 0) }
-        ensures on_way { (result.on_way.before ≡ 0) × (result.on_way.since ≡ 0) }
+        ensures wait { result.wait ≡ record { counted_at = None; news = None } }
     {
         Calls {
             rt,
@@ -81,7 +90,8 @@ impl<'a, R: Wait + Log + Clock, W: Side, T: Side> Calls<'a, R, W, T> {
             unturned: Unturned::new(alloc),
             commits: 0,
             most: (hub.running.capacity() / 2).max(1),
-            on_way: OnWay::new(alloc),
+            heard_little: false,
+            wait: RoomWait::new(),
             subs: 0,
             begun: 0,
             worker,
@@ -118,7 +128,8 @@ impl<'a, R: Wait + Log + Clock, W: Side, T: Side> Calls<'a, R, W, T> {
             unturned: _,
             commits: _,
             most: _,
-            on_way: _,
+            heard_little: _,
+            wait: _,
             subs: _,
             begun: _,
             worker,
@@ -150,17 +161,30 @@ impl<'a, R: Wait + Log + Clock, W: Side, T: Side> Calls<'a, R, W, T> {
         has_lagged
     }
 
-    /// Ends this subscription at its topic, unless it has ended there.
+    /// Ends this subscription at its topic, unless it has ended there. That may make room there.
     fn end(&self, sub: &SeatedSub) {
         if sub.over.swap(true, Ordering::SeqCst) {
             return;
         }
-        self.hub.unlisten(self.rt, sub.topic, &sub.seat);
+        if let Some(account) = self.hub.unlisten(self.rt, sub.topic, &sub.seat) {
+            self.settle(sub.topic, &account);
+        }
         let _ = self
             .hub
             .running
             .broker
             .unsubscribe(self.rt, sub.topic, sub.begun.sub);
+        self.hub.ring_waiters(self.rt, sub.topic);
+    }
+
+    /// A subscription to this topic ends that had this account: where its client is behind, it pays what it was spared.
+    fn settle(&self, topic: Topic, account: &Account) {
+        let intake = self.bell.intake();
+        if intake.is_behind()
+            && let Some(seats) = self.hub.seats(topic)
+        {
+            seats.settle(self.rt, Moment::now(self.rt), account, intake);
+        }
     }
 
     /// Says that the last of these topics was made.
@@ -172,6 +196,15 @@ impl<'a, R: Wait + Log + Clock, W: Side, T: Side> Calls<'a, R, W, T> {
             let peer = self.peer;
             info!(self.rt; target: "serve", "{peer} made the topic {}", Spelled(name));
         }
+    }
+
+    /// Turns the topics of what was committed, or refused, since that was done.
+    pub(crate) fn turn_now(&mut self)
+        ensures { self.new ≡ record self.old { unturned = none_unturned; commits = 0 } }
+    {
+        self.hub.turn_those(self.rt, &self.unturned);
+        self.unturned.clear();
+        self.commits = 0;
     }
 
     /// Turns the topics of what was committed, or refused, since that was done; or has their heads do so, where a
@@ -210,93 +243,121 @@ impl<'a, R: Wait + Log + Clock, W: Side, T: Side> Calls<'a, R, W, T> {
         self.commits = 0;
     }
 
-    /// Whether it has no subscription, and something that it sent may not have come: it may never take.
-    pub(crate) fn only_sends(&self) -> bool
-        ensures { result ≡
-            (self.now.subs == 0 && 1 - self.now.on_way.before - self.now.on_way.since == 0) }
+    /// What it heard since its topics were turned is little, or isn't.
+    pub(crate) fn set_heard_little(&mut self, little: bool)
+        ensures { self.new ≡ record self.old { heard_little = little } }
     {
-        self.subs == 0 && self.on_way.room(1) == 0
+        self.heard_little = little;
     }
 
-    /// How many transactions may be on their way at once: so many find room in a queue.
-    pub(crate) fn capacity(&self) -> u64
-        ensures { result ≡ self.now.hub.now.running.broker.capacity }
+    /// What is to be said of those whom it waits for: once.
+    pub(crate) fn take_news(&mut self) -> Option<WaitNews>
+        ensures news { result ≡ self.old.wait.news }
+        ensures none { self.new ≡ record self.old { wait = record self.old.wait { news = None } } }
     {
-        self.hub.running.capacity()
+        self.wait.take_news()
     }
 
-    /// A quarter of that, and one at least.
-    pub(crate) fn quarter(&self) -> u64
-        ensures { 0 < result }
+    /// It waits for room no longer.
+    pub(crate) fn end_wait(&mut self)
+        ensures { self.new ≡ record self.old { wait = record self.old.wait { counted_at = None } } }
     {
-        (self.capacity() / 4).max(1)
+        self.wait.end(self.rt, self.hub);
     }
 
-    /// How many more may be on their way.
-    pub(crate) fn room(&self) -> u64
-        ensures { result
-            ≡ self.now.hub.now.running.broker.capacity - self.now.on_way.before - self.now.on_way.since }
+    /// It has room at these topics, and waits no longer.
+    fn go_on(&mut self, room: Reserved) -> Option<Reserved>
+        ensures { result ≡ Some room }
     {
-        self.on_way.room(self.capacity())
+        self.end_wait();
+        Some(room)
     }
 
-    /// Where the older half has come, the newer half is the older one from now on.
-    pub(crate) fn settle(&mut self)
-        ensures { ((self.new.on_way.before ≡ self.old.on_way.before)
-            × (self.new.on_way.since ≡ self.old.on_way.since) × (self.new.commits ≡ self.old.commits))
-            ⊎ ((self.new.on_way.before ≡ self.old.on_way.since) × (self.new.on_way.since ≡ 0)
-            × (self.new.commits ≡ 0)) }
+    /// Room at these topics. Where there is none, and it owes no turns, it waits.
+    fn room_at(&mut self, topics: &[Topic]) -> Option<Reserved>
+        ensures { IfSome result (λ room. room ≡ topics.now) }
     {
-        if self.on_way.has_come(self.rt, self.hub) {
-            self.age();
+        match self.hub.reserve(self.rt, topics) {
+            Ok(room) => self.go_on(room),
+            Err(NoRoom::Full { topic, sub: _ }) if self.commits == 0 => {
+                self.wait_at(topic, topics)
+            }
+            Err(_) => None,
         }
     }
 
-    /// The same twice: where all has come, nothing is on its way then.
-    pub(crate) fn settle_both(&mut self) {
-        self.settle();
-        self.settle();
-    }
-
-    /// What was sent before the newer half isn't waited for any more, and this is from now on.
-    pub(crate) fn age(&mut self)
-        ensures before { self.new.on_way.before ≡ self.old.on_way.since }
-        ensures since { self.new.on_way.since ≡ 0 }
-        ensures turned { (self.new.unturned ≡ none_unturned) × (self.new.commits ≡ 0) }
+    /// There is no room at this topic, the first of these that has none: it is told once there may be some. So it asks
+    /// again, and looks whom it waits for where there is none still.
+    fn wait_at(&mut self, topic: Topic, topics: &[Topic]) -> Option<Reserved>
+        ensures { IfSome result (λ room. room ≡ topics.now) }
     {
-        self.turn_topics();
-        self.on_way.age();
+        if let Some(seats) = self.hub.seats(topic) {
+            let _ = seats.waiters().put(self.rt, self.peer.number, &self.bell);
+        }
+        match self.hub.reserve(self.rt, topics) {
+            Ok(room) => self.go_on(room),
+            Err(
+                NoRoom::Full {
+                    topic: full,
+                    sub: _,
+                },
+            ) => {
+                if full.0 == topic.0 {
+                    self.wait.look(self.rt, self.alloc, self.hub, topic);
+                } else {
+                    self.bell.ring();
+                }
+                None
+            }
+            Err(NoRoom::NoMemory) => None,
+        }
     }
 
-    /// Waits until all has come that was sent, as long as it waits for anything.
-    fn wait_for_all(&mut self) {
-        self.turn_topics();
-        self.on_way.wait(self.rt, self.hub);
-        self.on_way.age();
-        self.on_way.wait(self.rt, self.hub);
-        self.on_way.age();
+    /// Tells the topic how many items of this subscription were taken, and those who wait for room there.
+    fn tell_taken(&self, sub: &mut SeatedSub)
+        ensures { sub.new ≡ record sub.old { untold = 0 } }
+    {
+        sub.untold = 0;
+        sub.begun.taker.tell(self.rt);
+        sub.seat.set_taken();
+        self.hub.ring_waiters(self.rt, sub.topic);
     }
 
-    /// Rests, so that other threads run.
-    pub(crate) fn rest(&self) {
-        rest(self.rt);
+    /// An item of this subscription was taken: that is told once half of what a queue holds was.
+    fn count_taken(&self, sub: &mut SeatedSub)
+        ensures same { sub.new ≡ record sub.old { untold = sub.new.untold } }
+        ensures few { (sub.new.untold ≡ 0) ⊎ (sub.new.untold < self.now.most) }
+    {
+        sub.untold = sub.untold.saturating_add(1);
+        if sub.untold >= self.most {
+            self.tell_taken(sub);
+        }
     }
 
-    /// A transaction was committed, or refused. The topics are turned once these are half as many as a queue holds. A
-    /// connection that has no subscription has at most as many on their way as a queue holds: then it waits until the
-    /// older half has come to the subscribers, so that a burst finds room in the queue of each that takes in time.
+    /// The queue of this subscription was found empty: what was taken is told, and where it was passed over, it is waited
+    /// for again, if what is there finds room.
+    fn find_empty(&self, sub: &mut SeatedSub)
+        ensures { sub.new ≡ record sub.old { untold = 0 } }
+    {
+        if sub.untold > 0 {
+            self.tell_taken(sub);
+        }
+        if sub.seat.take_passed_over() && !sub.over.load(Ordering::SeqCst) {
+            let broker = &self.hub.running.broker;
+            if !broker.wait_for(self.rt, sub.topic, sub.begun.sub) {
+                sub.seat.set_passed_over();
+            }
+        }
+    }
+
+    /// A transaction was committed, or refused. The topics are turned once these are half as many as a queue holds.
     fn count_commit(&mut self)
         ensures few { (self.new.commits ≡ 0) ⊎ (self.new.commits < self.new.most) }
         ensures turned { self.new.commits ≡ 0 → self.new.unturned ≡ none_unturned }
         ensures most { self.new.most ≡ self.old.most }
     {
         self.commits = self.commits.saturating_add(1);
-        let is_half = self.on_way.since() >= self.most || self.room() == 0;
-        if is_half && self.subs == 0 {
-            self.turn_topics();
-            self.on_way.wait(self.rt, self.hub);
-            self.on_way.age();
-        } else if self.commits >= self.most {
+        if self.commits >= self.most {
             self.turn_topics();
         }
     }
@@ -307,8 +368,7 @@ impl<'a, R: Wait + Log + Clock, W: Side, T: Side> BrokerCalls for Calls<'a, R, W
 
     type Sub = SeatedSub;
 
-    // No room is reserved yet.
-    type Room = ();
+    type Room = Reserved;
 
     // Nothing is said of what other threads find.
     ghost called = { λ old row new. Unit {0} };
@@ -338,32 +398,31 @@ impl<'a, R: Wait + Log + Clock, W: Side, T: Side> BrokerCalls for Calls<'a, R, W
     }
 
     /// Its seat stands at the topic before the subscription begins: the other order would lose what is released
-    /// between. Before its first one all has come that it sent: from then on it can't wait without taking.
+    /// between. It is waited for from its beginning, where what is there finds room.
     fn subscribe(&mut self, topic: Topic) -> Result<SeatedSub, SubFault> {
-        if self.subs == 0 {
-            self.wait_for_all();
-        }
         let Ok(seat) = self.seat() else {
             return Err(SubFault::NoMemory);
         };
         if self.hub.listen(self.rt, topic, &seat).is_err() {
             return Err(SubFault::NoMemory);
         }
-        match self.hub.running.broker.subscribe(self.rt, topic) {
-            Ok(begun) => {
-                let last = begun.start.n;
-                seat.set_taken(last);
+        match self.hub.running.broker.subscribe_waited_for(self.rt, topic) {
+            Ok((begun, is_waited_for)) => {
+                seat.set_sub(begun.sub);
+                if !is_waited_for {
+                    seat.set_passed_over();
+                }
                 self.subs = self.subs.saturating_add(1);
                 Ok(SeatedSub {
                     topic,
                     begun,
                     seat,
-                    last,
+                    untold: 0,
                     over: AtomicBool::new(false),
                 })
             }
             Err(fault) => {
-                self.hub.unlisten(self.rt, topic, &seat);
+                let _ = self.hub.unlisten(self.rt, topic, &seat);
                 Err(fault)
             }
         }
@@ -387,38 +446,43 @@ impl<'a, R: Wait + Log + Clock, W: Side, T: Side> BrokerCalls for Calls<'a, R, W
         matches!(state, Some(SubState::Lag(_)))
     }
 
-    /// Whoever waits for what it takes is told once nothing is there.
+    /// Those who wait for room are told once nothing is there, or half of what a queue holds was taken.
     fn take(&mut self, sub: &mut SeatedSub) -> Option<Released> {
         let item = sub.begun.taker.take(self.rt);
-        match &item {
-            Some(item) => sub.last = item.stamp.n,
-            None => sub.seat.set_taken(sub.last),
+        match item {
+            Some(_) => self.count_taken(sub),
+            None => self.find_empty(sub),
         }
         item
     }
 
-    fn reserve(&mut self, _topics: &[Topic]) -> Option<()> {
-        Some(())
+    /// Where it owes turns, and there is no room, these come first: there may be some then. They come first, too, where
+    /// it is to stand in for those who sleep.
+    fn reserve(&mut self, topics: &[Topic]) -> Option<Reserved> {
+        if self.commits == AT_ONCE && self.heard_little && self.few_sleep() {
+            return None;
+        }
+        self.room_at(topics)
     }
 
-    fn give_room_back(&mut self, _room: ()) {}
+    fn give_room_back(&mut self, room: Reserved) {
+        self.hub.release_room(self.rt, room);
+    }
 
-    fn commit(&mut self, flying: Flying, _room: ()) -> Result<Gate, (Gate, CommitFault)> {
-        let topics = flying.topics().len();
-        self.on_way.add(flying.topics().as_slice());
-        let done = self
-            .hub
-            .running
-            .broker
-            .commit(self.rt, &mut self.worker, flying, &mut self.unturned);
+    /// Where it is refused there may be room at each of its topics.
+    fn commit(&mut self, flying: Flying, room: Reserved) -> Result<Gate, (Gate, CommitFault)> {
+        let done = self.hub.running.broker.commit_reserved(
+            self.rt,
+            &mut self.worker,
+            flying,
+            room,
+            &mut self.unturned,
+        );
+        self.count_commit();
         match done {
-            Ok((gate, stamp)) => {
-                self.on_way.note_stamp(topics, stamp);
-                self.count_commit();
-                Ok(gate)
-            }
+            Ok((gate, _)) => Ok(gate),
             Err(refused) => {
-                self.count_commit();
+                self.hub.ring_all_waiters(self.rt);
                 Err(refused)
             }
         }

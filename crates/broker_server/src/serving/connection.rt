@@ -1,13 +1,14 @@
 //! A connection's thread.
 
-ghost use Rattle.std.specs.Prelude.{◌≤◌, ◌<◌, length};
+ghost use Rattle.std.specs.Prelude.{◌≡◌, true};
+ghost use Rattle.std.specs.Option.{is_some};
+ghost use Rattle.broker_server.specs.declared.serving.connection.Round.TheVariants.{Idle};
 
 use crate::conversation::{Conversation, ConversationFault, Exit};
 use crate::serving::calls::Calls;
 use crate::serving::desk::Desk;
 use crate::serving::desks::Desks;
 use crate::serving::hub::Hub;
-use crate::serving::on_way::MAX_RESTS;
 use crate::serving::outfit::Outfit;
 use crate::serving::seat::Seat;
 use crate::serving::socket::{Came, Socket};
@@ -15,7 +16,6 @@ use crate::serving::why_left::{LastWords, WhyLeft};
 use crate::spelled::Spelled;
 use broker_locks::Side;
 use log::{Log, info, warn};
-use memchr::memchr;
 use std::alloc::Global;
 use std::sync::{Arc, Wait};
 use std::thread::yield_now;
@@ -31,9 +31,6 @@ const MAX_ROUNDS: u32 = 16;
 /// it, and needn't wake it then (our choice).
 const ROUNDS_TO_YIELD: u32 = 2;
 
-/// The octets of the shortest SEND: its command, a destination of one octet, two ends of lines, and NULL.
-const LEAST_SEND: u64 = 21;
-
 /// Where it heard at most so many octets since its reads last left it topics to turn, it may stand in for others (our
 /// choice).
 const MOST_HEARD: usize = 16_384;
@@ -47,7 +44,7 @@ const LAST_POLLS: u32 = 10;
 /// So many reads are dropped of a peer that was told all, at most (our choice).
 const LAST_READS: u32 = 4_096;
 
-/// How long a poll of a connection waits whose octets the system doesn't take, or that leaves.
+/// How long a poll of a connection waits that waits for room, whose octets the system doesn't take, or that leaves.
 fn poll_time() -> Option<Duration> {
     Some(Duration::from_millis(100))
 }
@@ -83,31 +80,8 @@ enum Round {
 enum Sleep {
     /// Its socket or its bell.
     Told,
-    /// The time, too, since the system doesn't take what waits.
+    /// The time, too, since it waits for room, or the system doesn't take what waits.
     Timed,
-}
-
-/// Behind the so manieth NULL of this piece, or behind as many octets as so many of the shortest SENDs have, whichever
-/// is later, or behind the piece: no more transactions are sent before that. Each frame ends with NULL, but a body may
-/// have many.
-fn end_of_frames(piece: &[u8], most: u64) -> usize
-    requires { 0 < most }
-    ensures within { result ≤ length piece.now }
-    ensures some { 0 < length piece.now → 0 < result }
-{
-    let mut end = 0usize;
-    for _ in 0..most {
-        let Some(rest) = piece.get(end..) else {
-            break;
-        };
-        match memchr(0, rest) {
-            Some(at) => end = end.saturating_add(at).saturating_add(1),
-            None => return piece.len(),
-        }
-    }
-    let least = most.saturating_mul(LEAST_SEND);
-    end.max(usize::try_from(least).unwrap_or(end))
-        .min(piece.len())
 }
 
 /// A connection that is there, as its thread has it: it works at the connection's desk.
@@ -125,7 +99,8 @@ struct Connection<'a, 'b, R: Wait + Log + Clock, W: Side, T: Side> {
 
 impl<'a, 'b, R: Wait + Log + Clock, W: Side, T: Side> Connection<'a, 'b, R, W, T> {
     /// One round: takes what is there for it, writes, reads, and does what that asks for. It looks whether the server
-    /// ends once it has heard, as for all that its bell tells of.
+    /// ends once it has heard, as for all that its bell tells of. Where a write has failed, it ends once all that came
+    /// was read and done.
     fn round(&mut self, desk: &mut Desk<'a, R, W, T>) -> Round {
         let told = self.outfit.bell.hears();
         if self.hub.is_closing() {
@@ -135,28 +110,28 @@ impl<'a, 'b, R: Wait + Log + Clock, W: Side, T: Side> Connection<'a, 'b, R, W, T
         if told || desk.talk.has_more() {
             busy = desk.deliver();
         }
-        match desk.write() {
-            Ok(sent) => busy = busy || sent > 0,
-            Err(_) => return Round::Ended(WhyLeft::WriteFailed),
-        }
+        let sent = desk.write();
         desk.note_stuck();
         if desk.talk.is_leaving() {
             return Round::Leaving;
         }
         match self.hear(desk) {
-            Round::Idle if busy => Round::Busy,
+            Round::Idle if busy || sent > 0 => Round::Busy,
+            Round::Idle if desk.is_gone() && !desk.talk.is_held() => Round::Ended(
+                WhyLeft::WriteFailed,
+            ),
             round => round,
         }
     }
 
-    /// Reads while a read may give something, and does what each asks for; 16 times at most, and no longer than until
-    /// the bell rings. Then the topics of what was committed are turned, before anything else is done.
+    /// Goes on with what waits for room. Then it reads while a read may give something, and does what each asks for; 16
+    /// times at most, and no longer than until the bell rings. Then the topics of what was committed are turned, before
+    /// anything else is done.
     fn hear(&mut self, desk: &mut Desk<'a, R, W, T>) -> Round {
-        let mut round = Round::Idle;
+        let mut round = self.go_on(desk);
         for _ in 0..MAX_READS {
             match desk.read(self.outfit.room.as_mut_slice()) {
                 Came::Octets(n) => {
-                    self.heard = self.heard.saturating_add(n);
                     self.hear_read(desk, n);
                     round = Round::Busy;
                 }
@@ -194,70 +169,69 @@ impl<'a, 'b, R: Wait + Log + Clock, W: Side, T: Side> Connection<'a, 'b, R, W, T
             }
         }
         self.asleep.clear();
-        desk.calls.settle_both();
         true
     }
 
-    /// Does what the first so many octets of the room ask for, in pieces.
+    /// Does what the first so many octets of the room ask for.
     fn hear_read(&mut self, desk: &mut Desk<'a, R, W, T>, n: usize) {
-        let mut at = 0usize;
-        for _ in 0..n {
-            let most = self.most_at_once(desk, at, n);
-            let end = n.min(at.saturating_add(most));
-            if let Some(piece) = self.outfit.room.as_slice().get(at..end) {
-                desk.talk.hear(&mut desk.calls, piece);
+        self.heard = self.heard.saturating_add(n);
+        desk.calls.set_heard_little(self.heard <= MOST_HEARD);
+        if let Some(piece) = self.outfit.room.as_slice().get(..n) {
+            desk.talk.hear(&mut desk.calls, piece);
+        }
+        self.go_on(desk);
+    }
+
+    /// Goes on with the transaction that waits for room, if one does, and with what came behind it, until none waits, or
+    /// there is no room though all that it sent was turned, or it is told of something. What is there for it is taken
+    /// once none waits: a lag that was found meanwhile is told then.
+    fn go_on(&mut self, desk: &mut Desk<'a, R, W, T>) -> Round
+        ensures { result ≡ Idle → is_some desk.new.talk.held ≡ true → desk.new.calls.commits ≡ 0 }
+    {
+        if !desk.talk.is_held() {
+            return Round::Idle;
+        }
+        let rt = self.rt;
+        for _ in rt.forever() {
+            if desk.calls.commits() > 0 && !self.stands_in(desk) {
+                desk.calls.turn_now();
             }
-            at = end;
-            if at >= n {
+            desk.talk.go_on(&mut desk.calls);
+            if !desk.talk.is_held() {
+                self.end_wait(desk);
+                return Round::Busy;
+            }
+            if self.outfit.bell.is_told() {
+                return Round::Busy;
+            }
+            if desk.calls.commits() == 0 {
                 break;
             }
-            if desk.calls.commits() >= desk.calls.quarter() {
-                self.stands_in(desk);
-            }
+        }
+        self.tell_wait(desk);
+        Round::Idle
+    }
+
+    /// What waited for room was done: what is there for it is taken.
+    fn end_wait(&mut self, desk: &mut Desk<'a, R, W, T>) {
+        desk.deliver();
+        if desk.calls.commits() == 0 {
+            self.heard = 0;
         }
     }
 
-    /// How many octets of the room it hears at once, from this one on: so many frames as are a quarter of what a queue
-    /// holds. A connection that takes, too, makes room before, and hears no more than there is room for: else it would
-    /// lag by what it sends itself.
-    fn most_at_once(&mut self, desk: &mut Desk<'a, R, W, T>, at: usize, n: usize) -> usize {
-        if !desk.calls.only_sends() {
-            let most = self.make_room(desk).saturating_mul(LEAST_SEND);
-            return usize::try_from(most).unwrap_or(n);
-        }
-        match self.outfit.room.as_slice().get(at..n) {
-            Some(rest) => end_of_frames(rest, desk.calls.quarter()),
-            None => n,
-        }
-    }
-
-    /// Takes what came for it until there is room for a quarter of what a queue holds, or it has rested 100 times; for
-    /// how many transactions there is room then: one or more, and half of what a queue holds at most, since others
-    /// send, too.
-    fn make_room(&mut self, desk: &mut Desk<'a, R, W, T>) -> u64 {
-        let capacity = desk.calls.capacity();
-        let least = desk.calls.quarter();
-        desk.calls.turn_topics();
-        for _ in 0..MAX_RESTS {
-            desk.calls.settle();
-            desk.take_between();
-            let room = desk.calls.room();
-            let may_take = !self.outfit.bell.is_stuck() || room >= capacity;
-            if room >= least && may_take {
-                return room.min((capacity / 2).max(1));
+    /// Says whom it waits for, if that is to be said.
+    fn tell_wait(&self, desk: &mut Desk<'a, R, W, T>) {
+        if let Some(news) = desk.calls.take_news() {
+            let name = Spelled(desk.talk.name(news.topic).unwrap_or(&[]));
+            let passed_over = news.passed_over;
+            match news.connection {
+                Some(connection) => warn!(self.rt; target: "serve",
+                    "senders to the topic {name} wait for connection {connection}; {passed_over} subscriptions passed over"),
+                None => warn!(self.rt; target: "serve",
+                    "senders to the topic {name} wait; {passed_over} subscriptions passed over"),
             }
-            if desk.talk.is_leaving() || self.hub.is_closing() || !self.may_go_on(desk) {
-                return least;
-            }
-            desk.calls.rest();
         }
-        desk.calls.age();
-        least
-    }
-
-    /// Writes what waits, and looks whether the system takes more; whether that could be asked.
-    fn may_go_on(&mut self, desk: &mut Desk<'a, R, W, T>) -> bool {
-        desk.write().is_ok() && self.look(desk).is_ok()
     }
 
     /// Waits for the socket or the bell, so long at most. Refused where the poll failed, which ends the server.
@@ -338,12 +312,14 @@ impl<'a, 'b, R: Wait + Log + Clock, W: Side, T: Side> Connection<'a, 'b, R, W, T
     }
 
     /// By what it is woken, as there is nothing to do. Refused where the connection would be told of a lag behind what
-    /// the system hasn't taken for a minute.
+    /// the system hasn't taken for a minute, and nothing waits for room.
     fn sleep_of(&mut self, desk: &mut Desk<'a, R, W, T>) -> Result<Option<Sleep>, WhyLeft> {
+        let is_held = desk.talk.is_held();
         if !desk.socket.is_blocked() {
-            return Ok(Some(Sleep::Told));
+            let sleep = if is_held { Sleep::Timed } else { Sleep::Told };
+            return Ok(Some(sleep));
         }
-        if desk.is_lost() {
+        if desk.is_lost() && !is_held {
             return Err(WhyLeft::Untaken);
         }
         Ok(Some(Sleep::Timed))
@@ -358,10 +334,11 @@ impl<'a, 'b, R: Wait + Log + Clock, W: Side, T: Side> Connection<'a, 'b, R, W, T
         let rt = self.rt;
         let mut polls = 0u32;
         for _ in rt.forever() {
-            match desk.write() {
-                Ok(0) => {}
-                Ok(_) => polls = 0,
-                Err(_) => return LastWords::WriteFailed,
+            if desk.write() > 0 {
+                polls = 0;
+            }
+            if desk.is_gone() {
+                return LastWords::WriteFailed;
             }
             if desk.talk.wire().is_empty() {
                 return if desk.talk.is_cut() {
@@ -445,6 +422,7 @@ impl<'a, 'b, R: Wait + Log + Clock, W: Side, T: Side> Connection<'a, 'b, R, W, T
     fn leave(&mut self, ended: Result<(), WhyLeft>, desk: &mut Desk<'a, R, W, T>) -> WhyLeft {
         self.tell_lag(desk);
         desk.talk.lose(&mut desk.calls);
+        desk.calls.end_wait();
         desk.calls.turn_topics();
         match (ended, desk.talk.exit()) {
             (Ok(()), Some(exit)) => {

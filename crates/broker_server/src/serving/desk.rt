@@ -7,7 +7,9 @@ ghost use Rattle.broker_server.specs.declared.serving.socket.Came.TheVariants.{N
 
 use crate::conversation::{BrokerCalls, Conversation};
 use crate::serving::calls::Calls;
-use crate::serving::socket::{Came, Socket, WriteFailed};
+use crate::serving::moment::Moment;
+use crate::serving::socket::{Came, Socket};
+use crate::serving::streak::Streak;
 use broker_locks::Side;
 use log::Log;
 use std::sync::Wait;
@@ -33,6 +35,8 @@ pub(crate) struct Desk<'a, R: Wait + Log + Clock, W: Side, T: Side> {
     untaken: Option<Instant>,
     /// How often it waited since it looked for subscriptions that have lagged.
     waits: u32,
+    /// What the system took in a row while it wasn't behind.
+    streak: Streak,
 }
 
 impl<'a, R: Wait + Log + Clock, W: Side, T: Side> Desk<'a, R, W, T> {
@@ -54,6 +58,7 @@ impl<'a, R: Wait + Log + Clock, W: Side, T: Side> Desk<'a, R, W, T> {
             talk,
             untaken: None,
             waits: 0,
+            streak: Streak::new(),
         }
     }
 
@@ -67,15 +72,34 @@ impl<'a, R: Wait + Log + Clock, W: Side, T: Side> Desk<'a, R, W, T> {
         self.talk.deliver(&mut self.calls)
     }
 
-    /// Writes what waits, as far as the system takes it; how many octets went out.
-    pub(crate) fn write(&mut self) -> Result<usize, WriteFailed>
-        ensures { self.new.calls ≡ self.old.calls }
+    /// Writes what waits, as far as the system takes it, and notes at what pace that is; how many octets went out.
+    pub(crate) fn write(&mut self) -> usize
+        ensures calls { self.new.calls ≡ self.old.calls }
+        ensures talk { self.new.talk ≡ record self.old.talk { wire = self.new.talk.wire } }
     {
-        let sent = self.socket.write(&mut self.talk)?;
+        let sent = self.socket.write(&mut self.talk);
         if sent > 0 {
             self.untaken = None;
         }
-        Ok(sent)
+        self.note_pace(sent);
+        sent
+    }
+
+    /// Notes that so many octets went out. The system is behind from when it took less than there was until it has taken
+    /// all, that of the queues, too. No clock is read where it isn't.
+    fn note_pace(&mut self, sent: usize)
+        ensures { self.new ≡ record self.old { streak = self.new.streak } }
+    {
+        let rt = self.calls.rt();
+        let intake = self.calls.bell().intake();
+        let was_behind = intake.is_behind();
+        let is_behind = self.socket.is_blocked() || was_behind && self.talk.has_more();
+        if is_behind || was_behind {
+            self.streak.ends();
+            intake.note(rt, Moment::now(rt), sent as u64, is_behind);
+        } else if self.streak.adds(sent as u64) {
+            intake.keep_up(rt);
+        }
     }
 
     /// Reads once, into this room, unless the connection leaves or too much waits for it.
@@ -92,16 +116,11 @@ impl<'a, R: Wait + Log + Clock, W: Side, T: Side> Desk<'a, R, W, T> {
         }
     }
 
-    /// Takes what came for it, and writes where that is much, so that more finds room.
-    pub(crate) fn take_between(&mut self) {
-        if !self.calls.bell().hears() && !self.talk.has_more() {
-            return;
-        }
-        self.deliver();
-        if self.talk.has_more() && self.write().is_ok() {
-            self.deliver();
-        }
-        self.note_stuck();
+    /// Whether a write has failed.
+    pub(crate) fn is_gone(&self) -> bool
+        ensures { result ≡ self.now.socket.gone }
+    {
+        self.socket.is_gone()
     }
 
     /// It is stuck where more is there than the system takes: it looks again once that takes some.
@@ -112,8 +131,8 @@ impl<'a, R: Wait + Log + Clock, W: Side, T: Side> Desk<'a, R, W, T> {
     }
 
     /// Does for the thread of this connection, which sleeps, what that would do once it was told: takes what is there,
-    /// as much as may wait, and writes once. Whether nothing is left for that thread to do. (Where a subscription has
-    /// lagged, what is open ends here.) At another connection's desk it does nothing: whoever has something for that one
+    /// as much as may wait, and writes once. Whether nothing is left for that thread to do, but for what waits for room.
+    /// (Where a subscription has lagged, what is open ends here.) At another connection's desk it does nothing: whoever has something for that one
     /// rings its bell, which the caller doesn't know.
     pub(crate) fn stand_in(&mut self, connection: u64) -> bool
         ensures done { result ≡ true → (self.new.talk.wire ≡ []) × (self.new.talk.more ≡ false)
@@ -125,10 +144,11 @@ impl<'a, R: Wait + Log + Clock, W: Side, T: Side> Desk<'a, R, W, T> {
             return false;
         }
         self.deliver();
-        self.write().is_ok()
-            && self.talk.wire().is_empty()
+        self.write();
+        self.talk.wire().is_empty()
             && !self.talk.has_more()
             && !self.talk.is_leaving()
+            && !self.socket.is_gone()
     }
 
     /// It is about to wait, since the system takes nothing of what waits for it: once a second, or more often where it
@@ -176,6 +196,7 @@ impl<'a, R: Wait + Log + Clock, W: Side, T: Side> Desk<'a, R, W, T> {
             talk: _,
             untaken: _,
             waits: _,
+            streak: _,
         } = self;
         (socket, calls)
     }

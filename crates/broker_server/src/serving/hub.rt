@@ -1,14 +1,16 @@
 //! What the server's threads share.
 
-ghost use Rattle.std.specs.Prelude.{◌≡◌, ◌≤◌, true, length, Ok};
+ghost use Rattle.std.specs.Prelude.{◌≡◌, ◌≤◌, length, Ok, None, IfOk, slice_get};
+ghost use Rattle.std.specs.Option.{option_map};
 
+use crate::serving::account::Account;
 use crate::serving::bell::Bell;
 use crate::serving::head::Head;
 use crate::serving::running::Running;
 use crate::serving::seat::Seat;
 use crate::serving::topic_seats::TopicSeats;
 use crate::serving::unturned::Unturned;
-use broker_locks::Side;
+use broker_locks::{NoRoom, Reserved, Side};
 use delivery::MAX_TOPICS;
 use mcast_txn::{NoMemory, Topic};
 use std::alloc::{AllocError, Global};
@@ -119,16 +121,6 @@ impl<R: Wait, W: Side, T: Side> Hub<R, W, T> {
         }
     }
 
-    /// Whether what was sent to the topic with the stamp of this number has come to all who subscribed there.
-    pub(crate) fn has_come(&self, rt: &R, topic: Topic, n: u64) -> bool
-        ensures { length self.now.topics.items ≤ topic.0 → result ≡ true }
-    {
-        match self.topics.get(topic.0 as usize) {
-            Some(topic) => topic.has_come(rt, n),
-            None => true,
-        }
-    }
-
     /// Tells the heads of all topics.
     fn set_all_due(&self, rt: &R) {
         for at in 0..self.topics.len() {
@@ -169,14 +161,59 @@ impl<R: Wait, W: Side, T: Side> Hub<R, W, T> {
         }
     }
 
-    /// Turns the topic of this index: its seats, if there may be something for who has them.
+    /// Turns the topic of this index, and rings those who wait for room there, if there may be some now: its seats, if
+    /// there may be something for who has them.
     fn turned(&self, rt: &R, at: usize) -> Option<&TopicSeats> {
         let number = u32::try_from(at).ok()?;
         let seats = self.topics.get(at)?;
         if self.running.turn(rt, Topic(number)) {
+            seats.waiters().ring(rt);
             Some(seats)
         } else {
             None
+        }
+    }
+
+    /// The seats of this topic.
+    pub(crate) fn seats(&self, topic: Topic) -> Option<&TopicSeats>
+        ensures { option_map (λ seats. seats.now) result ≡ slice_get self.now.topics.items topic.0 }
+    {
+        self.topics.get(topic.0 as usize)
+    }
+
+    /// Room at each of these topics, or at none: those where it was given back are told.
+    pub(crate) fn reserve(&self, rt: &R, topics: &[Topic]) -> Result<Reserved, NoRoom>
+        ensures topics { IfOk result (λ room. room ≡ topics.now) }
+    {
+        let refused = match self.running.broker.reserve(rt, topics) {
+            Ok(room) => return Ok(room),
+            Err(refused) => refused,
+        };
+        if let NoRoom::Full { topic, sub: _ } = refused {
+            for before in topics.iter().take_while(|before| before.0 != topic.0) {
+                self.ring_waiters(rt, *before);
+            }
+        }
+        Err(refused)
+    }
+
+    /// Gives room back that isn't used.
+    pub(crate) fn release_room(&self, rt: &R, room: Reserved) {
+        self.running.broker.release_room(rt, room);
+        self.ring_all_waiters(rt);
+    }
+
+    /// There may be room at this topic: tells those who wait for it.
+    pub(crate) fn ring_waiters(&self, rt: &R, topic: Topic) {
+        if let Some(seats) = self.topics.get(topic.0 as usize) {
+            seats.waiters().ring(rt);
+        }
+    }
+
+    /// The same at each topic.
+    pub(crate) fn ring_all_waiters(&self, rt: &R) {
+        for seats in self.topics.iter() {
+            seats.waiters().ring(rt);
         }
     }
 
@@ -190,10 +227,13 @@ impl<R: Wait, W: Side, T: Side> Hub<R, W, T> {
         }
     }
 
-    /// Who has this seat is told no longer.
-    pub(crate) fn unlisten(&self, rt: &R, topic: Topic, seat: &Seat) {
-        if let Some(topic) = self.topics.get(topic.0 as usize) {
-            topic.remove(rt, seat);
+    /// Who has this seat is told no longer. What waiting for it has cost.
+    pub(crate) fn unlisten(&self, rt: &R, topic: Topic, seat: &Seat) -> Option<Account>
+        ensures { length self.now.topics.items ≤ topic.0 → result ≡ None }
+    {
+        match self.topics.get(topic.0 as usize) {
+            Some(topic) => topic.remove(rt, seat),
+            None => None,
         }
     }
 

@@ -1,12 +1,14 @@
 //! A subscription's place at a topic.
 
 ghost use Rattle.std.specs.Prelude.{◌≡◌, ◌==◌, ◌&&◌};
+ghost use Rattle.std.specs.Arc.{arc_value};
 
 use crate::serving::bell::Bell;
+use crate::serving::intake::Intake;
 use std::sync::Arc;
-use std::sync::atomic::{AtomicU64, Ordering};
+use std::sync::atomic::{AtomicBool, AtomicU64, Ordering};
 
-/// A subscription's place at a topic: whose it is, and how far what the topic releases was taken from its queue.
+/// A subscription's place at a topic: whose it is, and what senders and who takes tell each other of it.
 #[derive(Drop)]
 pub(crate) struct Seat {
     connection: u64,
@@ -15,13 +17,16 @@ pub(crate) struct Seat {
     /// The number of the connection's desk.
     desk: usize,
     bell: Arc<Bell>,
-    /// The number of the stamp up to which all was taken. (Of two transactions whose stamps have one number, the second
-    /// counts as taken with the first.)
-    taken: AtomicU64,
+    /// The subscription's number at its topic, once that has begun; before, one that none has.
+    sub: AtomicU64,
+    /// Whether something was taken of its queue since a sender looked.
+    taken: AtomicBool,
+    /// Whether senders may have passed it over, so that it isn't waited for.
+    passed_over: AtomicBool,
 }
 
 impl Seat {
-    /// The place of this connection's subscription of this number, which has taken nothing.
+    /// The place of this connection's subscription of this number, which hasn't begun.
     pub(crate) fn new(connection: u64, number: u64, desk: usize, bell: Arc<Bell>) -> Seat
         ensures connection { result.connection ≡ connection }
         ensures number { result.number ≡ number }
@@ -33,7 +38,9 @@ impl Seat {
             number,
             desk,
             bell,
-            taken: AtomicU64::new(0),
+            sub: AtomicU64::new(u64::MAX),
+            taken: AtomicBool::new(false),
+            passed_over: AtomicBool::new(false),
         }
     }
 
@@ -59,6 +66,23 @@ impl Seat {
         self.desk
     }
 
+    /// Its subscription has begun, and has this number at the topic.
+    pub(crate) fn set_sub(&self, sub: u64) {
+        self.sub.store(sub, Ordering::SeqCst);
+    }
+
+    /// The number of its subscription at the topic; of one that hasn't begun, one that no subscription has.
+    pub(crate) fn sub(&self) -> u64 {
+        self.sub.load(Ordering::SeqCst)
+    }
+
+    /// At what pace the system takes what is written to its connection.
+    pub(crate) fn intake(&self) -> &Intake
+        ensures { result.now ≡ (arc_value self.now.bell).intake }
+    {
+        self.bell.intake()
+    }
+
     /// Whether its thread sleeps, and would be woken by what comes.
     pub(crate) fn is_asleep(&self) -> bool {
         self.bell.is_asleep() && !self.bell.is_stuck()
@@ -71,15 +95,25 @@ impl Seat {
         }
     }
 
-    /// Its queue was empty once all up to the stamp of this number had been taken, or its subscription begins there.
-    pub(crate) fn set_taken(&self, n: u64) {
-        if self.taken.load(Ordering::SeqCst) != n {
-            self.taken.store(n, Ordering::SeqCst);
+    /// Something was taken of its queue.
+    pub(crate) fn set_taken(&self) {
+        if !self.taken.load(Ordering::SeqCst) {
+            self.taken.store(true, Ordering::SeqCst);
         }
     }
 
-    /// Whether what has the stamp of this number was taken from its queue; or can't be, since its client takes nothing.
-    pub(crate) fn has_taken(&self, n: u64) -> bool {
-        self.taken.load(Ordering::SeqCst) >= n || self.bell.is_stuck()
+    /// Whether something was taken of its queue since this was asked last.
+    pub(crate) fn take_taken(&self) -> bool {
+        self.taken.swap(false, Ordering::SeqCst)
+    }
+
+    /// Senders passed it over: once its queue is empty it is to be waited for again.
+    pub(crate) fn set_passed_over(&self) {
+        self.passed_over.store(true, Ordering::SeqCst);
+    }
+
+    /// Whether senders passed it over since this was asked last.
+    pub(crate) fn take_passed_over(&self) -> bool {
+        self.passed_over.load(Ordering::SeqCst) && self.passed_over.swap(false, Ordering::SeqCst)
     }
 }

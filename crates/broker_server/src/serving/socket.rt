@@ -1,6 +1,6 @@
 //! A connection's socket.
 
-ghost use Rattle.std.specs.Prelude.{◌≡◌, true, false, Ok};
+ghost use Rattle.std.specs.Prelude.{◌≡◌, true, false};
 ghost use Rattle.broker_server.specs.declared.serving.socket.Came.TheVariants.{Nothing};
 
 use crate::conversation::{BrokerCalls, Conversation};
@@ -38,18 +38,27 @@ pub(crate) struct Socket {
     /// The peer has said its last, which a read will show.
     hung_up: bool,
     blocked: bool,
+    /// A write failed: what waits for the peer is dropped. What it had sent can still be read.
+    gone: bool,
 }
 
 impl Socket {
     /// Nothing is known of it.
     pub(crate) fn new(stream: TcpStream) -> Socket
-        ensures { result ≡ record { stream = stream; readable = true; hung_up = false; blocked = false } }
+        ensures { result ≡ record {
+          stream = stream;
+          readable = true;
+          hung_up = false;
+          blocked = false;
+          gone = false;
+        } }
     {
         Socket {
             stream,
             readable: true,
             hung_up: false,
             blocked: false,
+            gone: false,
         }
     }
 
@@ -105,14 +114,16 @@ impl Socket {
         self.note(events);
     }
 
-    /// Reads once, into this room, unless nothing can be there. A failed read is the peer's end.
+    /// Reads once, into this room, unless nothing can be there. A failed read is the peer's end. Once a write has failed
+    /// the poll isn't waited for.
     pub(crate) fn read(&mut self, room: &mut [u8]) -> Came
-        ensures idle { self.old.readable ≡ false
+        ensures idle { self.old.readable ≡ false → self.old.gone ≡ false
             → (result ≡ Nothing) × (self.new ≡ self.old) × (room.new ≡ room.old) }
         ensures hung_up { self.new.hung_up ≡ self.old.hung_up }
         ensures blocked { self.new.blocked ≡ self.old.blocked }
+        ensures gone { self.new.gone ≡ self.old.gone }
     {
-        if !self.readable {
+        if !self.readable && !self.gone {
             return Came::Nothing;
         }
         match self.stream.read(room) {
@@ -132,25 +143,41 @@ impl Socket {
         }
     }
 
-    /// Writes what waits for the connection, as far as the system takes it; how many octets went out. Refused where a
-    /// write failed.
-    pub(crate) fn write<C: BrokerCalls>(
-        &mut self,
-        talk: &mut Conversation<C>,
-    ) -> Result<usize, WriteFailed>
+    /// Writes what waits for the connection, as far as the system takes it; how many octets went out. Once a write has
+    /// failed what waits is dropped.
+    pub(crate) fn write<C: BrokerCalls>(&mut self, talk: &mut Conversation<C>) -> usize
         ensures blocked { self.old.blocked ≡ true
-            → (result ≡ Ok 0) × (self.new ≡ self.old) × (talk.new ≡ talk.old) }
+            → (result ≡ 0) × (self.new ≡ self.old) × (talk.new ≡ talk.old) }
         ensures readable { self.new.readable ≡ self.old.readable }
         ensures hung_up { self.new.hung_up ≡ self.old.hung_up }
+        ensures gone { self.old.gone ≡ true → (result ≡ 0) × (self.new ≡ self.old) }
+        ensures same { talk.new ≡ record talk.old { wire = talk.new.wire } }
     {
         if self.blocked || talk.wire().is_empty() {
-            return Ok(0);
+            return 0;
         }
-        let Ok(sent) = talk.drain(&mut self.stream) else {
-            return Err(WriteFailed);
-        };
-        self.blocked = !talk.wire().is_empty();
-        Ok(sent)
+        if self.gone {
+            drop_wire(talk);
+            return 0;
+        }
+        match talk.drain(&mut self.stream) {
+            Ok(sent) => {
+                self.blocked = !talk.wire().is_empty();
+                sent
+            }
+            Err(_) => {
+                self.gone = true;
+                drop_wire(talk);
+                0
+            }
+        }
+    }
+
+    /// Whether a write failed.
+    pub(crate) fn is_gone(&self) -> bool
+        ensures { result ≡ self.now.gone }
+    {
+        self.gone
     }
 
     /// Whether the system took less than there was at the last write, and hasn't told since that it takes more.
@@ -171,6 +198,9 @@ impl Socket {
     }
 }
 
-/// A write failed: the peer is gone.
-#[derive(Clone, Copy)]
-pub(crate) struct WriteFailed;
+/// Drops what waits to be written.
+fn drop_wire<C: BrokerCalls>(talk: &mut Conversation<C>)
+    ensures { talk.new ≡ record talk.old { wire = talk.new.wire } }
+{
+    let _ = talk.drain(&mut io::sink());
+}

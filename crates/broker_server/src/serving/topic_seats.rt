@@ -1,8 +1,21 @@
 //! Who is told of a topic.
 
-ghost use Rattle.std.specs.Prelude.{◌≤◌, IfSome};
+ghost use Rattle.std.specs.Prelude.{◌≡◌, ◌≤◌, ◌+◌, true, false, length, IfOk, IfSome, IsNone};
+ghost use Rattle.std.specs.Arc.{arc_value};
+ghost use Rattle.broker_server.specs.Purses.{Begins, GoesOn, after_call, is_free, may_wait};
+ghost use Rattle.broker_server.specs.RoomLooks.{is_seat};
 
+use crate::serving::account::Account;
+use crate::serving::intake::Intake;
+use crate::serving::look::Look;
+use crate::serving::moment::Moment;
+use crate::serving::price::Price;
+use crate::serving::purse::Purse;
+use crate::serving::said::Said;
 use crate::serving::seat::Seat;
+use crate::serving::seat_entry::SeatEntry;
+use crate::serving::span::Span;
+use crate::serving::waiters::Waiters;
 use std::alloc::{AllocError, Global};
 use std::sync::atomic::{AtomicBool, Ordering};
 use std::sync::{Arc, Mutex, Wait};
@@ -10,11 +23,15 @@ use std::sync::{Arc, Mutex, Wait};
 /// At a topic with so many seats, at most, the sender's thread may stand in for those that sleep (our choice).
 const FEW: usize = 2;
 
-/// A topic's seats, one of each open subscription; and whether the topic is due.
+/// A topic's seats, one of each open subscription; whether the topic is due; who waits for room there, and what that
+/// may cost. Its purse's lock may be held while another of its locks is taken, and no two others.
 #[derive(Drop)]
 pub(crate) struct TopicSeats {
     due: AtomicBool,
-    seats: Mutex<Vec<Arc<Seat>>>,
+    seats: Mutex<Vec<SeatEntry>>,
+    waiters: Waiters,
+    purse: Mutex<Purse>,
+    said: Mutex<Said>,
 }
 
 impl TopicSeats {
@@ -23,7 +40,17 @@ impl TopicSeats {
         TopicSeats {
             due: AtomicBool::new(false),
             seats: Mutex::new(Vec::new(alloc)),
+            waiters: Waiters::new(alloc),
+            purse: Mutex::new(Purse::new()),
+            said: Mutex::new(Said::new()),
         }
+    }
+
+    /// Who waits for room.
+    pub(crate) fn waiters(&self) -> &Waiters
+        ensures { result.now ≡ self.now.waiters }
+    {
+        &self.waiters
     }
 
     /// The topic is due; whether it was due before.
@@ -36,32 +63,18 @@ impl TopicSeats {
         self.due.store(false, Ordering::SeqCst);
     }
 
-    /// Whether what has the stamp of this number has come to all seats.
-    pub(crate) fn has_come<R: Wait>(&self, rt: &R, n: u64) -> bool {
-        self.seats.lock(rt).iter().all(|seat| seat.has_taken(n))
-    }
-
     /// Adds a seat.
     pub(crate) fn add<R: Wait>(&self, rt: &R, seat: &Arc<Seat>) -> Result<(), AllocError> {
-        let seat = seat.clone()?;
-        self.seats.lock(rt).push(seat)?;
+        let entry = SeatEntry::new(seat.clone()?);
+        self.seats.lock(rt).push(entry)?;
         Ok(())
     }
 
-    /// Takes a seat out. Room for more than twice as many as are left is given back where three quarters of the room
-    /// are free, so that a topic to which many had subscribed keeps nothing for them.
-    pub(crate) fn remove<R: Wait>(&self, rt: &R, seat: &Seat) {
-        let mut seats = self.seats.lock(rt);
-        let seats = &mut *seats;
-        let found = seats.iter().position(|entry| entry.is(seat));
-        if let Some(at) = found
-            && at < seats.len()
-        {
-            seats.swap_remove(at);
-            if seats.capacity() / 4 > seats.len() {
-                seats.shrink_to(seats.len().saturating_mul(2));
-            }
-        }
+    /// Takes a seat out; its account, if it was there. Room for more than twice as many as are left is given back where
+    /// three quarters of the room are free, so that a topic to which many had subscribed keeps nothing for them.
+    pub(crate) fn remove<R: Wait>(&self, rt: &R, seat: &Seat) -> Option<Account> {
+        let entry = take_out(&mut self.seats.lock(rt), seat)?;
+        Some(entry.account)
     }
 
     /// How many they are, where they are few, and the threads of all of them sleep.
@@ -70,7 +83,7 @@ impl TopicSeats {
     {
         let seats = self.seats.lock(rt);
         let count = seats.len();
-        if count <= FEW && seats.iter().all(|seat| seat.is_asleep()) {
+        if count <= FEW && seats.iter().all(|entry| entry.seat.is_asleep()) {
             Some(count)
         } else {
             None
@@ -80,7 +93,8 @@ impl TopicSeats {
     /// Tells those whose threads are awake. The others are put into this list, or told, too, where there is no memory
     /// for that.
     pub(crate) fn ring_awake<R: Wait>(&self, rt: &R, asleep: &mut Vec<Arc<Seat>>) {
-        for seat in self.seats.lock(rt).iter() {
+        for entry in self.seats.lock(rt).iter() {
+            let seat = &entry.seat;
             if !seat.is_asleep() || !is_put(seat, asleep) {
                 seat.ring();
             }
@@ -89,9 +103,113 @@ impl TopicSeats {
 
     /// Tells all of them.
     pub(crate) fn ring<R: Wait>(&self, rt: &R) {
-        for seat in self.seats.lock(rt).iter() {
-            seat.ring();
+        for entry in self.seats.lock(rt).iter() {
+            entry.seat.ring();
         }
+    }
+
+    /// What somebody finds, at this moment, who has no room, since these subscriptions lack it; it was counted at the
+    /// purse before, or is from now on.
+    pub(crate) fn look<R: Wait>(
+        &self,
+        rt: &R,
+        alloc: Global,
+        now: Moment,
+        lacking: &[u64],
+        is_counted: bool,
+    ) -> Result<Look, AllocError>
+        ensures { IfOk result (λ look. is_free look.standing.price ≡ true → look.may_wait ≡ true) }
+    {
+        let mut look = Look::new(alloc, lacking.len())?;
+        let mut purse = self.purse.lock(rt);
+        let purse = &mut *purse;
+        let unpaid = purse.unpaid(now);
+        self.find(rt, now, lacking, unpaid, !purse.is_awaited(), &mut look)?;
+        look.may_wait = may_be_waited_for(purse, now, look.standing.price(), is_counted);
+        Ok(look)
+    }
+
+    /// Finds the seats of these subscriptions, which lack room.
+    fn find<R: Wait>(
+        &self,
+        rt: &R,
+        now: Moment,
+        lacking: &[u64],
+        unpaid: Span,
+        is_first: bool,
+        look: &mut Look,
+    ) -> Result<(), AllocError> {
+        for entry in self.seats.lock(rt).iter_mut() {
+            if lacking.contains(&entry.seat.sub()) {
+                entry.is_found(rt, now, unpaid, is_first, look)?;
+            }
+        }
+        Ok(())
+    }
+
+    /// The subscription of this number was passed over at this moment: its seat says so, and its thread is told.
+    pub(crate) fn pass_over<R: Wait>(&self, rt: &R, sub: u64, now: Moment) {
+        for entry in self.seats.lock(rt).iter() {
+            let seat = &entry.seat;
+            if seat.sub() == sub {
+                seat.intake().give_up(rt, now);
+                seat.set_passed_over();
+                seat.ring();
+            }
+        }
+    }
+
+    /// Somebody waits no longer, since this moment.
+    pub(crate) fn wait_ends<R: Wait>(&self, rt: &R, now: Moment) {
+        self.purse.lock(rt).ends(now);
+    }
+
+    /// A subscription ends at this moment that had this account, and whose connection has this intake.
+    pub(crate) fn settle<R: Wait>(&self, rt: &R, now: Moment, account: &Account, intake: &Intake) {
+        let pace = intake.pace(rt);
+        let mut purse = self.purse.lock(rt);
+        let owed = account.owes(now, &pace, purse.unpaid(now));
+        purse.pays(now, owed);
+    }
+
+    /// So many more were passed over. How many were since that was said last, where it is to be said now.
+    pub(crate) fn say<R: Wait>(&self, rt: &R, now: Moment, passed_over: u64) -> Option<u64> {
+        let mut said = self.said.lock(rt);
+        said.passes(passed_over);
+        said.due(now)
+    }
+}
+
+/// Takes the entry of a seat out of these, if it is there. Room for more than twice as many as are left is given back
+/// where three quarters of the room are free.
+fn take_out(seats: &mut Vec<SeatEntry>, seat: &Seat) -> Option<SeatEntry>
+    ensures one { IfSome result (λ entry. is_seat seat.now (arc_value entry.seat) ≡ true) }
+    ensures fewer { IfSome result (λ entry. length seats.old.items ≡ length seats.new.items + 1) }
+    ensures none { IsNone result → seats.new ≡ seats.old }
+{
+    let at = seats.iter().position(|entry| entry.seat.is(seat))?;
+    if at >= seats.len() {
+        return None;
+    }
+    let entry = seats.swap_remove(at);
+    if seats.capacity() / 4 > seats.len() {
+        seats.shrink_to(seats.len().saturating_mul(2));
+    }
+    Some(entry)
+}
+
+/// Tells this purse that somebody finds no room at this moment, who was counted there or is from now on, where the
+/// dearest of those that lack it has this price. Whether these may be waited for.
+fn may_be_waited_for(purse: &mut Purse, now: Moment, price: Price, is_counted: bool) -> bool
+    ensures may { result ≡ may_wait purse.new }
+    ensures price { purse.new.price ≡ price }
+    ensures on { is_counted ≡ true → purse.new ≡ after_call purse.old (GoesOn now price) }
+    ensures begins { is_counted ≡ false → purse.new ≡ after_call purse.old (Begins now price) }
+{
+    if is_counted {
+        purse.goes_on(now, price)
+    } else {
+        purse.begins(now, price)
     }
 }
 

@@ -1,0 +1,195 @@
+//! How fast the system takes what a connection writes.
+
+ghost use Rattle.std.specs.Prelude.{◌≡◌, None, false};
+ghost use Rattle.broker_server.specs.Purses.{
+  after_catching_up,
+  after_falling_behind,
+  after_giving_up,
+  after_keeping_up,
+  after_octets,
+  has_rate,
+  is_taking,
+  known_price,
+  no_tenths,
+  pace_price,
+  price_at,
+};
+
+use crate::serving::moment::Moment;
+use crate::serving::price::Price;
+use crate::serving::span::Span;
+use crate::serving::tenths::{TENTH, Tenths};
+
+/// A second, in nanoseconds.
+const SECOND: u64 = 1_000_000_000;
+
+/// Where so many octets a second are taken, waiting costs nothing (our choice).
+const FAST: u32 = 8_388_608;
+
+/// Where so many are, it costs a sixtieth of the time (our choice).
+const SLOW: u32 = 65_536;
+
+/// How fast the system takes what a connection writes, while it is behind: since the system took less than there was,
+/// until it has taken all and the connection's queues are empty.
+#[derive(Clone, Copy)]
+pub(crate) struct Pace {
+    /// Since when it is behind.
+    since: Option<Moment>,
+    /// How many octets were taken since then.
+    taken: u64,
+    tenths: Tenths,
+    /// The price in the first tenth of a second of being behind: what it was when it was behind last.
+    known: Price,
+    /// Whether it was passed over since it is behind, and isn't waited for at any topic until it catches up.
+    given_up: bool,
+}
+
+/// Whether so many octets in this time are so many a second, or more.
+fn has_rate(octets: u64, time: Span, wanted: u32) -> bool
+    ensures { result ≡ has_rate octets time.0 wanted }
+{
+    u128::from(octets) * u128::from(SECOND) >= u128::from(wanted) * u128::from(time.0)
+}
+
+/// What waiting costs for who is fast, or slow, or slower.
+fn pace_price(is_fast: bool, is_slow: bool) -> Price
+    ensures { result ≡ pace_price is_fast is_slow }
+{
+    if is_fast {
+        Price::Free
+    } else if is_slow {
+        Price::Sixtieth
+    } else {
+        Price::Full
+    }
+}
+
+impl Pace {
+    /// It isn't behind, and never was: in its first tenth of being behind it has the full price.
+    pub(crate) fn new() -> Pace
+        ensures { result ≡ record {
+          since = None;
+          taken = 0;
+          tenths = record { tenths = no_tenths };
+          known = Price.Full;
+          given_up = false;
+        } }
+    {
+        Pace {
+            since: None,
+            taken: 0,
+            tenths: Tenths::new(),
+            known: Price::Full,
+            given_up: false,
+        }
+    }
+
+    /// The system took so many octets, which counts while it is behind.
+    pub(crate) fn takes(&mut self, now: Moment, octets: u64)
+        ensures { self.new ≡ after_octets self.old now octets }
+    {
+        if self.since.is_some() {
+            self.taken = self.taken.saturating_add(octets);
+            self.tenths.add(now, octets);
+        }
+    }
+
+    /// The system took less than there is.
+    pub(crate) fn falls_behind(&mut self, now: Moment)
+        ensures { self.new ≡ after_falling_behind self.old now }
+    {
+        if self.since.is_none() {
+            self.since = Some(now);
+            self.taken = 0;
+            self.tenths = Tenths::new();
+        }
+    }
+
+    /// The system has taken all, and the connection's queues are empty.
+    pub(crate) fn catches_up(&mut self, now: Moment)
+        ensures { self.new ≡ after_catching_up self.old now }
+    {
+        if let Some(since) = self.since {
+            self.known = self.known_after(now.since(since));
+            self.since = None;
+            self.given_up = false;
+        }
+    }
+
+    /// The price that is known once it has taken all, and was behind for this time: less than a second makes it no
+    /// dearer.
+    fn known_after(&self, time: Span) -> Price
+        ensures { result ≡ known_price self.now.known self.now.taken time.0 }
+    {
+        if time.0 < TENTH {
+            return Price::Free;
+        }
+        let is_fast = has_rate(self.taken, time, FAST);
+        let price = pace_price(is_fast, has_rate(self.taken, time, SLOW));
+        if time.0 < SECOND {
+            self.known.cheaper(price)
+        } else {
+            price
+        }
+    }
+
+    /// So much was taken without its being behind that it counts as one that was behind for less than a tenth of a
+    /// second.
+    pub(crate) fn keeps_up(&mut self)
+        ensures { self.new ≡ after_keeping_up self.old }
+    {
+        if self.since.is_none() {
+            self.known = Price::Free;
+        }
+    }
+
+    /// It was passed over. Where it has been behind for a tenth of a second, it isn't waited for at any topic until it
+    /// catches up.
+    pub(crate) fn gives_up(&mut self, now: Moment)
+        ensures { self.new ≡ after_giving_up self.old now }
+    {
+        if let Some(since) = self.since
+            && now.since(since).0 >= TENTH
+        {
+            self.given_up = true;
+        }
+    }
+
+    /// Whether it isn't waited for at any topic.
+    pub(crate) fn has_given_up(&self) -> bool
+        ensures { result ≡ self.now.given_up }
+    {
+        self.given_up
+    }
+
+    /// Since when it is behind.
+    pub(crate) fn since(&self) -> Option<Moment>
+        ensures { result ≡ self.now.since }
+    {
+        self.since
+    }
+
+    /// Whether so many octets a second are taken, over the time since it is behind, a second at most. Of each tenth of a
+    /// second at most twice its share counts, so that what the system's buffers take at once is no pace.
+    fn is_taking(&self, now: Moment, time: Span, wanted: u32) -> bool
+        ensures { result ≡ is_taking self.now.tenths.tenths now time.0 wanted }
+    {
+        has_rate(self.tenths.lately(now, wanted / 5 + 1), time, wanted)
+    }
+
+    /// What waiting for it costs at this moment.
+    pub(crate) fn price(&self, now: Moment) -> Price
+        ensures { result ≡ price_at self.now now }
+    {
+        let Some(since) = self.since else {
+            return Price::Free;
+        };
+        let time = now.since(since);
+        if time.0 < TENTH {
+            return self.known;
+        }
+        let time = Span(time.0.min(SECOND));
+        let is_fast = self.is_taking(now, time, FAST);
+        pace_price(is_fast, self.is_taking(now, time, SLOW))
+    }
+}

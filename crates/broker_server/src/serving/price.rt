@@ -1,0 +1,74 @@
+//! What waiting for a connection costs.
+
+ghost use Rattle.std.specs.Prelude.{◌≡◌, ◌-◌, ◌*◌, ◌^◌, min};
+ghost use Rattle.broker_server.specs.Purses.{cheaper, dearer, is_below, is_free, rate};
+
+use crate::serving::cost::Cost;
+use crate::serving::span::Span;
+
+/// What waiting for a connection costs: nothing, a sixtieth of the time, or all of it.
+#[derive(Clone, Copy)]
+pub(crate) enum Price {
+    Free,
+    Sixtieth,
+    Full,
+}
+
+impl Price {
+    /// Whether it is nothing.
+    pub(crate) fn is_free(self) -> bool
+        ensures { result ≡ is_free self }
+    {
+        match self {
+            Price::Free => true,
+            Price::Sixtieth | Price::Full => false,
+        }
+    }
+
+    /// What a nanosecond costs, in six-hundredths of one.
+    fn rate(self) -> u64
+        ensures { result ≡ rate self }
+    {
+        match self {
+            Price::Free => 0,
+            Price::Sixtieth => 10,
+            Price::Full => 600,
+        }
+    }
+
+    /// Whether the other is dearer.
+    pub(crate) fn is_below(self, other: Price) -> bool
+        ensures { result ≡ is_below self other }
+    {
+        self.rate() < other.rate()
+    }
+
+    /// The cheaper of the two.
+    pub(crate) fn cheaper(self, other: Price) -> Price
+        ensures { result ≡ cheaper self other }
+    {
+        if self.is_below(other) { self } else { other }
+    }
+
+    /// The dearer of the two.
+    pub(crate) fn dearer(self, other: Price) -> Price
+        ensures { result ≡ dearer self other }
+    {
+        if self.is_below(other) { other } else { self }
+    }
+
+    /// What waiting for so long costs.
+    pub(crate) fn cost(self, time: Span) -> Cost
+        ensures { result.0 ≡ min (rate self * time.0) (2 ^ 64 - 1) }
+    {
+        Cost(self.rate().saturating_mul(time.0))
+    }
+
+    /// What it would cost beside that at the full price.
+    pub(crate) fn spared(self, time: Span) -> Cost
+        ensures { result.0 ≡ min ((600 - rate self) * time.0) (2 ^ 64 - 1) }
+    {
+        let rest = 600u64.saturating_sub(self.rate());
+        Cost(rest.saturating_mul(time.0))
+    }
+}

@@ -1,0 +1,40 @@
+//! What the system took of a connection's octets in a row.
+
+ghost use Rattle.std.specs.Prelude.{◌≡◌, ◌&&◌, nat_lt, nat_le};
+ghost use Rattle.broker_server.specs.Purses.{long_streak};
+ghost use Rattle.broker_server.specs.Counts.{plus};
+
+/// So many octets taken in a row are more than the system's buffers hold (our choice).
+const LONG: u64 = 8_388_608;
+
+/// How many octets the system took in a row, while the connection wasn't behind.
+#[derive(Clone, Copy)]
+pub(crate) struct Streak {
+    octets: u64,
+}
+
+impl Streak {
+    /// None yet.
+    pub(crate) fn new() -> Streak
+        ensures { result.octets ≡ 0 }
+    {
+        Streak { octets: 0 }
+    }
+
+    /// So many more; whether it has 8 MiB by these, which is once in a streak.
+    pub(crate) fn adds(&mut self, octets: u64) -> bool
+        ensures octets { self.new.octets ≡ plus self.old.octets octets }
+        ensures reached { result ≡ (nat_lt self.old.octets long_streak && nat_le long_streak self.new.octets) }
+    {
+        let before = self.octets;
+        self.octets = before.saturating_add(octets);
+        before < LONG && self.octets >= LONG
+    }
+
+    /// The connection falls behind.
+    pub(crate) fn ends(&mut self)
+        ensures { self.new.octets ≡ 0 }
+    {
+        self.octets = 0;
+    }
+}
