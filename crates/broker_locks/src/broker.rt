@@ -273,9 +273,9 @@ impl<R: Wait, W: Side, T: Side> Broker<R, W, T> {
     }
 
     /// Room for one part at each of these topics, or at none of them: it is taken topic by topic in this order, each
-    /// lock by itself, and at the first topic that has none what was taken is given back. Those that are waited for are
-    /// asked first what was taken. A topic without a lock has room. The list is made before the first lock, so that
-    /// out of memory nothing was taken.
+    /// lock by itself, and at the first topic that has none what was taken is given back. Nobody is refused before those
+    /// that are waited for were asked what was taken. A topic without a lock has room. The list is made before the first
+    /// lock, so that out of memory nothing was taken.
     pub fn reserve(&self, rt: &R, topics: &[Topic]) -> Result<Reserved, NoRoom>
         ensures topics { IfOk result (λ reserved. reserved ≡ topics.now) }
         ensures refused { IfErr result (IsRefusedAt topics.now) }
@@ -414,7 +414,8 @@ impl<R: Wait, W: Side, T: Side> Broker<R, W, T> {
     /// Commits a transaction, as `commit_on` does over these locks: each is held for one proposal, by rising topic,
     /// and none while the point is told. What it answers is said there; of what was done at the places, which other
     /// threads may change at any time, it says no more than that there are such rows. The worker's tickets rise by
-    /// one for each topic, and where the commit is refused, by one for each that gave a ticket before.
+    /// one for each topic, and where the commit is refused, by one for each that gave a ticket before. No room is reserved
+    /// for it: at each topic, those that are waited for and that it leaves without room are passed over.
     pub fn commit_seen<Q: Point>(
         &self,
         rt: &R,

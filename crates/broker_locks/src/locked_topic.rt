@@ -123,8 +123,9 @@ impl<R: Wait, T: Side> LockedTopic<R, T> {
 
     /// Enters a part, and counts its ticket as the worker's that has this share. All memory is made first; then the
     /// total's lock is taken, for the count alone, and nothing is refused after that. With a reservation that is used
-    /// up; without, those that are waited for are asked what was taken, and who has no room now is passed over. Refused
-    /// as by the place, and then by 40 where the total is full; then nothing has changed, and nothing is counted.
+    /// up; without, the spare; and where there is none, those that are waited for are asked what was taken, and who has
+    /// no room now is passed over. Refused as by the place, and then by 40 where the total is full; then nothing has
+    /// changed, and nothing is counted.
     pub(crate) fn propose<W: Side>(
         &mut self,
         rt: &R,

@@ -14,6 +14,7 @@ mod lost;
 mod memory;
 mod places;
 mod room;
+mod room_memory;
 mod senders;
 mod spans;
 mod topics;

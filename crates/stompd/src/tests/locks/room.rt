@@ -636,7 +636,7 @@ fn tried<R: Wait, W: Side, T: Side>(
 }
 
 /// So many tries.
-fn ran<R: Wait, W: Side, T: Side>(
+fn made_tries<R: Wait, W: Side, T: Side>(
     rt: &R,
     alloc: Global,
     broker: &Broker<R, W, T>,
@@ -665,7 +665,7 @@ fn long_run<R: Wait, W: Side, T: Side>(
         return None;
     };
     let other = broker.subscribe(rt, Topic(0)).ok()?;
-    let (committed, taken) = ran(rt, alloc, broker, worker, &mut begun, 1_000);
+    let (committed, taken) = made_tries(rt, alloc, broker, worker, &mut begun, 1_000);
     turned(rt, broker);
     Some(Ran {
         committed,
