@@ -535,8 +535,13 @@ heard:
   if
   :: TAKES(c) ->
      if
+#ifdef M_HELD_TAKES_NOTHING
+     :: may && want == 0 -> may = false; desk_deliver(c, false)
+     :: !may || want > 0 -> may = false
+#else
      :: may -> may = false; desk_deliver(c, want > 0)
      :: !may
+#endif
      fi;
      d_step { WRITE(c); busy = sent; sent = false; again = false; over = leaving[c]; may = (more[c] && blocked[c]) };
      if
