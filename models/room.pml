@@ -1,9 +1,9 @@
-/* Waiting for room: who is held has what it waits for, or is told of it; who takes tells what it took; who is passed over
-   is waited for again.
+/* Waiting for room: who waits is told once there is some; who takes tells what it took; who is passed over is waited
+   for again.
 
-   Each step that another thread may see, or be seen by, is one step here, with its place in the code beside it. Sizes and
-   mutants stand in runs.txt, what is left out in README.md. A call of a bell is one step, as is what is done behind a lock
-   and seen by nobody who hasn't got it: bells.pml takes these apart. */
+   Each step that another thread may see, or be seen by, is one step here, with its place in the code beside it. Sizes
+   and mutants stand in runs.txt, what is left out in README.md. A call of a bell is one step, as is what is done behind
+   a lock and seen by nobody who hasn't got it: bells.pml takes these apart. */
 
 #ifndef TOPICS                   /* 1 or 2 */
 #define TOPICS 2
@@ -44,7 +44,7 @@
 #ifndef FILLED                   /* of these, there at the beginning */
 #define FILLED 0
 #endif
-#ifndef STOPS                    /* so often the clients of those who take don't read for a while: from the beginning, and then */
+#ifndef STOPS                    /* so often each client of those who take doesn't read: from the beginning, and later */
 #define STOPS 0
 #endif
 #ifndef PASSES                   /* so often a subscription may be passed over, where its client doesn't read */
@@ -53,7 +53,7 @@
 #ifndef FRAMES                   /* frames of each client of those who take, at any time: UNSUBSCRIBE or its end */
 #define FRAMES 0
 #endif
-#ifndef LATE                     /* 1: the last subscription isn't there at the beginning, and SUBSCRIBE may be a frame */
+#ifndef LATE                     /* 1: the last subscription isn't there at the beginning: SUBSCRIBE may be a frame */
 #define LATE 0
 #endif
 #ifndef REFUSALS                 /* so many transactions are refused as they are entered at their last topic */
@@ -63,9 +63,9 @@
 #define GIVEN_BACK 0
 #endif
 /* NEVER: the client of the first subscription never reads. CLOSES: the server ends, at some time. HEADS: a head turns
-   what was committed by who has committed more than one. Transactions are to either topic or both; BOTH: to both; OTHER:
-   the first sender's are to both, and the others' to those of these bits. SETTLES: a verdict is a step of its own. ONCE:
-   who reads a transaction that finds no room sleeps, where the code asks twice again before. */
+   what was committed by who has committed more than one. Transactions are to either topic or both; BOTH: to both;
+   OTHER: the first sender's are to both, and the others' to those of these bits. SETTLES: a verdict is a step of its
+   own. ONCE: who reads a transaction that finds no room sleeps, where the code asks twice again before. */
 #define TOPIC(s) (TOPICS - 1 - (s) % TOPICS)
 #define SENDS(c) ((c) < SENDERS)
 #define MAKES(c) ((c) == 0 -> COMMITS : OTHERS)
@@ -97,8 +97,8 @@ bool blocked[CONNS];
 bool reads[CONNS] = true;        /* the client: the system takes what is written */
 mtype:frame frame[CONNS] = Nothing;
 
-/* A topic: its lock, the parts that are pending there, those of them whose verdict isn't set, the room that is reserved;
-   its seats' lock; its waiters: their lock, their bells, whether it is awaited. */
+/* A topic: its lock, the parts that are pending there, those of them whose verdict isn't set, the room that is
+   reserved; its seats' lock; its waiters: their lock, their bells, whether it is awaited. */
 bool topic[TOPICS];
 byte pending[TOPICS];
 byte undecided[TOPICS];
@@ -150,7 +150,7 @@ byte passes, refusals, given_back;
 #define HEAR_AT(t) for (u : 0 .. SUBS - 1) { if :: TOPIC(u) == t -> HEAR(u) :: else fi } u = 0
 
 /* What the inlines below use; each leaves its own as it found it: zero. */
-#define SCRATCH byte s, t, u, w, x, e, n; byte without, sleepers; bool mine, rings, some, done, sent, over; mtype:take got
+#define SCRATCH byte s, t, u, w, x, e, n, without, sleepers; bool mine, rings, some, done, sent, over; mtype:take got
 
 /* waiters.rt ring: a load, a swap where that was true, and where that was, too, the bells behind their lock */
 inline waiters_ring(at) {
@@ -233,7 +233,7 @@ inline tell_taken(sub, is_rung) {
 #else
 #define NONE_RINGS true
 #endif
-/* calls.rt find_empty: a swap, and room.rt wait_for behind the topic's lock; what isn't waited for then stays passed over */
+/* calls.rt find_empty: a swap, and room.rt wait_for behind the topic's lock; who isn't waited for stays passed over */
 inline wait_again(sub) {
   d_step { some = passed_over[sub]; passed_over[sub] = false };
   if
@@ -357,6 +357,7 @@ inline desks_stand_in(c) {
   fi
 }
 
+#define SLEEPS(sub) (bell[TAKER(sub)] == Asleep && !stuck[TAKER(sub)])
 #define TO_THE_NEXT(is) do :: u < SUBS && !(is) -> u++ :: else -> break od
 #define GETS(at) (TOPIC(u) == at && open_[u] && !lagged[u])
 #define SITS(at) (TOPIC(u) == at && seated[u])
@@ -414,7 +415,7 @@ inline hub_turned(at, stands_in) {
           if
           :: u < SUBS ->
              if
-             :: stands_in && bell[TAKER(u)] == Asleep && !stuck[TAKER(u)] -> sleepers = sleepers | BIT(u)
+             :: stands_in && SLEEPS(u) -> sleepers = sleepers | BIT(u)
              :: else -> SEAT_RING(u)
              fi;
              u++; TO_THE_NEXT(SITS(at))
@@ -429,7 +430,7 @@ inline hub_turned(at, stands_in) {
   :: else
   fi
 }
-#define FEW_SLEEP(sub) (sub >= SUBS || !(owes & BIT(TOPIC(sub))) || !seated[sub] || bell[TAKER(sub)] == Asleep && !stuck[TAKER(sub)])
+#define FEW_SLEEP(sub) (sub >= SUBS || !(owes & BIT(TOPIC(sub))) || !seated[sub] || SLEEPS(sub))
 /* connection.rt stands_in, or calls.rt turn_now or turn_topics: turns what it owes */
 inline turn_owed(may_tell) {
   if
@@ -483,18 +484,19 @@ inline look(at) {
      d_step { !topic[at] ->
 #endif
        HEAR(x);
-       if :: LACKS(x) -> waited[x] = false; some = true :: else fi };
+       if :: LACKS(x) -> waited[x] = false; done = true :: else fi };
      if
+     :: done ->
 #ifndef M_PASSED_FIRST
-     :: some ->
         d_step { !seats[at] -> seats[at] = true; if :: seated[x] -> passed_over[x] = true :: else fi };
         d_step {
 #ifndef M_PASSED_UNRUNG
           if :: seated[x] -> SEAT_RING(x) :: else fi;
 #endif
-          seats[at] = false }
+          seats[at] = false };
 #endif
-     :: else
+        done = false; some = true
+     :: !done
      fi;
      x++
   :: x < SUBS -> x++
@@ -510,6 +512,7 @@ inline look(at) {
 #endif
   skip
 }
+#define SETTLE for (u : 0 .. TOPICS - 1) { if :: want & BIT(u) -> undecided[u]-- :: else fi } u = 0; want = 0
 #define MAY_BE_PASSED(sub) (sub < SUBS && (want & BIT(TOPIC(sub))) && LACKS(sub) && !reads[TAKER(sub)])
 
 /* A connection: its thread. */
@@ -535,8 +538,13 @@ heard:
   if
   :: TAKES(c) ->
      if
+#ifdef M_HELD_TAKES_NOTHING
+     :: may && want == 0 -> may = false; desk_deliver(c, false)
+     :: !may || want > 0 -> may = false
+#else
      :: may -> may = false; desk_deliver(c, want > 0)
      :: !may
+#endif
      fi;
      d_step { WRITE(c); busy = sent; sent = false; again = false; over = leaving[c]; may = (more[c] && blocked[c]) };
      if
@@ -550,12 +558,12 @@ heard:
 #if FRAMES > 0
      if                                                          /* connection.rt hear */
      :: frame[c] == Nothing || want > 0 -> skip
-     :: frame[c] == Subscribe && want == 0 ->                 /* calls.rt subscribe: the seat, then the subscription */
+     :: frame[c] == Subscribe && want == 0 ->                    /* calls.rt subscribe: the seat, then the subscription */
         frame[c] = Nothing; busy = true;
         d_step { !seats[TOPIC(SUBS - 1)] -> seated[SUBS - 1] = true };
         d_step { !topic[TOPIC(SUBS - 1)] -> assert(FITS(SUBS - 1, 0));
           open_[SUBS - 1] = true; waited[SUBS - 1] = true; has[SUBS - 1] = true }
-     :: frame[c] == Unsubscribe && want == 0 ->               /* of its first subscription: calls.rt unsubscribe */
+     :: frame[c] == Unsubscribe && want == 0 ->                  /* of its first subscription: calls.rt unsubscribe */
         d_step { frame[c] = Nothing; busy = true;
           do :: e < SUBS && !(TAKER(e) == c && has[e]) -> e++ :: else -> break od };
         if
@@ -579,7 +587,7 @@ heard:
   :: !SENDS(c)
   fi;
   goto idle;
-hear:                                                            /* connection.rt hear: it may hear more before it turns */
+hear:                                                            /* connection.rt hear: it may hear more, or turns */
   if
   :: made < MAKES(c) ->
      made++; busy = true; again = false;
@@ -613,7 +621,7 @@ go_on:                                                           /* connection.r
 ask:                                                             /* calls.rt reserve */
   if
 #ifndef M_WAITS_OWING
-  :: commits > 0 -> goto go_on                                   /* once it has committed many: it looks for who sleeps */
+  :: commits > 0 -> goto go_on                                   /* so many that it looks for who sleeps */
 #endif
   :: true -> hub_reserve()
   fi;
@@ -702,7 +710,7 @@ enter:
        reserved[t]--; pending[t]++; undecided[t]++; owes = owes | BIT(t); t = NEXT(want, t);
 #ifndef SETTLES
        if
-       :: t >= TOPICS -> for (u : 0 .. TOPICS - 1) { if :: want & BIT(u) -> undecided[u]-- :: else fi } u = 0; want = 0; some = true
+       :: t >= TOPICS -> SETTLE; some = true
        :: else
        fi
 #endif
@@ -732,7 +740,7 @@ enter:
 #endif
 #ifdef SETTLES
   :: d_step { t >= TOPICS ->                                     /* commit.rt settle: the flight's cell */
-       for (u : 0 .. TOPICS - 1) { if :: want & BIT(u) -> undecided[u]-- :: else fi } u = 0; want = 0 };
+       SETTLE };
      break
 #endif
   od;
