@@ -20,8 +20,8 @@ pub data RequestData : Type 0 where
   ToRun : (asked : Asked) → RequestData
   ToServe : (text : List ℕ) → (names : List (List ℕ)) → RequestData
 
--- Why this, which is no topic's name, is none: it has no octet, or one that isn't from 33 to 126, the first of
--- them at this place, from 1. So of `a b` it is the second.
+-- Why this, which is no topic's name, is none: it has no octet, or one that isn't from 33 to 126, the first
+-- of them at this place, from 1. So of `a b` it is the second.
 abbrev pub name_fault : List ℕ → WordsFault
 name_fault [] = EmptyName
 name_fault (octet ∷ octets) =
@@ -70,8 +70,8 @@ names_fault (name ∷ names) =
     else if stands_in name names then Some (NameTwice (excerpt_of name))
     else names_fault names
 
--- Why no server begins with topics of these names: they are over 1,024, or as above. So with `A`, `B` it does,
--- and with `A`, `B`, `A` the name `A` comes twice.
+-- Why no server begins with topics of these names: they are over 1,024, or as above. So with `A`, `B` it
+-- does, and with `A`, `B`, `A` the name `A` comes twice.
 abbrev pub topics_fault : List (List ℕ) → Option WordsFault
 topics_fault names =
     if nat_lt max_topics (length names) then Some (TooManyTopics (length names)) else names_fault names
@@ -88,9 +88,9 @@ abbrev pub to_run : Result Asked WordsFault → Result RequestData WordsFault
 to_run (Ok asked) = Ok (ToRun asked)
 to_run (Err fault) = Err fault
 
--- What the words ask for, or what is wrong with them, but for the text of an address. So `relay A` asks for the
--- relay to `A`, `--help` for what is said of it, and `serve 127.0.0.1:61613 A` for the server; in `relay A B`
--- `B` is a word too many, and `serve` has no address (proofs/RequestExamples.antt).
+-- What the words ask for, or what is wrong with them, but for the text of an address. So `relay A` asks for
+-- the relay to `A`, `--help` for what is said of it, and `serve 127.0.0.1:61613 A` for the server; in
+-- `relay A B` `B` is a word too many, and `serve` has no address (proofs/RequestExamples.antt).
 abbrev pub request_by : List (List ℕ) → Result RequestData WordsFault
 request_by [] = Err NoWord
 request_by (word ∷ words) =
