@@ -1,12 +1,13 @@
 //! What a server says in its log of peers that lag, don't read, are gone or find no place, and of an address that it can't
 //! have.
 
-use super::ending::at_a_used_address;
+use super::ending::{at_a_used_address, at_port};
 use super::logged::Kept;
 use super::many::Many;
 use super::peers::Reset;
 use super::served::serves;
 use super::slow::{OneOfTwo, Silent};
+use broker_server::VERSION;
 use log::{LevelFilter, Logged};
 use std::sync::Mutex;
 
@@ -154,4 +155,26 @@ fn the_log_says_where_it_cannot_listen(rt: HostRuntime) {
     let logged = Logged::new(rt, LevelFilter::Info, kept);
     assert!(rt; at_a_used_address(&logged, rt.alloc()).is_some());
     assert!(rt; say_where_it_cannot_listen(lines.lock(&rt).as_slice()));
+}
+
+/// Whether this is `VERSION listens at 127.0.0.1:` and a port that isn't 0.
+fn is_version_and_port(text: &str) -> bool {
+    let rest = text.strip_prefix(VERSION);
+    let port = rest.and_then(|rest| rest.strip_prefix(" listens at 127.0.0.1:"));
+    port.is_some_and(|port| is_port(port) && port != "0")
+}
+
+/// Whether these lines say which version listens at which port, and nothing else.
+fn say_version_and_port(lines: &[String]) -> bool {
+    between(lines, "[INFO  serve] ", "").is_some_and(is_version_and_port) && lines.len() == 1
+}
+
+/// A free port is asked for.
+#[test]
+fn the_log_says_its_version_and_port(rt: HostRuntime) {
+    let lines = Mutex::new(Vec::new(rt.alloc()));
+    let kept = Kept::here(&rt, rt.alloc(), &lines);
+    let logged = Logged::new(rt, LevelFilter::Info, kept);
+    assert!(rt; at_port(&logged, rt.alloc(), 0).is_some());
+    assert!(rt; say_version_and_port(lines.lock(&rt).as_slice()));
 }
