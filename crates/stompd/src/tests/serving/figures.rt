@@ -24,9 +24,9 @@ const MESSAGE: usize =
 /// How many octets the ERROR has that the subscriber gets.
 const ERROR: usize = "ERROR\nmessage:21 Unsupported\ncontent-length:0\n\n\0".len();
 
-/// The subscriber has a client-id with a colon and a backslash at its end, and subscribes to A and to B.
+/// The subscriber has a client-id of `café 7` and a backslash, and subscribes to A and to B.
 const SUBSCRIBER: Talk = (
-    "CONNECT\naccept-version:1.2\nhost:h\nclient-id:shop\\c7\\\\\n\n\0\
+    "CONNECT\naccept-version:1.2\nhost:h\nclient-id:café 7\\\n\n\0\
      SUBSCRIBE\nid:s\ndestination:A\nreceipt:a\n\n\0SUBSCRIBE\nid:t\ndestination:B\nreceipt:b\n\n\0",
     CONNECTED + RECEIPT + RECEIPT,
 );
@@ -128,19 +128,21 @@ fn figures(alloc: Global) -> Result<String, AllocError> {
     )
 }
 
+/// Whether the last of these lines is that one.
+fn ends_by_figures(alloc: Global, lines: &[String]) -> bool {
+    match (figures(alloc), lines.last()) {
+        (Ok(wanted), Some(last)) => last.as_str() == wanted.as_str(),
+        _ => false,
+    }
+}
+
 #[test]
 fn the_last_line_has_all_that_was_done(rt: HostRuntime) {
     let lines = Mutex::new(Vec::new(rt.alloc()));
     let kept = Kept::here(&rt, rt.alloc(), &lines);
     let logged = Logged::new(rt, LevelFilter::Info, kept);
     assert!(rt; serves(&logged, rt.alloc(), &Three, 2));
-    let wanted = figures(rt.alloc()).unwrap(rt);
-    let lines = lines.lock(&rt);
-    assert!(rt;
-        lines
-            .last()
-            .is_some_and(|line| line.as_str() == wanted.as_str())
-    );
+    assert!(rt; ends_by_figures(rt.alloc(), lines.lock(&rt).as_slice()));
 }
 
 /// Whether these lines say once of the connection of this number that it has that client-id.
@@ -158,11 +160,21 @@ fn say_once(alloc: Global, lines: &[String], number: usize, id: &str) -> bool {
 
 /// The client-id of each of them as the log shows it.
 const SHOWN: [&str; 3] = [
-    "shop:7\\\\",
+    "caf\\xc3\\xa9 7\\\\",
     "0123456789012345678901234567890123456789012345678901234567890123\
      0123456789012345678901234567890123456789012345678901234567890123 and 2 octets more",
     "",
 ];
+
+/// Whether they say so of each, and nothing else but that it came and left, which topics there are, and the figures.
+fn say_all(alloc: Global, lines: &[String]) -> bool {
+    for (number, id) in SHOWN.iter().enumerate() {
+        if !say_once(alloc, lines, number, id) {
+            return false;
+        }
+    }
+    lines.len() == SHOWN.len().saturating_mul(3).saturating_add(2)
+}
 
 #[test]
 fn the_log_says_who_has_which_client_id(rt: HostRuntime) {
@@ -170,9 +182,5 @@ fn the_log_says_who_has_which_client_id(rt: HostRuntime) {
     let kept = Kept::here(&rt, rt.alloc(), &lines);
     let logged = Logged::new(rt, LevelFilter::Info, kept);
     assert!(rt; serves(&logged, rt.alloc(), &Three, 2));
-    let lines = lines.lock(&rt);
-    for (number, id) in SHOWN.iter().enumerate() {
-        assert!(rt; say_once(rt.alloc(), lines.as_slice(), number, id));
-    }
-    assert!(rt; lines.len() == 11);
+    assert!(rt; say_all(rt.alloc(), lines.lock(&rt).as_slice()));
 }
