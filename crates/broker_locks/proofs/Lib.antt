@@ -2,7 +2,7 @@ pub mod Proposals
 pub mod Cancels
 pub mod Whole
 pub mod Committed
-pub mod Room
+pub mod CancelRoom
 pub mod TraceKept
 pub mod PlaceTraces
 pub mod Balance
@@ -13,4 +13,7 @@ pub mod Adding
 pub mod Gathered
 pub mod TraceRows
 pub mod RunTraces
+pub mod Lookups
+pub mod Hearing
+pub mod Roomy
 mod Examples

@@ -1,5 +1,3 @@
-# Appendix A: /work/h/l, specs/Room.antt (proved but for the line named above)
-```
 -- Room that is reserved at a topic, and who is waited for there.
 use Rattle.std.specs.Prelude.{◌≡◌, ◌≤◌, ◌<◌, ◌+◌, ◌-◌, ◌==◌, ◌&&◌, ◌++◌, nat_lt, not, ℕ, Bool, false, List}
 use Rattle.std.specs.Prelude.{[], length, filter, Option, Some, None, Result, Ok, Err, if◌then◌else◌}
@@ -168,18 +166,18 @@ group_cancelled id g = record g { topic = after_cancel id g.topic }
 -- release: a release.
 -- turn: a head's turn.
 -- none_lags: so no turn lags one that is waited for.
-pub record StaysRoomy : Type 0 where
+-- E is how a drain is refused.
+pub record StaysRoomy (E : Type 0) : Type 0 where
   pub enter : (state : RoomState) (floor : Stamp) (part : TopicPart) (g : GroupState)
       → KeepsRoom (one_reserved state) g → KeepsRoom state (group_entered floor part g)
   pub cancel : (state : RoomState) (id : TxnId) (g : GroupState)
       → KeepsRoom state g → KeepsRoom state (group_cancelled id g)
   pub release : (state : RoomState) (g new : GroupState)
       → KeepsRoom state g → Releases source_answers g new → KeepsRoom state new
-  pub turn : {E : Type 0} (state : RoomState) (old new : PlaceState) (told : Turned)
+  pub turn : (state : RoomState) (old new : PlaceState) (told : Turned)
       (drained : Result (List LogRow) E)
       → KeepsRoom state old.cells.group → HasTurned old new told drained → KeepsRoom state new.cells.group
-  pub none_lags : {E : Type 0} (state : RoomState) (old new : PlaceState) (told : Turned)
+  pub none_lags : (state : RoomState) (old new : PlaceState) (told : Turned)
       (drained : Result (List LogRow) E) (number : ℕ)
       → KeepsRoom state old.cells.group → HasTurned old new told drained → In number state.waited
       → subscription_state number new.cells.group.topic ≡ Some SubState.Open
-```

@@ -8,10 +8,11 @@ ghost use Rattle.mcast_txn.specs.Flight.{Sight};
 ghost use Rattle.mcast_txn.specs.Stamp.{greatest};
 ghost use Rattle.broker_locks.specs.Commits.{KnowsStamp};
 ghost use Rattle.broker_locks.specs.Gathering.{GatheredIsDue};
+ghost use Rattle.broker_locks.specs.Room.{StaysRoomy};
 ghost use Rattle.broker_locks.specs.TopicTraces.{ExplainedIsDue};
 
 use crate::place::Place;
-use mcast_txn::Seen;
+use mcast_txn::{NoMemory, Seen};
 use std::sync::Wait;
 
 /// Where the audit says yes to the trace of all topics of a run, so that one list of transactions explains it, what
@@ -24,6 +25,12 @@ pub fn explained_is_due()
 /// subscription is there twice.
 pub fn gathered_is_due()
     ensures { GatheredIsDue }
+{}
+
+/// A subscription that is waited for has room for all parts that are pending and reserved at its topic, whatever is
+/// entered with a reservation, taken out, released or turned there: so no turn lags it.
+pub fn stays_roomy()
+    ensures { StaysRoomy NoMemory }
 {}
 
 /// The stamp that a commit answered is that of the verdict which any note of its flight's cell knows, in whichever

@@ -1,7 +1,7 @@
 //! What a subscription was waited for.
 
 ghost use Rattle.std.specs.Prelude.{◌≡◌, None, Some};
-ghost use Rattle.broker_server.specs.Purses.{is_behind_since, late_since, looked_price, looked_since, owed_since, spared_at};
+ghost use Rattle.broker_server.specs.Purses.{account_at_look, debt, is_one_moment, late_since, price_at_look, spared_at};
 
 use crate::serving::cost::Cost;
 use crate::serving::moment::Moment;
@@ -40,64 +40,50 @@ impl Account {
     /// connection isn't behind, that is nothing for a second since a look that is fresh: the first, or one before which
     /// something was taken, or nobody waited. Then it is the full price.
     pub(crate) fn looks(&mut self, now: Moment, pace: &Pace, unpaid: Span, fresh: bool) -> Price
-        ensures price { result ≡ looked_price self.old pace.now now fresh pace.now.since }
-        ensures after { self.new ≡ looked_since self.old pace.now now unpaid.0 fresh pace.now.since }
+        ensures price { result ≡ price_at_look self.old pace.now now fresh }
+        ensures after { self.new ≡ account_at_look self.old pace.now now unpaid.0 fresh }
     {
-        match pace.since() {
-            Some(since) => {
-                let price = pace.price(now);
-                self.spared = self.spared_at(now, since, price, unpaid);
-                self.behind = Some(since);
-                self.late = None;
-                price
-            }
-            None => {
-                let late = self.late_since(now, fresh);
-                self.spared = Cost(0);
-                self.behind = None;
-                self.late = Some(late);
-                if now.since(late).0 < MOST_LATE {
-                    Price::Free
-                } else {
-                    Price::Full
-                }
-            }
+        self.spared = self.spared_at(now, pace, unpaid);
+        self.behind = pace.since();
+        if self.behind.is_some() {
+            self.late = None;
+            return pace.price(now);
+        }
+        let late = self.late_since(now, fresh);
+        self.late = Some(late);
+        if now.since(late).0 < MOST_LATE {
+            Price::Free
+        } else {
+            Price::Full
         }
     }
 
     /// What it owes where it ends at this moment, and was waited for so long since that was paid.
     pub(crate) fn owes(&self, now: Moment, pace: &Pace, unpaid: Span) -> Cost
-        ensures { result.0 ≡ owed_since self.now pace.now now unpaid.0 pace.now.since }
+        ensures { result.0 ≡ debt self.now pace.now now unpaid.0 }
     {
-        match pace.since() {
-            Some(since) if self.is_behind_since(since) => {
-                self.spared_at(now, since, pace.price(now), unpaid)
-            }
-            _ => Cost(0),
+        if is_one_moment(self.behind, pace.since()) {
+            self.spared_at(now, pace, unpaid)
+        } else {
+            Cost(0)
         }
     }
 
-    /// Whether its connection was behind since this moment when it was looked at last.
-    fn is_behind_since(&self, since: Moment) -> bool
-        ensures { result ≡ is_behind_since since self.now.behind }
+    /// What it was spared since its connection is behind, with this time.
+    fn spared_at(&self, now: Moment, pace: &Pace, unpaid: Span) -> Cost
+        ensures { result.0 ≡ spared_at self.now pace.now now unpaid.0 }
     {
-        match self.behind {
-            Some(behind) => behind.0 == since.0,
-            None => false,
-        }
-    }
-
-    /// What it was spared since it is behind, with this time at this price.
-    fn spared_at(&self, now: Moment, since: Moment, price: Price, unpaid: Span) -> Cost
-        ensures { result.0 ≡ spared_at self.now price now since unpaid.0 }
-    {
-        let before = if self.is_behind_since(since) {
+        let before = if is_one_moment(self.behind, pace.since()) {
             self.spared.0
         } else {
             0
         };
-        let time = Span(unpaid.0.min(now.since(since).0));
-        Cost(before.saturating_add(price.spared(time).0).min(FULL_PURSE))
+        let most = match pace.since() {
+            Some(since) => now.since(since).0,
+            None => 0,
+        };
+        let more = pace.price(now).spared(Span(unpaid.0.min(most)));
+        Cost(before.saturating_add(more.0).min(FULL_PURSE))
     }
 
     /// Since when its thread is late, which is late now.
@@ -108,5 +94,15 @@ impl Account {
             Some(late) if !fresh => late,
             _ => now,
         }
+    }
+}
+
+/// Whether both are there, and are one moment.
+fn is_one_moment(one: Option<Moment>, other: Option<Moment>) -> bool
+    ensures { result ≡ is_one_moment one other }
+{
+    match (one, other) {
+        (Some(one), Some(other)) => one.0 == other.0,
+        _ => false,
     }
 }

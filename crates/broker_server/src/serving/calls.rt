@@ -314,6 +314,19 @@ impl<'a, R: Wait + Log + Clock, W: Side, T: Side> Calls<'a, R, W, T> {
         Some(room)
     }
 
+    /// Room at these topics. Where there is none, and it owes no turns, it waits.
+    fn room_at(&mut self, topics: &[Topic]) -> Option<Reserved>
+        ensures { IfSome result (λ room. room ≡ topics.now) }
+    {
+        match self.hub.reserve(self.rt, topics) {
+            Ok(room) => self.go_on(room),
+            Err(NoRoom::Full { topic, sub: _ }) if self.commits == 0 => {
+                self.wait_at(topic, topics)
+            }
+            Err(_) => None,
+        }
+    }
+
     /// There is no room at this topic, the first of these that has none: it is told once there may be some. So it asks
     /// again, and looks whom it waits for where there is none still.
     fn wait_at(&mut self, topic: Topic, topics: &[Topic]) -> Option<Reserved>
@@ -343,16 +356,31 @@ impl<'a, R: Wait + Log + Clock, W: Side, T: Side> Calls<'a, R, W, T> {
     }
 
     /// Tells the topic how many items of this subscription were taken, and those who wait for room there.
-    fn tell_taken(&self, sub: &mut SeatedSub) {
+    fn tell_taken(&self, sub: &mut SeatedSub)
+        ensures { sub.new ≡ record sub.old { untold = 0 } }
+    {
         sub.untold = 0;
         sub.begun.taker.tell(self.rt);
         sub.seat.set_taken();
         self.hub.ring_waiters(self.rt, sub.topic);
     }
 
+    /// An item of this subscription was taken: that is told once half of what a queue holds was.
+    fn count_taken(&self, sub: &mut SeatedSub)
+        ensures same { sub.new ≡ record sub.old { untold = sub.new.untold } }
+        ensures few { (sub.new.untold ≡ 0) ⊎ (sub.new.untold < self.now.most) }
+    {
+        sub.untold = sub.untold.saturating_add(1);
+        if sub.untold >= self.most {
+            self.tell_taken(sub);
+        }
+    }
+
     /// The queue of this subscription was found empty: what was taken is told, and where it was passed over, it is waited
     /// for again, if what is there finds room.
-    fn find_empty(&self, sub: &mut SeatedSub) {
+    fn find_empty(&self, sub: &mut SeatedSub)
+        ensures { sub.new ≡ record sub.old { untold = 0 } }
+    {
         if sub.untold > 0 {
             self.tell_taken(sub);
         }
@@ -471,16 +499,15 @@ impl<'a, R: Wait + Log + Clock, W: Side, T: Side> BrokerCalls for Calls<'a, R, W
 
     /// Those who wait for room are told once nothing is there, or half of what a queue holds was taken.
     fn take(&mut self, sub: &mut SeatedSub) -> Option<Released> {
-        let Some(item) = sub.begun.taker.take(self.rt) else {
-            self.find_empty(sub);
-            return None;
-        };
-        self.activity.takes(item.part.sends.len() as u64);
-        sub.untold = sub.untold.saturating_add(1);
-        if sub.untold >= self.most {
-            self.tell_taken(sub);
+        let item = sub.begun.taker.take(self.rt);
+        match &item {
+            Some(item) => {
+                self.activity.takes(item.part.sends.len() as u64);
+                self.count_taken(sub);
+            }
+            None => self.find_empty(sub),
         }
-        Some(item)
+        item
     }
 
     /// Where it owes turns, and there is no room, these come first: there may be some then. They come first, too, where
@@ -489,13 +516,7 @@ impl<'a, R: Wait + Log + Clock, W: Side, T: Side> BrokerCalls for Calls<'a, R, W
         if self.commits == AT_ONCE && self.heard_little && self.few_sleep() {
             return None;
         }
-        match self.hub.reserve(self.rt, topics) {
-            Ok(room) => self.go_on(room),
-            Err(NoRoom::Full { topic, sub: _ }) if self.commits == 0 => {
-                self.wait_at(topic, topics)
-            }
-            Err(_) => None,
-        }
+        self.room_at(topics)
     }
 
     fn give_room_back(&mut self, room: Reserved) {

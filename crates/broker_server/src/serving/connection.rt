@@ -1,5 +1,9 @@
 //! A connection's thread.
 
+ghost use Rattle.std.specs.Prelude.{◌≡◌, true};
+ghost use Rattle.std.specs.Option.{is_some};
+ghost use Rattle.broker_server.specs.declared.serving.connection.Round.TheVariants.{Idle};
+
 use crate::conversation::{Conversation, ConversationFault, Exit};
 use crate::serving::calls::Calls;
 use crate::serving::desk::Desk;
@@ -181,7 +185,9 @@ impl<'a, 'b, R: Wait + Log + Clock, W: Side, T: Side> Connection<'a, 'b, R, W, T
     /// Goes on with the transaction that waits for room, if one does, and with what came behind it, until none waits, or
     /// there is no room though all that it sent was turned, or it is told of something. What is there for it is taken
     /// once none waits: a lag that was found meanwhile is told then.
-    fn go_on(&mut self, desk: &mut Desk<'a, R, W, T>) -> Round {
+    fn go_on(&mut self, desk: &mut Desk<'a, R, W, T>) -> Round
+        ensures { result ≡ Idle → is_some desk.new.talk.held ≡ true → desk.new.calls.commits ≡ 0 }
+    {
         if !desk.talk.is_held() {
             return Round::Idle;
         }

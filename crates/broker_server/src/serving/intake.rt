@@ -1,5 +1,8 @@
 //! What the system takes of what is written to a connection.
 
+ghost use Rattle.std.specs.Prelude.{◌≡◌, true, false};
+ghost use Rattle.broker_server.specs.Purses.{after_catching_up, after_falling_behind, after_octets};
+
 use crate::serving::moment::Moment;
 use crate::serving::pace::Pace;
 use std::sync::atomic::{AtomicBool, Ordering};
@@ -31,12 +34,7 @@ impl Intake {
     /// The system took so many octets at this moment, and is behind, or has taken all.
     pub(crate) fn note<R: Wait>(&self, rt: &R, now: Moment, octets: u64, behind: bool) {
         let mut pace = self.pace.lock(rt);
-        pace.takes(now, octets);
-        if behind {
-            pace.falls_behind(now);
-        } else {
-            pace.catches_up(now);
-        }
+        note_taken(&mut pace, now, octets, behind);
         self.behind.store(behind, Ordering::SeqCst);
     }
 
@@ -53,5 +51,20 @@ impl Intake {
     /// Its pace so far.
     pub(crate) fn pace<R: Wait>(&self, rt: &R) -> Pace {
         *self.pace.lock(rt)
+    }
+}
+
+/// The system took so many octets at this moment, and is behind, or has taken all.
+fn note_taken(pace: &mut Pace, now: Moment, octets: u64, behind: bool)
+    ensures behind { behind ≡ true
+        → pace.new ≡ after_falling_behind (after_octets pace.old now octets) now }
+    ensures all { behind ≡ false
+        → pace.new ≡ after_catching_up (after_octets pace.old now octets) now }
+{
+    pace.takes(now, octets);
+    if behind {
+        pace.falls_behind(now);
+    } else {
+        pace.catches_up(now);
     }
 }

@@ -1,5 +1,8 @@
 //! What a sender finds that has no room at a topic.
 
+ghost use Rattle.std.specs.Prelude.{◌≡◌, ◌++◌, ◌∷◌, [], None, true, false, IfOk, OnOk};
+ghost use Rattle.broker_server.specs.RoomLooks.{dear_with, standing_with};
+
 use crate::serving::price::Price;
 use crate::serving::standing::Standing;
 use std::alloc::{AllocError, Global};
@@ -19,7 +22,12 @@ pub(crate) struct Look {
 
 impl Look {
     /// Nobody was found yet; there is room for so many in each list.
-    pub(crate) fn new(alloc: Global, count: usize) -> Result<Look, AllocError> {
+    pub(crate) fn new(alloc: Global, count: usize) -> Result<Look, AllocError>
+        ensures standing { IfOk result
+            (λ look. look.standing ≡ record { price = Price.Free; connection = None }) }
+        ensures nobody { IfOk result (λ look. (look.dear.items ≡ []) × (look.given_up.items ≡ [])) }
+        ensures may_wait { IfOk result (λ look. look.may_wait ≡ true) }
+    {
         Ok(Look {
             standing: Standing::new(),
             dear: Vec::with_capacity(alloc, count)?,
@@ -29,15 +37,33 @@ impl Look {
     }
 
     /// One lacks room: the subscription of this number, of this connection, whose waiting has this price, or isn't
-    /// waited for at all. (Its number isn't lost, as there is room for it.)
-    pub(crate) fn finds(&mut self, sub: u64, connection: u64, price: Price, has_given_up: bool) {
+    /// waited for at all.
+    pub(crate) fn finds(
+        &mut self,
+        sub: u64,
+        connection: u64,
+        price: Price,
+        has_given_up: bool,
+    ) -> Result<(), AllocError>
+        ensures given_up { has_given_up ≡ true
+            → OnOk result (self.new.given_up.items ≡ self.old.given_up.items ++ sub ∷ []) }
+        ensures others { has_given_up ≡ true
+            → (self.new.standing ≡ self.old.standing) × (self.new.dear ≡ self.old.dear) }
+        ensures standing { has_given_up ≡ false
+            → self.new.standing ≡ standing_with self.old.standing price connection }
+        ensures dear { has_given_up ≡ false
+            → OnOk result (self.new.dear.items ≡ dear_with self.old.dear.items sub price) }
+        ensures rest { has_given_up ≡ false → self.new.given_up ≡ self.old.given_up }
+        ensures may_wait { self.new.may_wait ≡ self.old.may_wait }
+    {
         if has_given_up {
-            let _ = self.given_up.push(sub);
-            return;
+            self.given_up.push(sub)?;
+            return Ok(());
         }
         self.standing.adds(price, connection);
         if !price.is_free() {
-            let _ = self.dear.push(sub);
+            self.dear.push(sub)?;
         }
+        Ok(())
     }
 }

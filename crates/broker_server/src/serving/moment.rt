@@ -1,7 +1,7 @@
 //! Moments of the monotonic clock.
 
 ghost use Rattle.std.specs.Prelude.{◌≡◌, ◌-◌};
-ghost use Rattle.broker_server.specs.Purses.{later};
+ghost use Rattle.broker_server.specs.Purses.{later_moment};
 
 use crate::serving::span::Span;
 use std::time::Clock;
@@ -28,7 +28,7 @@ impl Moment {
 
     /// The later of the two.
     pub(crate) fn later(self, other: Moment) -> Moment
-        ensures { result ≡ later self other }
+        ensures { result ≡ later_moment self other }
     {
         Moment(self.0.max(other.0))
     }

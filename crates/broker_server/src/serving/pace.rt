@@ -2,17 +2,16 @@
 
 ghost use Rattle.std.specs.Prelude.{◌≡◌, None, false};
 ghost use Rattle.broker_server.specs.Purses.{
-  behind_since,
-  caught_up_since,
-  given_up_since,
+  after_catching_up,
+  after_falling_behind,
+  after_giving_up,
+  after_keeping_up,
+  after_octets,
   has_rate,
-  kept_up_since,
-  known_price,
+  is_taking,
   no_tenths,
+  pace_price,
   price_at,
-  price_of,
-  taken_since,
-  takes_at,
 };
 
 use crate::serving::moment::Moment;
@@ -51,13 +50,13 @@ fn has_rate(octets: u64, time: Span, wanted: u32) -> bool
     u128::from(octets) * u128::from(SECOND) >= u128::from(wanted) * u128::from(time.0)
 }
 
-/// What waiting costs for who takes so many octets in this time.
-fn price_of(octets: u64, time: Span) -> Price
-    ensures { result ≡ price_of octets time.0 }
+/// What waiting costs for who is fast, or slow, or slower.
+fn pace_price(is_fast: bool, is_slow: bool) -> Price
+    ensures { result ≡ pace_price is_fast is_slow }
 {
-    if has_rate(octets, time, FAST) {
+    if is_fast {
         Price::Free
-    } else if has_rate(octets, time, SLOW) {
+    } else if is_slow {
         Price::Sixtieth
     } else {
         Price::Full
@@ -86,7 +85,7 @@ impl Pace {
 
     /// The system took so many octets, which counts while it is behind.
     pub(crate) fn takes(&mut self, now: Moment, octets: u64)
-        ensures { self.new ≡ taken_since self.old now octets self.old.since }
+        ensures { self.new ≡ after_octets self.old now octets }
     {
         if self.since.is_some() {
             self.taken = self.taken.saturating_add(octets);
@@ -96,7 +95,7 @@ impl Pace {
 
     /// The system took less than there is.
     pub(crate) fn falls_behind(&mut self, now: Moment)
-        ensures { self.new ≡ behind_since self.old now self.old.since }
+        ensures { self.new ≡ after_falling_behind self.old now }
     {
         if self.since.is_none() {
             self.since = Some(now);
@@ -107,14 +106,15 @@ impl Pace {
 
     /// The system has taken all, and the connection's queues are empty.
     pub(crate) fn catches_up(&mut self, now: Moment)
-        ensures { self.new ≡ caught_up_since self.old now self.old.since }
+        ensures { self.new ≡ after_catching_up self.old now }
     {
         if let Some(since) = self.since {
             let time = now.since(since);
             self.known = if time.0 < TENTH {
                 Price::Free
             } else {
-                price_of(self.taken, time)
+                let is_fast = has_rate(self.taken, time, FAST);
+                pace_price(is_fast, has_rate(self.taken, time, SLOW))
             };
             self.since = None;
             self.given_up = false;
@@ -124,7 +124,7 @@ impl Pace {
     /// So much was taken without its being behind that it counts as one that was behind for less than a tenth of a
     /// second.
     pub(crate) fn keeps_up(&mut self)
-        ensures { self.new ≡ kept_up_since self.old self.old.since }
+        ensures { self.new ≡ after_keeping_up self.old }
     {
         if self.since.is_none() {
             self.known = Price::Free;
@@ -134,7 +134,7 @@ impl Pace {
     /// It was passed over. Where it has been behind for a tenth of a second, it isn't waited for at any topic until it
     /// catches up.
     pub(crate) fn gives_up(&mut self, now: Moment)
-        ensures { self.new ≡ given_up_since self.old now self.old.since }
+        ensures { self.new ≡ after_giving_up self.old now }
     {
         if let Some(since) = self.since
             && now.since(since).0 >= TENTH
@@ -159,8 +159,8 @@ impl Pace {
 
     /// Whether so many octets a second are taken, over the time since it is behind, a second at most. Of each tenth of a
     /// second at most twice its share counts, so that what the system's buffers take at once is no pace.
-    fn takes_at(&self, now: Moment, time: Span, wanted: u32) -> bool
-        ensures { result ≡ takes_at now time.0 wanted self.now.tenths.tenths }
+    fn is_taking(&self, now: Moment, time: Span, wanted: u32) -> bool
+        ensures { result ≡ is_taking self.now.tenths.tenths now time.0 wanted }
     {
         has_rate(self.tenths.lately(now, wanted / 5 + 1), time, wanted)
     }
@@ -177,12 +177,7 @@ impl Pace {
             return self.known;
         }
         let time = Span(time.0.min(SECOND));
-        if self.takes_at(now, time, FAST) {
-            Price::Free
-        } else if self.takes_at(now, time, SLOW) {
-            Price::Sixtieth
-        } else {
-            Price::Full
-        }
+        let is_fast = self.is_taking(now, time, FAST);
+        pace_price(is_fast, self.is_taking(now, time, SLOW))
     }
 }

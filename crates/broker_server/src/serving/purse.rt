@@ -1,7 +1,7 @@
 //! What a topic's senders wait for those who take slowly.
 
 ghost use Rattle.std.specs.Prelude.{◌≡◌, ◌-◌, false, nat_lt, if◌then◌else◌};
-ghost use Rattle.broker_server.specs.Purses.{counted, full_purse, holding, looked_at, may_wait, settled};
+ghost use Rattle.broker_server.specs.Purses.{Begins, Ends, GoesOn, IsBounded, Pays, after_call, after_time, may_wait, purse_with};
 
 use crate::serving::cost::Cost;
 use crate::serving::moment::Moment;
@@ -11,15 +11,18 @@ use crate::serving::span::Span;
 /// What it holds: a second, in six-hundredths of a nanosecond (our choice).
 pub(crate) const FULL_PURSE: u64 = 600_000_000_000;
 
-/// What has to be back before an empty one pays again (our choice).
+/// What has to be back before a spent one pays again: a tenth of that (our choice).
 const LEAST: u64 = 60_000_000_000;
+
+/// What it lacks at most: who waits looks each tenth of a second, and may then have waited for a tenth more than it held.
+const MOST_LACKING: u64 = FULL_PURSE + LEAST;
 
 /// What a topic's senders may wait for those who take slowly. It pays for the time in which somebody waits there, and
 /// comes back by a six-hundredth of the time that costs nothing.
 #[derive(Clone, Copy)]
 pub(crate) struct Purse {
-    /// What it holds, in six-hundredths of a nanosecond.
-    left: u64,
+    /// What it lacks until it is full: what it paid and isn't back yet, in six-hundredths of a nanosecond.
+    lacks: u64,
     /// Whether it was emptied, and less than a tenth of it is back: it pays nothing then.
     spent: bool,
     /// The moment until which was paid.
@@ -32,17 +35,19 @@ pub(crate) struct Purse {
 
 impl Purse {
     /// A full one, at a topic at which nobody waits.
+    #[tactic(auto, using(crate::proofs::PurseIsBounded::new_is_bounded))]
     pub(crate) fn new() -> Purse
-        ensures { result ≡ record {
-          left = full_purse;
+        ensures full { result ≡ record {
+          lacks = 0;
           spent = false;
           at = record { 0 = 0 };
           waiting = 0;
           price = Price.Free;
         } }
+        ensures bounded { IsBounded result }
     {
         Purse {
-            left: FULL_PURSE,
+            lacks: 0,
             spent: false,
             at: Moment(0),
             waiting: 0,
@@ -68,31 +73,31 @@ impl Purse {
         }
     }
 
-    /// It holds so much from now on.
-    fn hold(&mut self, left: u64)
-        ensures { self.new ≡ holding self.old left }
+    /// It lacks so much from now on.
+    fn lack(&mut self, lacks: u64)
+        ensures { self.new ≡ purse_with self.old lacks }
     {
-        self.left = left;
-        self.spent = left == 0 || (self.spent && left < LEAST);
+        self.spent = lacks >= FULL_PURSE || (self.spent && lacks > FULL_PURSE - LEAST);
+        self.lacks = lacks.min(MOST_LACKING);
     }
 
     /// Pays until this moment, at this price, or comes back.
     fn settle(&mut self, now: Moment, price: Price)
-        ensures { self.new ≡ settled self.old now price }
+        ensures { self.new ≡ after_time self.old now price }
     {
         let time = now.since(self.at);
         self.at = self.at.later(now);
         if self.waiting == 0 || self.spent || price.is_free() {
-            self.hold(self.left.saturating_add(time.0).min(FULL_PURSE));
+            self.lack(self.lacks.saturating_sub(time.0));
         } else {
-            self.hold(self.left.saturating_sub(price.cost(time).0));
+            self.lack(self.lacks.saturating_add(price.cost(time).0));
         }
     }
 
     /// Somebody finds no room at this moment. Whether those that lack it, of whom the dearest has this price, may be
     /// waited for: else each of those that costs something is to be passed over.
     fn look(&mut self, now: Moment, price: Price) -> bool
-        ensures after { self.new ≡ looked_at self.old now price }
+        ensures after { self.new ≡ after_call self.old (GoesOn now price) }
         ensures may { result ≡ may_wait self.new }
     {
         self.settle(now, price);
@@ -102,8 +107,7 @@ impl Purse {
 
     /// One more waits; whether those that lack room may be waited for.
     pub(crate) fn begins(&mut self, now: Moment, price: Price) -> bool
-        ensures after { let purse = looked_at self.old now price in
-            self.new ≡ record purse { waiting = counted self.old.waiting 1 } }
+        ensures after { self.new ≡ after_call self.old (Begins now price) }
         ensures may { result ≡ may_wait self.new }
     {
         let may_wait = self.look(now, price);
@@ -113,7 +117,7 @@ impl Purse {
 
     /// One that waits finds no room again; whether those that lack it may be waited for.
     pub(crate) fn goes_on(&mut self, now: Moment, price: Price) -> bool
-        ensures after { self.new ≡ looked_at self.old now price }
+        ensures after { self.new ≡ after_call self.old (GoesOn now price) }
         ensures may { result ≡ may_wait self.new }
     {
         self.look(now, price)
@@ -121,8 +125,7 @@ impl Purse {
 
     /// One waits no longer.
     pub(crate) fn ends(&mut self, now: Moment)
-        ensures { let purse = settled self.old now self.old.price in
-            self.new ≡ record purse { waiting = self.old.waiting - 1 } }
+        ensures { self.new ≡ after_call self.old (Ends now) }
     {
         self.settle(now, self.price);
         self.waiting = self.waiting.saturating_sub(1);
@@ -130,10 +133,9 @@ impl Purse {
 
     /// One that was waited for ends while it is behind, and pays what it owes.
     pub(crate) fn pays(&mut self, now: Moment, owed: Cost)
-        ensures { let purse = settled self.old now self.old.price in
-            self.new ≡ holding purse (purse.left - owed.0) }
+        ensures { self.new ≡ after_call self.old (Pays now owed.0) }
     {
         self.settle(now, self.price);
-        self.hold(self.left.saturating_sub(owed.0));
+        self.lack(self.lacks.saturating_add(owed.0));
     }
 }

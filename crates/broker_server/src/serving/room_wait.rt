@@ -1,5 +1,8 @@
 //! A connection's wait for room.
 
+ghost use Rattle.std.specs.Prelude.{◌≡◌, ◌≤◌, ◌⊎◌, None, Some, true, false, length, IfSome};
+ghost use Rattle.broker_server.specs.Purses.{is_free};
+
 use crate::serving::hub::Hub;
 use crate::serving::look::Look;
 use crate::serving::moment::Moment;
@@ -58,7 +61,10 @@ impl RoomWait {
         alloc: Global,
         hub: &Hub<R, W, T>,
         topic: Topic,
-    ) -> u64 {
+    ) -> u64
+        ensures counted { (self.new.counted_at ≡ self.old.counted_at) ⊎ (self.new.counted_at ≡ None)
+            ⊎ (self.new.counted_at ≡ Some topic) }
+    {
         let mut lacking = Vec::new(alloc);
         let _ = hub.running.broker.lacking(rt, topic, &mut lacking);
         if lacking.is_empty() && self.counted_at.is_none() {
@@ -84,14 +90,18 @@ impl RoomWait {
         rt: &R,
         hub: &Hub<R, W, T>,
         topic: Topic,
-    ) -> bool {
-        match self.counted_at {
-            Some(other) if other.0 == topic.0 => true,
-            _ => {
-                self.end(rt, hub);
-                false
-            }
+    ) -> bool
+        ensures stays { result ≡ true
+            → (self.new ≡ self.old) × (self.old.counted_at ≡ Some topic) }
+        ensures ends { result ≡ false → self.new ≡ record self.old { counted_at = None } }
+    {
+        if let Some(other) = self.counted_at
+            && other.0 == topic.0
+        {
+            return true;
         }
+        self.end(rt, hub);
+        false
     }
 }
 
@@ -124,7 +134,9 @@ fn pass_over<R: Wait, W: Side, T: Side>(
     topic: Topic,
     now: Moment,
     subs: &[u64],
-) -> u64 {
+) -> u64
+    ensures { result ≤ length subs.now }
+{
     let mut count = 0u64;
     for sub in subs {
         if hub.running.broker.pass_over(rt, topic, *sub) {
@@ -144,7 +156,11 @@ fn news_of<R: Wait>(
     now: Moment,
     look: &Look,
     passed_over: u64,
-) -> Option<WaitNews> {
+) -> Option<WaitNews>
+    ensures whom { IfSome result (λ news. (news.topic ≡ topic)
+        × (news.connection ≡ look.now.standing.connection)) }
+    ensures free { is_free look.now.standing.price ≡ true → passed_over ≡ 0 → result ≡ None }
+{
     if look.standing.price().is_free() && passed_over == 0 {
         return None;
     }

@@ -1,7 +1,8 @@
 //! What the log says of those who wait at a topic.
 
 ghost use Rattle.std.specs.Prelude.{◌≡◌, None, Some, if◌then◌else◌};
-ghost use Rattle.broker_server.specs.Purses.{counted, is_due};
+ghost use Rattle.broker_server.specs.Purses.{is_line_due};
+ghost use Rattle.broker_server.specs.Counts.{plus};
 
 use crate::serving::moment::Moment;
 
@@ -28,16 +29,16 @@ impl Said {
 
     /// So many more were passed over.
     pub(crate) fn passes(&mut self, count: u64)
-        ensures { self.new ≡ record self.old { passed = counted self.old.passed count } }
+        ensures { self.new ≡ record self.old { passed = plus self.old.passed count } }
     {
         self.passed = self.passed.saturating_add(count);
     }
 
     /// How many were passed over since the line before, where one is to come now: then it came.
     pub(crate) fn due(&mut self, now: Moment) -> Option<u64>
-        ensures says { result ≡ (if is_due now self.old.last then Some self.old.passed else None) }
+        ensures says { result ≡ (if is_line_due self.old.last now then Some self.old.passed else None) }
         ensures after { self.new ≡
-            (if is_due now self.old.last then record { last = Some now; passed = 0 } else self.old) }
+            (if is_line_due self.old.last now then record { last = Some now; passed = 0 } else self.old) }
     {
         if let Some(last) = self.last
             && now.since(last).0 < SECOND

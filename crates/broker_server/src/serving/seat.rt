@@ -1,6 +1,7 @@
 //! A subscription's place at a topic.
 
 ghost use Rattle.std.specs.Prelude.{◌≡◌, ◌==◌, ◌&&◌};
+ghost use Rattle.std.specs.Arc.{arc_value};
 
 use crate::serving::bell::Bell;
 use crate::serving::intake::Intake;
@@ -76,7 +77,9 @@ impl Seat {
     }
 
     /// At what pace the system takes what is written to its connection.
-    pub(crate) fn intake(&self) -> &Intake {
+    pub(crate) fn intake(&self) -> &Intake
+        ensures { result.now ≡ (arc_value self.now.bell).intake }
+    {
         self.bell.intake()
     }
 

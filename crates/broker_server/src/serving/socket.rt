@@ -45,8 +45,13 @@ pub(crate) struct Socket {
 impl Socket {
     /// Nothing is known of it.
     pub(crate) fn new(stream: TcpStream) -> Socket
-        ensures { result ≡ record { stream = stream; readable = true; hung_up = false; blocked = false;
-            gone = false } }
+        ensures { result ≡ record {
+          stream = stream;
+          readable = true;
+          hung_up = false;
+          blocked = false;
+          gone = false;
+        } }
     {
         Socket {
             stream,

@@ -1,15 +1,16 @@
 //! What the system took of a connection's octets, by tenths of a second.
 
-ghost use Rattle.std.specs.Prelude.{◌≡◌};
-ghost use Rattle.broker_server.specs.Purses.{lately_taken, no_tenths, tenths_after};
+ghost use Rattle.std.specs.Prelude.{◌≡◌, ℕ, ◌+◌, ◌/◌, ◌<◌, ◌≤◌};
+ghost use Rattle.broker_server.specs.Counts.{plus};
+ghost use Rattle.broker_server.specs.Purses.{counted_octets, lately_taken, no_tenths, tenth, tenth_octets, tenths_after};
 
 use crate::serving::moment::Moment;
 
 /// A tenth of a second, in nanoseconds.
 pub(crate) const TENTH: u64 = 100_000_000;
 
-/// So many tenths, the one that runs among them, have the last second in them.
-const TENTHS: usize = 11;
+/// The last second lies in so many tenths, with the one that has begun.
+const TENTHS: u64 = 11;
 
 /// What was taken in one tenth of a second.
 #[derive(Clone, Copy)]
@@ -37,31 +38,52 @@ impl Tenths {
         Tenths { tenths: [none; 11] }
     }
 
-    /// So many octets were taken at this moment.
-    pub(crate) fn add(&mut self, now: Moment, octets: u64)
-        ensures { self.new.tenths ≡ tenths_after self.old.tenths now octets }
+    /// How many octets were taken in the tenth of this number, where that is one of the last.
+    fn octets_in(&self, number: u64) -> u64
+        ensures { result ≡ tenth_octets self.now.tenths number }
     {
-        let number = now.0 / TENTH;
-        let at = (number % TENTHS as u64) as usize;
-        let before = self.tenths[at];
-        let octets = if before.number == number {
-            before.octets.saturating_add(octets)
+        let tenth = self.tenths[(number % TENTHS) as usize];
+        if tenth.number == number {
+            tenth.octets
         } else {
-            octets
-        };
-        self.tenths[at] = Tenth { number, octets };
+            0
+        }
     }
 
-    /// How many were taken in the last second, of each tenth at most so many.
-    pub(crate) fn lately(&self, now: Moment, most: u32) -> u64
-        ensures { result ≡ lately_taken now most self.now.tenths }
+    /// More octets were taken at this moment.
+    #[tactic(auto, using(crate::proofs::PurseLemmas::octets_of_this, crate::proofs::PurseLemmas::octets_of_another))]
+    pub(crate) fn add(&mut self, now: Moment, octets: u64)
+        ensures after { self.new.tenths ≡ tenths_after self.old.tenths now octets }
+        ensures this { let number = now.0 / tenth in
+            tenth_octets self.new.tenths number ≡ plus (tenth_octets self.old.tenths number) octets }
+        // of the ten tenths before, nothing is forgotten
+        ensures others { (n : ℕ) → n < now.0 / tenth → now.0 / tenth < n + 11
+            → tenth_octets self.new.tenths n ≡ tenth_octets self.old.tenths n }
     {
         let number = now.0 / TENTH;
+        let octets = self.octets_in(number).saturating_add(octets);
+        self.tenths[(number % TENTHS) as usize] = Tenth { number, octets };
+    }
+
+    /// How many octets of the tenth that is so many tenths back count: at most so many.
+    fn counted(&self, now: Moment, most: u32, back: u64) -> u64
+        ensures counted { result ≡ counted_octets self.now.tenths now most back }
+        ensures most { result ≤ most }
+    {
+        match (now.0 / TENTH).checked_sub(back) {
+            Some(number) => self.octets_in(number).min(u64::from(most)),
+            None => 0,
+        }
+    }
+
+    /// How many octets were taken in the last eleven tenths, of each at most so many.
+    #[tactic(auto, using(crate::proofs::PurseLemmas::sum_by_range_more))]
+    pub(crate) fn lately(&self, now: Moment, most: u32) -> u64
+        ensures { result ≡ lately_taken self.now.tenths now most }
+    {
         let mut taken = 0u64;
-        for tenth in &self.tenths {
-            if number.saturating_sub(tenth.number) < TENTHS as u64 {
-                taken += tenth.octets.min(u64::from(most));
-            }
+        for back in 0..TENTHS {
+            taken += self.counted(now, most, back);
         }
         taken
     }

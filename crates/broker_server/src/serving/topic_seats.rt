@@ -1,11 +1,15 @@
 //! Who is told of a topic.
 
-ghost use Rattle.std.specs.Prelude.{◌≤◌, IfSome};
+ghost use Rattle.std.specs.Prelude.{◌≡◌, ◌≤◌, ◌+◌, true, false, length, IfOk, IfSome, IsNone};
+ghost use Rattle.std.specs.Arc.{arc_value};
+ghost use Rattle.broker_server.specs.Purses.{Begins, GoesOn, after_call, is_free, may_wait};
+ghost use Rattle.broker_server.specs.RoomLooks.{is_seat};
 
 use crate::serving::account::Account;
 use crate::serving::intake::Intake;
 use crate::serving::look::Look;
 use crate::serving::moment::Moment;
+use crate::serving::price::Price;
 use crate::serving::purse::Purse;
 use crate::serving::said::Said;
 use crate::serving::seat::Seat;
@@ -43,7 +47,9 @@ impl TopicSeats {
     }
 
     /// Who waits for room.
-    pub(crate) fn waiters(&self) -> &Waiters {
+    pub(crate) fn waiters(&self) -> &Waiters
+        ensures { result.now ≡ self.now.waiters }
+    {
         &self.waiters
     }
 
@@ -67,16 +73,7 @@ impl TopicSeats {
     /// Takes a seat out; its account, if it was there. Room for more than twice as many as are left is given back where
     /// three quarters of the room are free, so that a topic to which many had subscribed keeps nothing for them.
     pub(crate) fn remove<R: Wait>(&self, rt: &R, seat: &Seat) -> Option<Account> {
-        let mut seats = self.seats.lock(rt);
-        let seats = &mut *seats;
-        let at = seats.iter().position(|entry| entry.seat.is(seat))?;
-        if at >= seats.len() {
-            return None;
-        }
-        let entry = seats.swap_remove(at);
-        if seats.capacity() / 4 > seats.len() {
-            seats.shrink_to(seats.len().saturating_mul(2));
-        }
+        let entry = take_out(&mut self.seats.lock(rt), seat)?;
         Some(entry.account)
     }
 
@@ -120,18 +117,15 @@ impl TopicSeats {
         now: Moment,
         lacking: &[u64],
         is_counted: bool,
-    ) -> Result<Look, AllocError> {
+    ) -> Result<Look, AllocError>
+        ensures { IfOk result (λ look. is_free look.standing.price ≡ true → look.may_wait ≡ true) }
+    {
         let mut look = Look::new(alloc, lacking.len())?;
         let mut purse = self.purse.lock(rt);
         let purse = &mut *purse;
         let unpaid = purse.unpaid(now);
-        self.find(rt, now, lacking, unpaid, !purse.is_awaited(), &mut look);
-        let price = look.standing.price();
-        look.may_wait = if is_counted {
-            purse.goes_on(now, price)
-        } else {
-            purse.begins(now, price)
-        };
+        self.find(rt, now, lacking, unpaid, !purse.is_awaited(), &mut look)?;
+        look.may_wait = may_be_waited_for(purse, now, look.standing.price(), is_counted);
         Ok(look)
     }
 
@@ -144,12 +138,13 @@ impl TopicSeats {
         unpaid: Span,
         is_first: bool,
         look: &mut Look,
-    ) {
+    ) -> Result<(), AllocError> {
         for entry in self.seats.lock(rt).iter_mut() {
             if lacking.contains(&entry.seat.sub()) {
-                entry.is_found(rt, now, unpaid, is_first, look);
+                entry.is_found(rt, now, unpaid, is_first, look)?;
             }
         }
+        Ok(())
     }
 
     /// The subscription of this number was passed over at this moment: its seat says so, and its thread is told.
@@ -182,6 +177,39 @@ impl TopicSeats {
         let mut said = self.said.lock(rt);
         said.passes(passed_over);
         said.due(now)
+    }
+}
+
+/// Takes the entry of a seat out of these, if it is there. Room for more than twice as many as are left is given back
+/// where three quarters of the room are free.
+fn take_out(seats: &mut Vec<SeatEntry>, seat: &Seat) -> Option<SeatEntry>
+    ensures one { IfSome result (λ entry. is_seat seat.now (arc_value entry.seat) ≡ true) }
+    ensures fewer { IfSome result (λ entry. length seats.old.items ≡ length seats.new.items + 1) }
+    ensures none { IsNone result → seats.new ≡ seats.old }
+{
+    let at = seats.iter().position(|entry| entry.seat.is(seat))?;
+    if at >= seats.len() {
+        return None;
+    }
+    let entry = seats.swap_remove(at);
+    if seats.capacity() / 4 > seats.len() {
+        seats.shrink_to(seats.len().saturating_mul(2));
+    }
+    Some(entry)
+}
+
+/// Tells this purse that somebody finds no room at this moment, who was counted there or is from now on, where the
+/// dearest of those that lack it has this price. Whether these may be waited for.
+fn may_be_waited_for(purse: &mut Purse, now: Moment, price: Price, is_counted: bool) -> bool
+    ensures may { result ≡ may_wait purse.new }
+    ensures price { purse.new.price ≡ price }
+    ensures on { is_counted ≡ true → purse.new ≡ after_call purse.old (GoesOn now price) }
+    ensures begins { is_counted ≡ false → purse.new ≡ after_call purse.old (Begins now price) }
+{
+    if is_counted {
+        purse.goes_on(now, price)
+    } else {
+        purse.begins(now, price)
     }
 }
 

@@ -1,5 +1,8 @@
 //! Who waits for room at a topic.
 
+ghost use Rattle.std.specs.Prelude.{◌≡◌, ◌++◌, ◌∷◌, ◌==◌, [], true, false, OnOk, OnErr};
+ghost use Rattle.std.specs.List.{list_any};
+
 use crate::serving::bell::Bell;
 use std::alloc::{AllocError, Global};
 use std::mem;
@@ -20,7 +23,9 @@ pub(crate) struct Waiters {
 
 impl Waiters {
     /// Nobody waits.
-    pub(crate) fn new(alloc: Global) -> Waiters {
+    pub(crate) fn new(alloc: Global) -> Waiters
+        ensures { result.alloc ≡ alloc }
+    {
         Waiters {
             alloc,
             awaited: AtomicBool::new(false),
@@ -38,10 +43,7 @@ impl Waiters {
     ) -> Result<(), AllocError> {
         let bell = bell.clone()?;
         let mut bells = self.bells.lock(rt);
-        let bells = &mut *bells;
-        if !bells.iter().any(|entry| entry.0 == connection) {
-            bells.push((connection, bell))?;
-        }
+        put_bell(&mut bells, connection, bell)?;
         self.awaited.store(true, Ordering::SeqCst);
         Ok(())
     }
@@ -55,4 +57,30 @@ impl Waiters {
             }
         }
     }
+}
+
+/// Whether this connection's is one of these bells.
+fn has_bell(bells: &[(u64, Arc<Bell>)], connection: u64) -> bool
+    ensures { result ≡ list_any (λ entry. entry.0 == connection) bells.now }
+{
+    bells.iter().any(|entry| entry.0 == connection)
+}
+
+/// Puts this connection's bell behind the others, unless it is one of them.
+fn put_bell(
+    bells: &mut Vec<(u64, Arc<Bell>)>,
+    connection: u64,
+    bell: Arc<Bell>,
+) -> Result<(), AllocError>
+    ensures there { list_any (λ entry. entry.0 == connection) bells.old.items ≡ true
+        → bells.new ≡ bells.old }
+    ensures put { list_any (λ entry. entry.0 == connection) bells.old.items ≡ false
+        → OnOk result (bells.new.items ≡ bells.old.items ++ (connection, bell) ∷ []) }
+    ensures err { OnErr result (bells.new.items ≡ bells.old.items) }
+{
+    if has_bell(bells.as_slice(), connection) {
+        return Ok(());
+    }
+    bells.push((connection, bell))?;
+    Ok(())
 }

@@ -13,6 +13,7 @@ mod jobs;
 mod lost;
 mod memory;
 mod places;
+mod room;
 mod senders;
 mod spans;
 mod topics;

@@ -2,7 +2,7 @@ use Rattle.std.proofs.Common.{◌≡◌, ◌≤◌, ◌+◌, ◌-◌, ◌++◌, 
 use Rattle.std.proofs.lemmas.List.{length_push}
 use Rattle.broker_locks.specs.Inner.Done.{RowsDone}
 use Rattle.broker_locks.specs.Rows.{PlaceRow, Cancelled, is_uncancelled, uncancelled_after}
-use Rattle.broker_locks.proofs.Room.{uncancelled_cancelled}
+use Rattle.broker_locks.proofs.CancelRoom.{uncancelled_cancelled}
 use Rattle.broker_locks.proofs.done_rows.DoneRows.cancel.Goals as goal
 
 pub invariant_of-self : goal.invariant_of-self

@@ -3,7 +3,7 @@ use Rattle.std.proofs.lemmas.List.{length_push}
 use Rattle.mcast_txn.specs.Part.{data_of}
 use Rattle.broker_locks.specs.Inner.Done.{RowsDone}
 use Rattle.broker_locks.specs.Rows.{Entered, PlaceRow, uncancelled_after}
-use Rattle.broker_locks.proofs.Room.{uncancelled_entered}
+use Rattle.broker_locks.proofs.CancelRoom.{uncancelled_entered}
 use Rattle.broker_locks.proofs.done_rows.DoneRows.enter.Goals as goal
 
 pub invariant_of-self : goal.invariant_of-self

@@ -1,5 +1,5 @@
 use Rattle.std.proofs.Common.{◌≡◌, ◌+◌, length, ap, arith, rules}
-use Rattle.broker_locks.proofs.Room.{uncancelled_few}
+use Rattle.broker_locks.proofs.CancelRoom.{uncancelled_few}
 use Rattle.broker_locks.proofs.done_rows.DoneRows.reserve.Goals as goal
 
 pub returns-clause-room : goal.returns-clause-room

@@ -1,0 +1,266 @@
+-- Worked examples of what a topic's senders wait for those who take slowly.
+use Rattle.std.proofs.Common.{◌≡◌, ℕ, ◌*◌, true, false, List, [], ◌∷◌, Some, None, refl, arith}
+use Rattle.broker_server.specs.declared.serving.moment.Moment.{Moment}
+use Rattle.broker_server.specs.declared.serving.price.Price.{Price}
+use Rattle.broker_server.specs.declared.serving.price.Price.TheVariants.{Free, Sixtieth, Full}
+use Rattle.broker_server.specs.declared.serving.tenths.Tenth.{Tenth}
+use Rattle.broker_server.specs.declared.serving.pace.Pace.{Pace}
+use Rattle.broker_server.specs.declared.serving.purse.Purse.{Purse}
+use Rattle.broker_server.specs.declared.serving.account.Account.{Account}
+use Rattle.broker_server.specs.Purses.{tenth, later_moment, time_since, dearer, no_tenths, tenth_octets, tenths_after, lately_taken, has_rate, price_at, known_price, after_octets, after_falling_behind, after_catching_up, after_keeping_up, after_giving_up, full_purse, most_lacking, purse_with, after_time, may_wait, PurseCall, Begins, GoesOn, Ends, Pays, after_call, after_calls, AreInTime, waited_cost, spared_after, spared_at, price_at_look, account_at_look, debt, is_line_due}
+
+-- this many tenths of a second from the clock's beginning
+abbrev at : ℕ → Moment
+at tenths = record { 0 = tenths * tenth }
+
+-- ---- times
+
+pub a_later_moment : later_moment (at 3) (at 5) ≡ at 5
+a_later_moment = refl
+
+-- a moment that is earlier than the beginning has lasted for nothing
+pub no_time_back : time_since (Some (at 5)) (at 3) ≡ 0
+no_time_back = refl
+
+-- ---- prices
+
+pub the_dearer : dearer Sixtieth Full ≡ Full
+the_dearer = refl
+
+pub dearer_than_nothing : dearer Sixtieth Free ≡ Sixtieth
+dearer_than_nothing = refl
+
+-- ---- octets by tenths
+
+-- 100 octets in tenth 23, and 50 more there
+abbrev some_tenths : List Tenth
+some_tenths = tenths_after (tenths_after no_tenths (record { 0 = 2350000000 }) 100) (record { 0 = 2380000000 }) 50
+
+pub counted_together : tenth_octets some_tenths 23 ≡ 150
+counted_together = refl
+
+-- tenth 34 takes its place
+pub forgotten : tenth_octets (tenths_after some_tenths (at 34) 7) 23 ≡ 0
+forgotten = refl
+
+-- ten tenths later they count still, at most 120 of them, and eleven tenths later no more
+pub counts_a_second : lately_taken some_tenths (at 33) 120 ≡ 120
+counts_a_second = refl
+
+pub counts_no_longer : lately_taken some_tenths (at 34) 120 ≡ 0
+counts_no_longer = refl
+
+-- ---- paces
+
+-- 3,000 octets in two seconds are 1,500 a second, and not 1,501
+pub a_rate : has_rate 3000 2000000000 1500 ≡ true
+a_rate = refl
+
+pub no_more : has_rate 3000 2000000000 1501 ≡ false
+no_more = refl
+
+-- a connection of which nothing is known
+abbrev newcomer : Pace
+newcomer = record { since = None; taken = 0; tenths = record { tenths = no_tenths }; known = Full; given_up = false }
+
+-- one that is behind since the tenth second, and had so many octets taken in each of these five tenths
+abbrev taking : ℕ → Pace
+taking octets = after_octets (after_octets (after_octets (after_octets (after_octets (after_falling_behind newcomer (at 100)) (at 100) octets) (at 101) octets) (at 102) octets) (at 103) octets) (at 104) octets
+
+-- it costs all in its first tenth, whatever it takes
+pub new_costs_all : price_at (after_octets (after_falling_behind newcomer (at 100)) (at 100) 1000000) (record { 0 = 10099999999 }) ≡ Full
+new_costs_all = refl
+
+-- 10 MB a second cost nothing, 100 KB a second a sixtieth, 10 KB a second all
+pub fast_is_free : price_at (taking 1000000) (at 105) ≡ Free
+fast_is_free = refl
+
+pub slow_costs_a_sixtieth : price_at (taking 10000) (at 105) ≡ Sixtieth
+slow_costs_a_sixtieth = refl
+
+pub slower_costs_all : price_at (taking 1000) (at 105) ≡ Full
+slower_costs_all = refl
+
+-- 4 MiB that the system's buffers took at once, and nothing since
+pub buffers_are_no_pace : price_at (after_octets (after_falling_behind newcomer (at 100)) (at 100) 4194304) (at 105) ≡ Full
+buffers_are_no_pace = refl
+
+-- one that isn't behind costs nothing
+pub not_behind : price_at newcomer (at 105) ≡ Free
+not_behind = refl
+
+-- what was taken then doesn't count
+pub not_counted : after_octets newcomer (at 99) 4194304 ≡ newcomer
+not_counted = refl
+
+-- one that was behind for half a second has its price in its next first tenth
+pub price_is_known : price_at (after_falling_behind (after_catching_up (taking 10000) (at 105)) (at 200)) (at 200) ≡ Sixtieth
+price_is_known = refl
+
+-- one that was behind for less than a tenth costs nothing then, and so does one that kept up
+pub soon_caught_up : price_at (after_falling_behind (after_catching_up (after_falling_behind newcomer (at 100)) (record { 0 = 10099999999 })) (at 200)) (at 200) ≡ Free
+soon_caught_up = refl
+
+pub kept_up : price_at (after_falling_behind (after_keeping_up newcomer) (at 200)) (at 200) ≡ Free
+kept_up = refl
+
+-- but one that is behind doesn't keep up
+pub too_late : after_keeping_up (taking 10000) ≡ taking 10000
+too_late = refl
+
+-- nor is it known before it has caught up
+pub falls_once : after_falling_behind (taking 10000) (at 200) ≡ taking 10000
+falls_once = refl
+
+-- what it took while it was behind, over all of that time: 9 MB in one second, and in two
+pub known_fast : known_price 9000000 1000000000 ≡ Free
+known_fast = refl
+
+pub known_slow : known_price 9000000 2000000000 ≡ Sixtieth
+known_slow = refl
+
+-- one that is passed over in its first tenth isn't given up, later it is, and when it caught up no longer
+pub not_yet : (after_giving_up (after_falling_behind newcomer (at 100)) (record { 0 = 10099999999 })).given_up ≡ false
+not_yet = refl
+
+pub given_up : (after_giving_up (after_falling_behind newcomer (at 100)) (at 101)).given_up ≡ true
+given_up = refl
+
+pub no_longer : (after_catching_up (after_giving_up (after_falling_behind newcomer (at 100)) (at 101)) (at 102)).given_up ≡ false
+no_longer = refl
+
+-- ---- purses
+
+-- a full one where somebody waits since the tenth second, at this price
+abbrev waiting_at : Price → Purse
+waiting_at price = record { lacks = 0; spent = false; at = at 100; waiting = 1; price = price }
+
+-- one that is empty, and where nobody waits since then
+abbrev spent_purse : Purse
+spent_purse = record { lacks = full_purse; spent = true; at = at 100; waiting = 0; price = Full }
+
+-- it pays for a second less a nanosecond at the full price, and is empty after a second
+pub pays_in_full : may_wait (after_call (waiting_at Full) (GoesOn (record { 0 = 10999999999 }) Full)) ≡ true
+pays_in_full = refl
+
+pub is_empty : after_call (waiting_at Full) (GoesOn (at 110) Full) ≡ record (waiting_at Full) { lacks = full_purse; spent = true; at = at 110 }
+is_empty = refl
+
+pub passes_over : may_wait (after_call (waiting_at Full) (GoesOn (at 110) Full)) ≡ false
+passes_over = refl
+
+-- it pays for a minute at a sixtieth
+pub pays_a_minute : (after_time (waiting_at Sixtieth) (at 699) Sixtieth).lacks ≡ 599000000000
+pays_a_minute = refl
+
+pub empty_after_a_minute : (after_time (waiting_at Sixtieth) (at 700) Sixtieth).spent ≡ true
+empty_after_a_minute = refl
+
+-- a time that costs nothing costs nothing, and a full purse isn't more than full
+pub free_for_ever : after_time (waiting_at Free) (at 100000) Free ≡ record (waiting_at Free) { at = at 100000 }
+free_for_ever = refl
+
+-- who waited for two seconds before anybody looked took what it held, and a tenth that it did not
+pub a_tenth_more : (after_time (waiting_at Full) (at 120) Full).lacks ≡ most_lacking
+a_tenth_more = refl
+
+-- an empty one is full after ten minutes, and pays nothing until one minute has passed
+pub comes_back : (after_time spent_purse (at 6100) Free).lacks ≡ 0
+comes_back = refl
+
+pub not_in_59_seconds : may_wait (after_call spent_purse (Begins (at 699) Full)) ≡ false
+not_in_59_seconds = refl
+
+pub after_a_minute : may_wait (after_call spent_purse (Begins (at 700) Full)) ≡ true
+after_a_minute = refl
+
+-- who costs nothing is waited for still, and what is empty comes back then, too
+pub free_at_an_empty_one : may_wait (after_call spent_purse (Begins (at 101) Free)) ≡ true
+free_at_an_empty_one = refl
+
+pub empty_and_awaited : (after_time (record spent_purse { waiting = 1 }) (at 110) Free).lacks ≡ 599000000000
+empty_and_awaited = refl
+
+-- one that has a tenth back isn't spent, and one that paid half of that isn't either
+pub has_a_tenth : (purse_with spent_purse 540000000000).spent ≡ false
+has_a_tenth = refl
+
+pub pays_on : (purse_with (purse_with spent_purse 540000000000) 570000000000).spent ≡ false
+pays_on = refl
+
+-- one that ends behind, and was spared half a second, pays that
+pub pays_what_was_spared : (after_call (waiting_at Free) (Pays (at 101) 300000000000)).lacks ≡ 300000000000
+pays_what_was_spared = refl
+
+-- one waits for a tenth of a second at the full price, for another at a sixtieth, and then for nothing
+abbrev some_calls : List PurseCall
+some_calls = GoesOn (at 101) Full ∷ GoesOn (at 102) Sixtieth ∷ GoesOn (at 103) Free ∷ Ends (at 104) ∷ []
+
+pub cost_of_these : waited_cost (waiting_at Full) some_calls ≡ 61000000000
+cost_of_these = refl
+
+pub nobody_waits : (after_calls (waiting_at Full) some_calls).waiting ≡ 0
+nobody_waits = refl
+
+pub came_in_time : AreInTime (waiting_at Full) some_calls
+came_in_time = (λ some. omega arith, (λ some. omega arith, (λ some. omega arith, (λ some. omega arith, tt))))
+
+-- ---- what is spared
+
+-- half a second that cost nothing, and a minute that cost a sixtieth of it: a second, and no more
+pub spared_half : spared_after 0 Free 500000000 ≡ 300000000000
+spared_half = refl
+
+pub spared_a_second : spared_after 300000000000 Sixtieth 60000000000 ≡ full_purse
+spared_a_second = refl
+
+-- the full price spares nothing
+pub spared_nothing : spared_after 7 Full 500000000 ≡ 7
+spared_nothing = refl
+
+abbrev new_account : Account
+new_account = record { behind = None; spared = record { 0 = 0 }; late = None }
+
+-- a fast one was waited for for half a second; it owes that where it ends, with a quarter of a second more
+abbrev looked : Account
+looked = account_at_look new_account (taking 1000000) (at 105) 500000000 false
+
+pub owes_what_it_was_spared : debt looked (taking 1000000) (at 105) 250000000 ≡ 450000000000
+owes_what_it_was_spared = refl
+
+-- one that has caught up owes nothing, nor does one that wasn't waited for
+pub caught_up_owes_nothing : debt looked (after_catching_up (taking 1000000) (at 105)) (at 105) 250000000 ≡ 0
+caught_up_owes_nothing = refl
+
+pub not_waited_for : debt new_account (taking 1000000) (at 105) 250000000 ≡ 0
+not_waited_for = refl
+
+-- what it was waited for before it fell behind isn't spared
+pub not_before : spared_at new_account (taking 1000000) (at 105) 900000000 ≡ 300000000000
+not_before = refl
+
+-- ---- threads that are late
+
+-- it isn't behind: that costs nothing for a second since the first look, then all, and nothing again once it has taken
+abbrev late_thread : Account
+late_thread = account_at_look new_account newcomer (at 100) 0 false
+
+pub late_for_nothing : price_at_look late_thread newcomer (record { 0 = 10999999999 }) false ≡ Free
+late_for_nothing = refl
+
+pub too_late_costs_all : price_at_look late_thread newcomer (at 110) false ≡ Full
+too_late_costs_all = refl
+
+pub has_taken : price_at_look late_thread newcomer (at 110) true ≡ Free
+has_taken = refl
+
+-- ---- the log's line
+
+pub first_line : is_line_due None (at 0) ≡ true
+first_line = refl
+
+pub within_a_second : is_line_due (Some (at 100)) (record { 0 = 10999999999 }) ≡ false
+within_a_second = refl
+
+pub after_a_second : is_line_due (Some (at 100)) (at 110) ≡ true
+after_a_second = refl

@@ -1,0 +1,714 @@
+//! Room that is reserved at a broker's topics, and who is waited for there: rows of calls, each with its answer.
+
+ghost use Rattle.std.specs.Prelude.{◌≡◌, ◌≤◌};
+
+use super::flights::{Quiet, begun};
+use super::jobs::{Job, Opening, with_broker};
+use broker_locks::{Broker, NoRoom, Reserved, Side, Subscribed, Worker};
+use mcast_group::{SubState, Turned};
+use mcast_txn::{NoMemory, Sender, Stamp, Topic};
+use sender_gate::Gate;
+use std::alloc::Global;
+use std::mem;
+use std::sync::Wait;
+use std::sync::ledger::Blank;
+use std::test::Fail;
+
+/// A call. A subscription is named by its place among those that began, from 0; all are at topic 0.
+#[derive(Clone, Copy)]
+enum Call<'a> {
+    /// A subscription begins that isn't waited for.
+    Subscribe,
+    /// A subscription begins that is waited for.
+    SubscribeWaitedFor,
+    /// Room is reserved at these topics, with the left hand.
+    Reserve(&'a [u32]),
+    /// The same with the right one.
+    ReserveMore(&'a [u32]),
+    /// What the left hand has is given back.
+    GiveBack,
+    /// What the right one has is given back.
+    GiveMoreBack,
+    /// A transaction to these topics is committed with what the left hand has.
+    Enter(&'a [u32]),
+    /// The same without a reservation.
+    Commit(&'a [u32]),
+    /// Topic 0 is turned.
+    Turn,
+    /// The subscription takes its next item.
+    Take(usize),
+    /// It tells how many it took.
+    Tell(usize),
+    WaitFor(usize),
+    PassOver(usize),
+    Lacking,
+    State(usize),
+    Unsubscribe(usize),
+}
+
+/// What a call answers.
+#[derive(Clone, Copy, PartialEq, Eq)]
+enum Answer {
+    /// Nothing, or it wasn't refused.
+    Done,
+    /// Whether it is so.
+    Is(bool),
+    Refused(NoRoom),
+    /// The first numbers of a list.
+    Numbers([Option<u64>; 3]),
+    Turned(u64, bool),
+    State(Option<SubState>),
+    /// It was refused as it must not be.
+    Failed,
+}
+
+/// What was done: the subscriptions that began, the room that each hand has, and the number of the next sender.
+struct Done {
+    subs: Vec<Subscribed>,
+    left: Option<Reserved>,
+    right: Option<Reserved>,
+    sender: u64,
+}
+
+/// What a call answers that was made, or was refused.
+fn done_if(is: bool) -> Answer {
+    if is { Answer::Done } else { Answer::Failed }
+}
+
+/// These topics.
+fn topics_of(alloc: Global, numbers: &[u32]) -> Option<Vec<Topic>> {
+    let mut topics = Vec::new(alloc);
+    for &number in numbers {
+        topics.push(Topic(number)).ok()?;
+    }
+    Some(topics)
+}
+
+/// Gives back what a hand had.
+fn given_back<R: Wait, W: Side, T: Side>(
+    rt: &R,
+    broker: &Broker<R, W, T>,
+    hand: Option<Reserved>,
+) -> Answer {
+    match hand {
+        Some(reserved) => {
+            broker.release_room(rt, reserved);
+            Answer::Done
+        }
+        None => Answer::Failed,
+    }
+}
+
+/// Reserves room at these topics, and puts it into a hand; what that had is given back.
+fn reserve<R: Wait, W: Side, T: Side>(
+    rt: &R,
+    alloc: Global,
+    broker: &Broker<R, W, T>,
+    hand: &mut Option<Reserved>,
+    numbers: &[u32],
+) -> Answer {
+    let Some(topics) = topics_of(alloc, numbers) else {
+        return Answer::Failed;
+    };
+    match broker.reserve(rt, topics.as_slice()) {
+        Ok(reserved) => {
+            let is_kept = reserved.topics() == topics.as_slice();
+            given_back(rt, broker, mem::replace(hand, Some(reserved)));
+            done_if(is_kept)
+        }
+        Err(fault) => Answer::Refused(fault),
+    }
+}
+
+/// Commits a transaction of this sender to these topics, by this worker, with what is reserved.
+fn enter_by<R: Wait, W: Side, T: Side>(
+    rt: &R,
+    alloc: Global,
+    broker: &Broker<R, W, T>,
+    worker: &mut Worker<W>,
+    sender: u64,
+    numbers: &[u32],
+    reserved: Reserved,
+) -> Answer {
+    let Some(flying) = begun(alloc, Gate::new(Sender(sender)), numbers) else {
+        broker.release_room(rt, reserved);
+        return Answer::Failed;
+    };
+    done_if(
+        broker
+            .commit_reserved(rt, worker, flying, reserved, &mut Quiet)
+            .is_ok(),
+    )
+}
+
+/// Commits it without.
+fn commit_by<R: Wait, W: Side, T: Side>(
+    rt: &R,
+    alloc: Global,
+    broker: &Broker<R, W, T>,
+    worker: &mut Worker<W>,
+    sender: u64,
+    numbers: &[u32],
+) -> Answer {
+    let Some(flying) = begun(alloc, Gate::new(Sender(sender)), numbers) else {
+        return Answer::Failed;
+    };
+    done_if(broker.commit(rt, worker, flying, &mut Quiet).is_ok())
+}
+
+/// Begins a subscription at topic 0, and puts it behind the others; whether it is waited for.
+fn subscribed<R: Wait, W: Side, T: Side>(
+    rt: &R,
+    broker: &Broker<R, W, T>,
+    subs: &mut Vec<Subscribed>,
+) -> Answer {
+    match broker.subscribe_waited_for(rt, Topic(0)) {
+        Ok((begun, is_waited_for)) => match subs.push(begun) {
+            Ok(()) => Answer::Is(is_waited_for),
+            Err(_) => Answer::Failed,
+        },
+        Err(_) => Answer::Failed,
+    }
+}
+
+/// Begins one that isn't waited for.
+fn subscribed_unwaited<R: Wait, W: Side, T: Side>(
+    rt: &R,
+    broker: &Broker<R, W, T>,
+    subs: &mut Vec<Subscribed>,
+) -> Answer {
+    match broker.subscribe(rt, Topic(0)) {
+        Ok(begun) => done_if(subs.push(begun).is_ok()),
+        Err(_) => Answer::Failed,
+    }
+}
+
+/// What a turn of topic 0 tells.
+fn turned<R: Wait, W: Side, T: Side>(rt: &R, broker: &Broker<R, W, T>) -> Answer {
+    match broker.head_turned(rt, Topic(0)) {
+        (Turned { released, lagged }, Ok(())) => Answer::Turned(released, lagged),
+        (_, Err(NoMemory)) => Answer::Failed,
+    }
+}
+
+/// Who lacks room at topic 0: the first three.
+fn lacking<R: Wait, W: Side, T: Side>(rt: &R, alloc: Global, broker: &Broker<R, W, T>) -> Answer {
+    let mut list = Vec::new(alloc);
+    match broker.lacking(rt, Topic(0), &mut list) {
+        Ok(()) => Answer::Numbers([
+            list.first().copied(),
+            list.get(1).copied(),
+            list.get(2).copied(),
+        ]),
+        Err(NoMemory) => Answer::Failed,
+    }
+}
+
+/// The number of the subscription of this place; 0 where there is none.
+fn number_of(subs: &[Subscribed], place: usize) -> u64 {
+    match subs.get(place) {
+        Some(begun) => begun.sub,
+        None => 0,
+    }
+}
+
+/// What a call about one subscription answers.
+fn asked_of_one<R: Wait, W: Side, T: Side>(
+    rt: &R,
+    broker: &Broker<R, W, T>,
+    subs: &mut [Subscribed],
+    call: Call<'_>,
+) -> Answer {
+    match call {
+        Call::Take(place) => match subs.get_mut(place) {
+            Some(begun) => Answer::Is(begun.taker.take(rt).is_some()),
+            None => Answer::Failed,
+        },
+        Call::Tell(place) => match subs.get_mut(place) {
+            Some(begun) => {
+                begun.taker.tell(rt);
+                Answer::Done
+            }
+            None => Answer::Failed,
+        },
+        Call::WaitFor(place) => {
+            Answer::Is(broker.wait_for(rt, Topic(0), number_of(subs, place)))
+        }
+        Call::PassOver(place) => {
+            Answer::Is(broker.pass_over(rt, Topic(0), number_of(subs, place)))
+        }
+        Call::State(place) => { Answer::State(broker.state(rt, Topic(0), number_of(subs, place))) }
+        Call::Unsubscribe(place) => done_if(
+            broker
+                .unsubscribe(rt, Topic(0), number_of(subs, place))
+                .is_ok(),
+        ),
+        _ => Answer::Failed,
+    }
+}
+
+/// What a call answers.
+fn asked<R: Wait, W: Side, T: Side>(
+    rt: &R,
+    alloc: Global,
+    broker: &Broker<R, W, T>,
+    worker: &mut Worker<W>,
+    done: &mut Done,
+    call: Call<'_>,
+) -> Answer {
+    done.sender = done.sender.saturating_add(1);
+    match call {
+        Call::Subscribe => subscribed_unwaited(rt, broker, &mut done.subs),
+        Call::SubscribeWaitedFor => subscribed(rt, broker, &mut done.subs),
+        Call::Reserve(numbers) => reserve(rt, alloc, broker, &mut done.left, numbers),
+        Call::ReserveMore(numbers) => reserve(rt, alloc, broker, &mut done.right, numbers),
+        Call::GiveBack => given_back(rt, broker, mem::replace(&mut done.left, None)),
+        Call::GiveMoreBack => given_back(rt, broker, mem::replace(&mut done.right, None)),
+        Call::Enter(numbers) => match mem::replace(&mut done.left, None) {
+            Some(reserved) => {
+                enter_by(rt, alloc, broker, worker, done.sender, numbers, reserved)
+            }
+            None => Answer::Failed,
+        },
+        Call::Commit(numbers) => commit_by(rt, alloc, broker, worker, done.sender, numbers),
+        Call::Turn => turned(rt, broker),
+        Call::Lacking => lacking(rt, alloc, broker),
+        other => asked_of_one(rt, broker, &mut done.subs, other),
+    }
+}
+
+/// Makes the calls in order, up to the first whose answer is another than is wanted: its index.
+fn first_other<R: Wait, W: Side, T: Side>(
+    rt: &R,
+    alloc: Global,
+    broker: &Broker<R, W, T>,
+    worker: &mut Worker<W>,
+    done: &mut Done,
+    rows: &[(Call<'_>, Answer)],
+) -> Option<usize> {
+    for (k, &(call, wanted)) in rows.iter().enumerate() {
+        if asked(rt, alloc, broker, worker, done, call) != wanted {
+            return Some(k);
+        }
+    }
+    None
+}
+
+/// Calls, each with its answer.
+#[derive(Drop)]
+struct Rows<'a> {
+    rows: &'a [(Call<'a>, Answer)],
+}
+
+impl<'a, R: Wait> Job<R> for Rows<'a> {
+    type Answer = Option<usize>;
+
+    fn run<W: Side, T: Side>(
+        self,
+        rt: &R,
+        alloc: Global,
+        opening: Opening,
+        workers: Blank,
+        tickets: Blank,
+    ) -> Result<Option<usize>, NoMemory>
+        requires workers { (workers.name ≡ W.name) × (workers.parts ≡ W.parts) × (W.parts ≡ W.all) × (W.all ≡ 257) }
+        requires tickets { (tickets.name ≡ T.name) × (tickets.parts ≡ T.parts) × (T.parts ≡ T.all) × (T.all ≡ 1024) }
+    {
+        let broker = opening.begin::<R, W, T>(alloc, workers, tickets)?;
+        let Ok(mut worker) = broker.join(rt) else {
+            return Ok(Some(0));
+        };
+        let mut done = Done {
+            subs: Vec::new(alloc),
+            left: None,
+            right: None,
+            sender: 0,
+        };
+        let found = first_other(rt, alloc, &broker, &mut worker, &mut done, self.rows);
+        let Done {
+            subs,
+            left,
+            right,
+            sender: _,
+        } = done;
+        drop(subs);
+        given_back(rt, &broker, left);
+        given_back(rt, &broker, right);
+        Ok(found)
+    }
+}
+
+/// The index of the first of these calls at a broker whose queues have so many places that answers another thing.
+fn first_other_at<R: Wait>(
+    rt: &R,
+    alloc: Global,
+    capacity: usize,
+    rows: &[(Call<'_>, Answer)],
+) -> Result<Option<usize>, NoMemory>
+    requires { (1 ≤ capacity) × (capacity ≤ 4096) }
+{
+    let opening = Opening::new(alloc, &[0, 0], capacity, false)?;
+    with_broker(rt, alloc, opening, Rows { rows })
+}
+
+/// No room at topic 0, for this subscription.
+fn full(sub: Option<u64>) -> Answer {
+    Answer::Refused(NoRoom::Full {
+        topic: Topic(0),
+        sub,
+    })
+}
+
+/// These two numbers.
+fn two(first: u64, second: u64) -> Answer {
+    Answer::Numbers([Some(first), Some(second), None])
+}
+
+/// No number.
+const NOBODY: Answer = Answer::Numbers([None, None, None]);
+
+/// Where nobody is waited for, as much is reserved as a queue has places: what is pending counts.
+#[test]
+fn no_more_is_reserved_than_a_queue_takes(rt: HostRuntime) -> Result<(), Fail> {
+    let rows = [
+        (Call::Reserve(&[0]), Answer::Done),
+        (Call::Enter(&[0]), Answer::Done),
+        (Call::Reserve(&[0, 1]), Answer::Done),
+        (Call::ReserveMore(&[0]), full(None)),
+        (Call::ReserveMore(&[1, 0]), full(None)),
+        (Call::ReserveMore(&[1]), Answer::Done),
+        (Call::GiveBack, Answer::Done),
+        (Call::ReserveMore(&[0]), Answer::Done),
+        (Call::Reserve(&[0]), full(None)),
+        (Call::Turn, Answer::Turned(1, false)),
+        (Call::Reserve(&[0]), Answer::Done),
+        (Call::Enter(&[0]), Answer::Done),
+        (Call::Reserve(&[0]), full(None)),
+    ];
+    let found = first_other_at(&rt, rt.alloc(), 2, &rows)?;
+    assert!(rt; found.is_none());
+    Ok(())
+}
+
+/// What is reserved at two topics is taken at both or at none: topic 1 has room for one more after a refusal.
+#[test]
+fn a_refused_reservation_takes_nothing(rt: HostRuntime) -> Result<(), Fail> {
+    let rows = [
+        (Call::Reserve(&[0, 0]), Answer::Done),
+        (Call::ReserveMore(&[1, 1, 0]), full(None)),
+        (Call::ReserveMore(&[1, 1]), Answer::Done),
+        (Call::GiveMoreBack, Answer::Done),
+        (Call::GiveBack, Answer::Done),
+        (Call::Reserve(&[0, 1, 1_024, 0]), Answer::Done),
+        (Call::ReserveMore(&[0]), full(None)),
+    ];
+    let found = first_other_at(&rt, rt.alloc(), 2, &rows)?;
+    assert!(rt; found.is_none());
+    Ok(())
+}
+
+/// What is left of a reservation is given back: at topic 1, where no part was entered, and, where the commit is refused,
+/// at both.
+#[test]
+fn what_a_commit_leaves_is_given_back(rt: HostRuntime) -> Result<(), Fail> {
+    let rows = [
+        (Call::Reserve(&[0, 1, 0]), Answer::Done),
+        (Call::Enter(&[0]), Answer::Done),
+        (Call::Reserve(&[1, 1]), Answer::Done),
+        (Call::ReserveMore(&[0]), Answer::Done),
+        (Call::GiveBack, Answer::Done),
+        (Call::GiveMoreBack, Answer::Done),
+        (Call::Reserve(&[0, 1]), Answer::Done),
+        (Call::Enter(&[0, 1_024]), Answer::Failed),
+        (Call::Reserve(&[0, 1, 1]), Answer::Done),
+        (Call::ReserveMore(&[0]), full(None)),
+    ];
+    let found = first_other_at(&rt, rt.alloc(), 2, &rows)?;
+    assert!(rt; found.is_none());
+    Ok(())
+}
+
+/// Who is waited for lacks room while its items aren't told to be taken, and has room once they are.
+#[test]
+fn a_sender_waits_for_whoever_is_waited_for(rt: HostRuntime) -> Result<(), Fail> {
+    let rows = [
+        (Call::SubscribeWaitedFor, Answer::Is(true)),
+        (Call::Reserve(&[0]), Answer::Done),
+        (Call::Enter(&[0]), Answer::Done),
+        (Call::Turn, Answer::Turned(1, false)),
+        (Call::Reserve(&[0]), Answer::Done),
+        (Call::Lacking, two_numbers_none(0)),
+        (Call::ReserveMore(&[0]), full(Some(0))),
+        (Call::Take(0), Answer::Is(true)),
+        (Call::ReserveMore(&[0]), full(Some(0))),
+        (Call::Tell(0), Answer::Done),
+        (Call::Lacking, NOBODY),
+        (Call::ReserveMore(&[0]), Answer::Done),
+        (Call::Lacking, NOBODY),
+        (Call::Reserve(&[0]), full(None)),
+        (Call::Enter(&[0]), Answer::Done),
+        (Call::Turn, Answer::Turned(1, false)),
+        (Call::State(0), Answer::State(Some(SubState::Open))),
+    ];
+    let found = first_other_at(&rt, rt.alloc(), 2, &rows)?;
+    assert!(rt; found.is_none());
+    Ok(())
+}
+
+/// This number alone.
+fn two_numbers_none(first: u64) -> Answer {
+    Answer::Numbers([Some(first), None, None])
+}
+
+/// Of three, the first two lack room; the third took. One that is passed over, or ended, lacks it no longer.
+#[test]
+fn who_lacks_room_is_named(rt: HostRuntime) -> Result<(), Fail> {
+    let rows = [
+        (Call::SubscribeWaitedFor, Answer::Is(true)),
+        (Call::Subscribe, Answer::Done),
+        (Call::SubscribeWaitedFor, Answer::Is(true)),
+        (Call::SubscribeWaitedFor, Answer::Is(true)),
+        (Call::Reserve(&[0, 0]), Answer::Done),
+        (Call::Lacking, NOBODY),
+        (Call::Enter(&[0]), Answer::Done),
+        (Call::Reserve(&[0]), Answer::Done),
+        (Call::Enter(&[0]), Answer::Done),
+        (Call::Turn, Answer::Turned(2, false)),
+        (Call::Take(3), Answer::Is(true)),
+        (Call::Tell(3), Answer::Done),
+        (Call::Lacking, two(0, 2_048)),
+        (Call::Reserve(&[0]), full(Some(0))),
+        (Call::PassOver(3), Answer::Is(false)),
+        (Call::PassOver(1), Answer::Is(false)),
+        (Call::PassOver(0), Answer::Is(true)),
+        (Call::PassOver(0), Answer::Is(false)),
+        (Call::Reserve(&[0]), full(Some(2_048))),
+        (Call::Lacking, two_numbers_none(2_048)),
+        (Call::Unsubscribe(2), Answer::Done),
+        (Call::Lacking, NOBODY),
+        (Call::Reserve(&[0]), Answer::Done),
+        (Call::ReserveMore(&[0]), full(Some(3_072))),
+    ];
+    let found = first_other_at(&rt, rt.alloc(), 2, &rows)?;
+    assert!(rt; found.is_none());
+    Ok(())
+}
+
+/// One that is passed over lags as the next row is released, and isn't waited for any more, though it took all.
+#[test]
+fn who_is_passed_over_lags(rt: HostRuntime) -> Result<(), Fail> {
+    let lag = Stamp {
+        n: 2,
+        topic: Topic(0),
+    };
+    let rows = [
+        (Call::SubscribeWaitedFor, Answer::Is(true)),
+        (Call::Reserve(&[0, 0]), Answer::Done),
+        (Call::Enter(&[0]), Answer::Done),
+        (Call::Reserve(&[0]), Answer::Done),
+        (Call::Enter(&[0]), Answer::Done),
+        (Call::Turn, Answer::Turned(2, false)),
+        (Call::Reserve(&[0]), full(Some(0))),
+        (Call::PassOver(0), Answer::Is(true)),
+        (Call::WaitFor(0), Answer::Is(true)),
+        (Call::PassOver(0), Answer::Is(true)),
+        (Call::Reserve(&[0]), Answer::Done),
+        (Call::WaitFor(0), Answer::Is(false)),
+        (Call::Enter(&[0]), Answer::Done),
+        (Call::Turn, Answer::Turned(1, true)),
+        (Call::State(0), Answer::State(Some(SubState::Lag(lag)))),
+        (Call::Take(0), Answer::Is(true)),
+        (Call::Take(0), Answer::Is(true)),
+        (Call::Tell(0), Answer::Done),
+        (Call::WaitFor(0), Answer::Is(false)),
+        (Call::Lacking, NOBODY),
+    ];
+    let found = first_other_at(&rt, rt.alloc(), 2, &rows)?;
+    assert!(rt; found.is_none());
+    Ok(())
+}
+
+/// One that was passed over and didn't lag is waited for again once what is pending and reserved fits into its queue.
+#[test]
+fn who_was_passed_over_is_waited_for_again(rt: HostRuntime) -> Result<(), Fail> {
+    let rows = [
+        (Call::SubscribeWaitedFor, Answer::Is(true)),
+        (Call::Reserve(&[0, 0]), Answer::Done),
+        (Call::Enter(&[0]), Answer::Done),
+        (Call::Reserve(&[0]), Answer::Done),
+        (Call::Enter(&[0]), Answer::Done),
+        (Call::Turn, Answer::Turned(2, false)),
+        (Call::PassOver(0), Answer::Is(true)),
+        (Call::Reserve(&[0]), Answer::Done),
+        (Call::WaitFor(0), Answer::Is(false)),
+        (Call::Take(0), Answer::Is(true)),
+        (Call::WaitFor(0), Answer::Is(false)),
+        (Call::Tell(0), Answer::Done),
+        (Call::WaitFor(0), Answer::Is(true)),
+        (Call::ReserveMore(&[0]), full(Some(0))),
+        (Call::Enter(&[0]), Answer::Done),
+        (Call::Turn, Answer::Turned(1, false)),
+        (Call::State(0), Answer::State(Some(SubState::Open))),
+        (Call::WaitFor(1), Answer::Is(true)),
+    ];
+    let found = first_other_at(&rt, rt.alloc(), 2, &rows)?;
+    assert!(rt; found.is_none());
+    Ok(())
+}
+
+/// A part that is entered without a reservation passes over whom it leaves without room for all that are pending and
+/// reserved, and nobody else.
+#[test]
+fn an_unreserved_commit_passes_over(rt: HostRuntime) -> Result<(), Fail> {
+    let rows = [
+        (Call::SubscribeWaitedFor, Answer::Is(true)),
+        (Call::Commit(&[0]), Answer::Done),
+        (Call::Turn, Answer::Turned(1, false)),
+        (Call::SubscribeWaitedFor, Answer::Is(true)),
+        (Call::Reserve(&[0]), Answer::Done),
+        (Call::Lacking, two_numbers_none(0)),
+        (Call::Commit(&[0]), Answer::Done),
+        (Call::Lacking, NOBODY),
+        (Call::Enter(&[0]), Answer::Done),
+        (Call::Turn, Answer::Turned(2, true)),
+        (Call::State(1), Answer::State(Some(SubState::Open))),
+        (Call::Lacking, two_numbers_none(1_024)),
+        (Call::PassOver(0), Answer::Is(false)),
+    ];
+    let found = first_other_at(&rt, rt.alloc(), 2, &rows)?;
+    assert!(rt; found.is_none());
+    Ok(())
+}
+
+/// Where more is pending than its queue takes, a subscription begins without being waited for.
+#[test]
+fn a_subscription_begins_without_room(rt: HostRuntime) -> Result<(), Fail> {
+    let rows = [
+        (Call::Commit(&[0]), Answer::Done),
+        (Call::Commit(&[0]), Answer::Done),
+        (Call::SubscribeWaitedFor, Answer::Is(true)),
+        (Call::Commit(&[0]), Answer::Done),
+        (Call::SubscribeWaitedFor, Answer::Is(false)),
+        (Call::Lacking, NOBODY),
+        (Call::PassOver(0), Answer::Is(false)),
+    ];
+    let found = first_other_at(&rt, rt.alloc(), 2, &rows)?;
+    assert!(rt; found.is_none());
+    Ok(())
+}
+
+/// Transactions to topic 0, each with a reservation; where there is none, the topic is turned, and the subscription that
+/// is waited for takes one item.
+#[derive(Drop)]
+struct LongRun;
+
+/// How many transactions were committed and how many items taken, and whether the one that is waited for, and the other,
+/// which takes nothing, are open in the end.
+#[derive(Clone, Copy, PartialEq, Eq)]
+struct Ran {
+    committed: u64,
+    taken: u64,
+    is_open: bool,
+    is_other_open: bool,
+}
+
+/// One try: whether a transaction was committed, and whether an item was taken.
+fn tried<R: Wait, W: Side, T: Side>(
+    rt: &R,
+    alloc: Global,
+    broker: &Broker<R, W, T>,
+    worker: &mut Worker<W>,
+    begun: &mut Subscribed,
+    sender: u64,
+) -> (bool, bool) {
+    match broker.reserve(rt, &[Topic(0)]) {
+        Ok(reserved) => {
+            let answer = enter_by(rt, alloc, broker, worker, sender, &[0], reserved);
+            (answer == Answer::Done, false)
+        }
+        Err(_) => {
+            turned(rt, broker);
+            let is_taken = begun.taker.take(rt).is_some();
+            begun.taker.tell(rt);
+            (false, is_taken)
+        }
+    }
+}
+
+/// So many tries.
+fn ran<R: Wait, W: Side, T: Side>(
+    rt: &R,
+    alloc: Global,
+    broker: &Broker<R, W, T>,
+    worker: &mut Worker<W>,
+    begun: &mut Subscribed,
+    tries: u64,
+) -> (u64, u64) {
+    let mut committed = 0u64;
+    let mut taken = 0u64;
+    for sender in 0..tries {
+        let (is_committed, is_taken) = tried(rt, alloc, broker, worker, begun, sender);
+        committed = committed.saturating_add(u64::from(is_committed));
+        taken = taken.saturating_add(u64::from(is_taken));
+    }
+    (committed, taken)
+}
+
+/// What a thousand tries do at this broker.
+fn long_run<R: Wait, W: Side, T: Side>(
+    rt: &R,
+    alloc: Global,
+    broker: &Broker<R, W, T>,
+    worker: &mut Worker<W>,
+) -> Option<Ran> {
+    let (mut begun, true) = broker.subscribe_waited_for(rt, Topic(0)).ok()? else {
+        return None;
+    };
+    let other = broker.subscribe(rt, Topic(0)).ok()?;
+    let (committed, taken) = ran(rt, alloc, broker, worker, &mut begun, 1_000);
+    turned(rt, broker);
+    Some(Ran {
+        committed,
+        taken,
+        is_open: broker.state(rt, Topic(0), begun.sub) == Some(SubState::Open),
+        is_other_open: broker.state(rt, Topic(0), other.sub) == Some(SubState::Open),
+    })
+}
+
+impl<R: Wait> Job<R> for LongRun {
+    type Answer = Option<Ran>;
+
+    fn run<W: Side, T: Side>(
+        self,
+        rt: &R,
+        alloc: Global,
+        opening: Opening,
+        workers: Blank,
+        tickets: Blank,
+    ) -> Result<Option<Ran>, NoMemory>
+        requires workers { (workers.name ≡ W.name) × (workers.parts ≡ W.parts) × (W.parts ≡ W.all) × (W.all ≡ 257) }
+        requires tickets { (tickets.name ≡ T.name) × (tickets.parts ≡ T.parts) × (T.parts ≡ T.all) × (T.all ≡ 1024) }
+    {
+        let broker = opening.begin::<R, W, T>(alloc, workers, tickets)?;
+        let Ok(mut worker) = broker.join(rt) else {
+            return Ok(None);
+        };
+        Ok(long_run(rt, alloc, &broker, &mut worker))
+    }
+}
+
+/// At capacity 4: four are committed at once, and then one for each that is taken, so that the first is 500 and 2 more. Who
+/// is waited for doesn't lag; who isn't does.
+#[test]
+fn who_is_waited_for_never_lags(rt: HostRuntime) -> Result<(), Fail> {
+    let opening = Opening::new(rt.alloc(), &[0], 4, false)?;
+    let found = with_broker(&rt, rt.alloc(), opening, LongRun)?;
+    let wanted = Ran {
+        committed: 502,
+        taken: 498,
+        is_open: true,
+        is_other_open: false,
+    };
+    assert!(rt; found == Some(wanted));
+    Ok(())
+}
