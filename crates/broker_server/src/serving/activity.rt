@@ -1,7 +1,7 @@
 //! What a connection did, and has.
 
 ghost use Rattle.std.specs.Prelude.{◌≡◌};
-ghost use Rattle.broker_server.specs.Purses.{counted};
+ghost use Rattle.broker_server.specs.Counts.{plus};
 
 use std::fmt;
 use std::fmt::{Display, Formatter};
@@ -64,28 +64,28 @@ impl Activity {
 
     /// A transaction was committed.
     pub(crate) fn commits(&mut self)
-        ensures { self.new ≡ record self.old { transactions = counted self.old.transactions 1 } }
+        ensures { self.new ≡ record self.old { transactions = plus self.old.transactions 1 } }
     {
         self.transactions = self.transactions.saturating_add(1);
     }
 
     /// An item of so many MESSAGEs was taken.
     pub(crate) fn takes(&mut self, messages: u64)
-        ensures { self.new ≡ record self.old { messages = counted self.old.messages messages } }
+        ensures { self.new ≡ record self.old { messages = plus self.old.messages messages } }
     {
         self.messages = self.messages.saturating_add(messages);
     }
 
     /// A subscription was found to have lagged.
     pub(crate) fn lags(&mut self)
-        ensures { self.new ≡ record self.old { lagged = counted self.old.lagged 1 } }
+        ensures { self.new ≡ record self.old { lagged = plus self.old.lagged 1 } }
     {
         self.lagged = self.lagged.saturating_add(1);
     }
 
     /// So many subscriptions were passed over.
     pub(crate) fn passes_over(&mut self, count: u64)
-        ensures { self.new ≡ record self.old { passed_over = counted self.old.passed_over count } }
+        ensures { self.new ≡ record self.old { passed_over = plus self.old.passed_over count } }
     {
         self.passed_over = self.passed_over.saturating_add(count);
     }
@@ -105,16 +105,16 @@ impl Activity {
     /// Another's is added.
     pub(crate) fn add(&mut self, other: Activity)
         ensures { self.new ≡ record {
-          sends = counted self.old.sends other.sends;
-          transactions = counted self.old.transactions other.transactions;
-          messages = counted self.old.messages other.messages;
-          octets_in = counted self.old.octets_in other.octets_in;
-          octets_out = counted self.old.octets_out other.octets_out;
-          lagged = counted self.old.lagged other.lagged;
-          passed_over = counted self.old.passed_over other.passed_over;
-          subscriptions = counted self.old.subscriptions other.subscriptions;
-          waiting = counted self.old.waiting other.waiting;
-          behind = counted self.old.behind other.behind;
+          sends = plus self.old.sends other.sends;
+          transactions = plus self.old.transactions other.transactions;
+          messages = plus self.old.messages other.messages;
+          octets_in = plus self.old.octets_in other.octets_in;
+          octets_out = plus self.old.octets_out other.octets_out;
+          lagged = plus self.old.lagged other.lagged;
+          passed_over = plus self.old.passed_over other.passed_over;
+          subscriptions = plus self.old.subscriptions other.subscriptions;
+          waiting = plus self.old.waiting other.waiting;
+          behind = plus self.old.behind other.behind;
         } }
     {
         self.sends = self.sends.saturating_add(other.sends);

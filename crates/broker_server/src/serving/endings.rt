@@ -1,7 +1,7 @@
 //! By what connections ended.
 
 ghost use Rattle.std.specs.Prelude.{◌≡◌};
-ghost use Rattle.broker_server.specs.Purses.{counted};
+ghost use Rattle.broker_server.specs.Counts.{plus};
 
 use crate::conversation::{ConversationFault, Exit};
 use crate::serving::why_left::WhyLeft;
