@@ -1,13 +1,11 @@
 -- Outlets that are told what was taken have no less room.
-use Rattle.std.proofs.Common.{◌≡◌, ◌≢◌, ℕ, ◌+◌, ◌-◌, ◌<◌, ◌≤◌, ◌==◌, nat_lt, not, Bool, true, false, List, [], ◌∷◌, length, Option, Some, None, IfSome, refl, sym, ap, subst, ◌∙◌, arith}
+use Rattle.std.proofs.Common.{◌≡◌, ℕ, ◌+◌, ◌≤◌, ◌==◌, Bool, true, false, length, Option, Some, None, IfSome, refl, sym, ap, subst, ◌∙◌, arith}
 use Rattle.std.specs.Option.{option_map, option_map_or}
-use Rattle.std.proofs.lemmas.Bool.{ne_eqb, eqb-true, true≢false, le-ltb, ltb-false}
+use Rattle.std.proofs.lemmas.Bool.{eqb-true, true≢false}
 use Rattle.std.proofs.lemmas.Bool.Decides.{nat_tests}
-use Rattle.mcast_txn.specs.Lists.{In}
 use Rattle.sub_queue.specs.Shown.{Gauge, Shown, known_taken, room, shown_told}
 use Rattle.mcast_group.specs.Group.{GroupState, IsTold, gauge_at, group_told, shown_at, shown_with, shows}
 use Rattle.mcast_group.specs.Machine.{Entry, find_entry}
-use Rattle.mcast_group.proofs.Parts.{none_some, some_same}
 use Rattle.mcast_group.proofs.Telling.{shown_after_told}
 use Rattle.broker_locks.specs.Place.{PlaceState}
 use Rattle.broker_locks.specs.Room.{HasHeard, HasRoom, KeepsRoom, KnowsMore, KnowsMoreOf, RoomState, due_at, fits, takes_more}
@@ -84,7 +82,7 @@ fits_more due n g new h f = go (shown_at n g) (shown_at n new) h f
         grind (arith, nat_tests)
 
 -- who has room has it still
-room_more : (due : ℕ) (n : ℕ) (g new : GroupState) → new.topic ≡ g.topic → KnowsMoreOf (shown_at n g) (shown_at n new) → HasRoom due g n → HasRoom due new n
+pub room_more : (due : ℕ) (n : ℕ) (g new : GroupState) → new.topic ≡ g.topic → KnowsMoreOf (shown_at n g) (shown_at n new) → HasRoom due g n → HasRoom due new n
 room_more due n g new same h r =
     let found : find_entry n new.topic.subscriptions ≡ Some r.entry = ap (λ x. find_entry n x.subscriptions) same ∙ r.found in
     let was : shown_at n g ≡ Some (shows r.entry r.gauge) = ap (λ (o : Option Entry). shown_with o (gauge_at n g.topic.subscriptions g.gauges)) r.found ∙ ap (shown_with (Some r.entry)) r.gauged in
@@ -100,3 +98,11 @@ pub keeps_heard : (state : RoomState) (old new : PlaceState) → HasHeard old ne
 keeps_heard state old new h keeps n i =
     let due : due_at state new.cells.group ≡ due_at state old.cells.group = ap (λ x. length x.pending + state.reserved) h.topic in
     subst (λ (k : ℕ). HasRoom k new.cells.group n) (sym due) (room_more (due_at state old.cells.group) n old.cells.group new.cells.group h.topic (h.each n) (keeps n i))
+
+-- what fits, fits where it is less
+pub fits_less : (less due : ℕ) (g : GroupState) (n : ℕ) → less ≤ due → fits due g n ≡ true → fits less g n ≡ true
+fits_less less due g n le f = go (shown_at n g) f
+  where
+    go : (o : Option Shown) → option_map_or (takes_more due) o false ≡ true → option_map_or (takes_more less) o false ≡ true
+    go None f = f
+    go (Some s) f = grind (arith, nat_tests)

@@ -15,5 +15,8 @@ pub mod TraceRows
 pub mod RunTraces
 pub mod Lookups
 pub mod Hearing
+pub mod Waiting
 pub mod Roomy
+pub mod RoomKept
 mod Examples
+mod ExamplesRoom

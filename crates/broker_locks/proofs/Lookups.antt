@@ -1,13 +1,11 @@
 -- A subscription's entry and gauge, after each change of a group.
-use Rattle.std.proofs.Common.{◌≡◌, ◌≢◌, ℕ, ◌+◌, ◌-◌, ◌<◌, ◌≤◌, ◌==◌, nat_lt, not, Bool, true, false, cond, inl, inr, List, [], ◌∷◌, ◌++◌, map, length, Option, Some, None, refl, sym, ap, subst, ◌∙◌, arith}
+use Rattle.std.proofs.Common.{◌≡◌, ◌≢◌, ℕ, ◌<◌, ◌≤◌, ◌==◌, nat_lt, not, Bool, true, false, cond, inl, inr, List, [], ◌∷◌, ◌++◌, map, Option, Some, None, refl, sym, ap, subst, ◌∙◌, arith}
 use Rattle.std.specs.List.{AllByRecursion, filter}
 use Rattle.std.proofs.lemmas.Bool.{ne_eqb, eqb-true, true≢false}
-use Rattle.std.proofs.lemmas.Bool.Decides.{nat_tests}
-use Rattle.std.proofs.lemmas.List.{length_push}
 use Rattle.mcast_txn.specs.Lists.{In, RisesBy}
 use Rattle.mcast_txn.specs.Span.{Item}
 use Rattle.mcast_txn.specs.declared.stamp.Stamp.{Stamp}
-use Rattle.sub_queue.specs.Shown.{Gauge, Shown, room}
+use Rattle.sub_queue.specs.Shown.{Gauge, room}
 use Rattle.mcast_group.specs.Group.{GroupState, MayAnswer, gauge_at, gauges_told, gauges_with, gauges_without, group_told, shown_at, shown_with, shows}
 use Rattle.mcast_group.specs.Machine.{Entry, entry_after, find_entry, insert_entry}
 use Rattle.mcast_group.proofs.Parts.{none_some, some_same}

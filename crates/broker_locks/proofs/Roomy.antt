@@ -1,6 +1,5 @@
 -- What keeps room for each subscription that is waited for.
-use Rattle.std.proofs.Common.{◌≡◌, ◌≢◌, ℕ, suc, ◌+◌, ◌-◌, ◌<◌, ◌≤◌, ◌==◌, nat_lt, not, Bool, true, false, cond, inl, inr, List, [], ◌∷◌, ◌++◌, map, length, Option, Some, None, Result, Ok, Err, refl, sym, ap, subst, ◌∙◌, arith}
-use Rattle.std.specs.List.{filter}
+use Rattle.std.proofs.Common.{◌≡◌, ℕ, ◌+◌, ◌≤◌, not, Bool, true, false, cond, inl, inr, List, [], ◌∷◌, length, Option, Some, None, Result, Ok, Err, refl, sym, ap, subst, ◌∙◌, arith}
 use Rattle.std.specs.Option.{option_map}
 use Rattle.std.proofs.lemmas.List.{length_push}
 use Rattle.mcast_txn.specs.Ballot.{Decision}
@@ -13,15 +12,15 @@ use Rattle.mcast_txn.specs.declared.stamp.Stamp.{Stamp}
 use Rattle.mcast_txn.proofs.Inserting.{insert_length}
 use Rattle.mcast_txn.proofs.Orders.{id_itself}
 use Rattle.sub_queue.specs.Shown.{Gauge, room}
-use Rattle.mcast_group.specs.Group.{GroupState, OutletsAnswer, AnswersEach, Releases, Turns, group_after_release, group_after_releases, group_after_tries, shows}
-use Rattle.mcast_group.specs.Machine.{Entry, Pending, TopicState, after_learn, after_release, after_release_of, after_tries, after_try, decided_stamp, due_part, find_entry, insert_pending, item_of, learn_fault, next_number, parts_without, state_of_entry, subscription_state, with_stamp}
+use Rattle.mcast_group.specs.Group.{GroupState, OutletsAnswer, AnswersEach, Turns, group_after_release, group_after_releases, group_after_tries, shows}
+use Rattle.mcast_group.specs.Machine.{Entry, Pending, TopicState, after_learn, after_release_of, after_tries, after_try, decided_stamp, due_part, find_entry, insert_pending, item_of, learn_fault, next_number, parts_without, state_of_entry, subscription_state, with_stamp}
 use Rattle.mcast_group.specs.declared.fault.LearnFault.{LearnFault}
 use Rattle.mcast_group.specs.declared.state.SubState.{SubState}
 use Rattle.mcast_group.specs.declared.turned.Turned.{Turned}
 use Rattle.mcast_group.proofs.Parts.{after_release_if, due_is, map_length}
 use Rattle.broker_locks.specs.Place.{DrainLeaves, HasTurned, PlaceState, place_after_turn, source_answers}
 use Rattle.broker_locks.specs.Room.{HasRoom, KeepsRoom, RoomState, StaysRoomy, due_at, group_cancelled, group_entered, one_reserved}
-use Rattle.broker_locks.proofs.Lookups.{Has, entry_with, given}
+use Rattle.broker_locks.proofs.Lookups.{entry_with, given}
 
 -- who has room for so many has it for fewer, at a group of the same subscriptions and gauges
 pub room_of : (due less : ℕ) (n : ℕ) (g new : GroupState) → new.topic.subscriptions ≡ g.topic.subscriptions → new.gauges ≡ g.gauges → less ≤ due → HasRoom due g n → HasRoom less new n

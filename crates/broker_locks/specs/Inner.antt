@@ -3,3 +3,4 @@ pub mod Proposing
 pub mod Cancelling
 pub mod Done
 pub mod KeptRows
+pub mod Waited

@@ -82,6 +82,10 @@ pub record HasHeard (old new : PlaceState) : Type 0 where
 abbrev pub one_reserved : RoomState → RoomState
 one_reserved state = record state { reserved = state.reserved + 1 }
 
+-- so many parts more are reserved
+abbrev pub more_reserved : ℕ → RoomState → RoomState
+more_reserved more state = record state { reserved = state.reserved + more }
+
 -- one part less is reserved, where one is
 abbrev pub one_given_back : RoomState → RoomState
 one_given_back state = record state { reserved = state.reserved - 1 }

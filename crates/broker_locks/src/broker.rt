@@ -10,6 +10,7 @@ ghost use Rattle.broker_locks.specs.declared.server_fault.ServerFault.TheVariant
 ghost use Rattle.broker_locks.specs.Commits.{AreTold, IsCommitted, IsRefused, IsUntouched, KnowsStamp, some_refusal, topics_in};
 ghost use Rattle.broker_locks.specs.Gathering.{IsTraceLeft, StopsGathering};
 ghost use Rattle.broker_locks.specs.Opening.{clock_at_start, opening_places};
+ghost use Rattle.broker_locks.specs.Room.{BeginsWith, IsRefusedAt};
 ghost use Rattle.broker_locks.specs.Rows.{PlaceRow};
 
 use crate::commit::commit_on;
@@ -282,7 +283,8 @@ impl<R: Wait, W: Side, T: Side> Broker<R, W, T> {
         let Ok(reserved) = Reserved::at(self.alloc, topics) else {
             return Err(NoRoom::NoMemory);
         };
-        for (k, &topic) in topics.iter().enumerate() {
+        for k in 0..topics.len() {
+            let topic = topics[k];
             if let Err(sub) = self.reserve_at(rt, topic) {
                 self.give_back_at(rt, &topics[..k]);
                 reserved.close();

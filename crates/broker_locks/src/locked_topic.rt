@@ -1,6 +1,7 @@
 //! What one topic's lock guards.
 
-ghost use Rattle.std.specs.Prelude.{◌≡◌, ◌≢◌, ◌⊎◌, ◌+◌, ◌*◌, ◌<◌, ℕ, [], None, Some, IfOk, IfErr, IfSome, OnOk, OnErr};
+ghost use Rattle.std.specs.Prelude.{◌≡◌, ◌≢◌, ◌⊎◌, ◌+◌, ◌++◌, ◌*◌, ◌<◌, ◌==◌, ℕ, [], true, false, None, Some, IfOk, IfErr, IfSome, OnOk, OnErr};
+ghost use Rattle.std.specs.List.{list_any};
 ghost use Rattle.sub_queue.specs.Ends.{shown_of_source};
 ghost use Rattle.mcast_group.specs.CellGroup.{open_count};
 ghost use Rattle.mcast_group.specs.Group.{or_no_memory, result_of};
@@ -8,7 +9,8 @@ ghost use Rattle.mcast_group.specs.declared.fault.ProposeFault.TheVariants.{Cloc
 ghost use Rattle.mcast_group.specs.Machine.{cancel_fault, next_number};
 ghost use Rattle.delivery.specs.Topics.{max_topics};
 ghost use Rattle.trace_audit.specs.declared.fault.AddFault.TheVariants.{Misfit};
-ghost use Rattle.broker_locks.specs.Place.{HasDoneNothing, HasTurned, IsIdle, new_place, place_after_cancel, place_after_propose, place_after_subscribe, place_after_unsubscribe, place_fault, topic_limit};
+ghost use Rattle.broker_locks.specs.Place.{HasDoneNothing, HasTurned, IsIdle, new_place, place_after_cancel, place_after_propose, place_after_subscribe, place_after_unsubscribe, place_fault, place_subscribe_fault, topic_limit};
+ghost use Rattle.broker_locks.specs.Room.{HasHeard, IsFirstOfLacking, KeepsRoom, lacking_room, more_reserved, one_given_back, one_reserved, reserve_answer, room_after_enter, waiting_for, waiting_without};
 
 use crate::counts::Counts;
 use crate::place::Place;
@@ -32,16 +34,18 @@ pub const LOG_LIMIT: usize = 65_536;
 /// A topic's place, of at most 65,536 parts and rows, what room is reserved there and who is waited for, which of its
 /// subscriptions is next, from 0, if one is left, and its share of the tickets, which are those that it gave. Each
 /// subscription that is waited for is open, and its queue has room for all parts that are pending and for those for
-/// which room is reserved.
+/// which room is reserved, and for the spare beside them, which is used up before anybody is asked what was taken.
 pub(crate) struct LockedTopic<R: Wait, T: Side> {
     pub(crate) place: Place<R>,
     pub(crate) room: Room,
+    /// So many more parts could be reserved.
+    pub(crate) spare: u64,
     pub(crate) next: Option<u64>,
     pub(crate) share: Share<T>,
     ghost limit: { place.cells.group.topic.log_limit ≡ 65536 },
     ghost one: { share.parts ≡ 1 },
     ghost counted: { share.amount ≡ place.tickets },
-    ghost roomy: { KeepsRoom room place.cells.group },
+    ghost roomy: { ∥ KeepsRoom (more_reserved spare room) place.cells.group ∥₁ },
 }
 
 impl<R: Wait, T: Side> Drop for LockedTopic<R, T> {
@@ -50,6 +54,7 @@ impl<R: Wait, T: Side> Drop for LockedTopic<R, T> {
         let LockedTopic {
             place,
             room,
+            spare: _,
             next: _,
             share,
         } = self;
@@ -74,6 +79,7 @@ impl<R: Wait, T: Side> LockedTopic<R, T> {
         LockedTopic {
             place: Place::new(alloc, topic, clock, LOG_LIMIT, keep_trace),
             room: Room::new(alloc),
+            spare: 0,
             next: Some(0),
             share,
         }
@@ -88,6 +94,7 @@ impl<R: Wait, T: Side> LockedTopic<R, T> {
         let LockedTopic {
             place,
             room: _,
+            spare: _,
             next: _,
             share: _,
         } = self;
@@ -107,6 +114,7 @@ impl<R: Wait, T: Side> LockedTopic<R, T> {
         let LockedTopic {
             place,
             room: _,
+            spare: _,
             next: _,
             share,
         } = self;
@@ -148,6 +156,7 @@ impl<R: Wait, T: Side> LockedTopic<R, T> {
         let LockedTopic {
             place,
             room,
+            spare,
             next: _,
             share,
         } = self;
@@ -157,9 +166,13 @@ impl<R: Wait, T: Side> LockedTopic<R, T> {
         let mut counter = TotalCounter::new(rt, total, theirs, here);
         let answer = place.enter(floor, proposal, &mut counter);
         (*mine, *share) = counter.into_shares();
-        let ticket = answer?;
-        room.enter(rt, with_reserved, place);
-        Ok(ticket)
+        match answer {
+            Ok(ticket) => {
+                room.enter(rt, with_reserved, place, spare);
+                Ok(ticket)
+            }
+            Err(fault) => Err(fault),
+        }
     }
 
     /// Takes the transaction's part out, as the place does.
@@ -167,6 +180,7 @@ impl<R: Wait, T: Side> LockedTopic<R, T> {
         ensures answer { result ≡ result_of (cancel_fault id self.old.place.cells.group.topic) }
         ensures ok { OnOk result (self.new.place ≡ place_after_cancel id self.old.place) }
         ensures err { OnErr result (self.new.place ≡ self.old.place) }
+        ensures room { self.new.room ≡ self.old.room }
     {
         self.place.cancel(id)
     }
@@ -183,6 +197,7 @@ impl<R: Wait, T: Side> LockedTopic<R, T> {
         ensures turned { HasTurned self.old.place self.new.place result.0 result.1 }
         ensures idle { IsIdle self.old.place → self.new.place.cells.notes ≡ self.old.place.cells.notes
             → HasDoneNothing self.old.place self.new.place result.0 result.1 }
+        ensures room { self.new.room ≡ self.old.room }
     {
         self.place.head_turned(rt)
     }
@@ -204,6 +219,7 @@ impl<R: Wait, T: Side> LockedTopic<R, T> {
         ensures next { IfOk result
             (λ _. IfSome self.new.next (λ next. (k : ℕ) × (self.old.next ≡ Some k) × (next ≡ k + 1))) }
         ensures err { OnErr result ((self.new.place ≡ self.old.place) × (self.new.next ≡ self.old.next)) }
+        ensures room { self.new.room ≡ self.old.room }
     {
         let Some(k) = self.next else {
             return Err(SubFault::SubInUse);
@@ -211,23 +227,24 @@ impl<R: Wait, T: Side> LockedTopic<R, T> {
         let Some(number) = number_of(k, topic) else {
             return Err(SubFault::SubInUse);
         };
-        match self.place.subscribe(number, source) {
+        match begun(&mut self.place, number, source) {
             Ok(from) => {
                 self.next = k.checked_add(1);
                 Ok((number, from))
             }
-            Err((fault, _source)) => Err(fault),
+            Err(fault) => Err(fault),
         }
     }
 
-    /// Ends the subscription of this number, as the place does.
+    /// Ends the subscription of this number, as the place does. It isn't waited for any more.
     pub(crate) fn unsubscribe(&mut self, number: u64) -> Result<Ended<Source<R>>, NoSub>
         ensures ok { OnOk result (self.new.place ≡ place_after_unsubscribe number self.old.place) }
         ensures err { OnErr result (self.new.place ≡ self.old.place) }
+        ensures room { self.new.room ≡ waiting_without number self.old.room }
     {
-        let ended = self.place.unsubscribe(number)?;
+        self.place.balanced();
         self.room.forget(number);
-        Ok(ended)
+        self.place.unsubscribe(number)
     }
 
     /// Reserves room for one part more, where a topic has room for so many. Refused by the first of the subscriptions
@@ -238,7 +255,8 @@ impl<R: Wait, T: Side> LockedTopic<R, T> {
         ensures ok { OnOk result (self.new.room ≡ one_reserved self.old.room) }
         ensures err { OnErr result (self.new.room ≡ self.old.room) }
     {
-        self.room.reserve(rt, capacity, &mut self.place)
+        self.room
+            .reserve(rt, capacity, &mut self.place, &mut self.spare)
     }
 
     /// Gives back what was reserved for one part, where it is reserved.
@@ -256,7 +274,8 @@ impl<R: Wait, T: Side> LockedTopic<R, T> {
         ensures yes { result ≡ true → self.new.room ≡ waiting_for number self.old.room }
         ensures no { result ≡ false → self.new.room ≡ self.old.room }
     {
-        self.room.wait_for(rt, number, &mut self.place)
+        self.room
+            .wait_for(rt, number, &mut self.place, &mut self.spare)
     }
 
     /// Adds the numbers of those that are waited for and lack room for one part more to a list, where a topic has room
@@ -268,6 +287,10 @@ impl<R: Wait, T: Side> LockedTopic<R, T> {
         list: &mut Vec<u64>,
     ) -> Result<(), NoMemory>
         ensures heard { HasHeard self.old.place self.new.place }
+        ensures ok { OnOk result (list.new.items
+            ≡ list.old.items ++ lacking_room capacity self.new.place.cells.group self.old.room) }
+        ensures err { OnErr result
+            (IsFirstOfLacking capacity self.new.place.cells.group self.old.room list.old.items list.new.items) }
         ensures room { self.new.room ≡ self.old.room }
     {
         self.room.lacking(rt, capacity, &mut self.place, list)
@@ -277,10 +300,27 @@ impl<R: Wait, T: Side> LockedTopic<R, T> {
     /// waited for no longer.
     pub(crate) fn pass_over(&mut self, rt: &R, capacity: usize, number: u64) -> bool
         ensures heard { HasHeard self.old.place self.new.place }
+        ensures answer { result ≡ list_any (λ n. n == number)
+            (lacking_room capacity self.new.place.cells.group self.old.room) }
         ensures yes { result ≡ true → self.new.room ≡ waiting_without number self.old.room }
         ensures no { result ≡ false → self.new.room ≡ self.old.room }
     {
         self.room.pass_over(rt, capacity, number, &mut self.place)
+    }
+}
+
+/// `Place::subscribe`, which lets the source go where it is refused.
+fn begun<R: Wait>(place: &mut Place<R>, number: u64, source: Source<R>) -> Result<Stamp, SubFault>
+    requires { source.items ≡ [] }
+    ensures from { IfOk result (λ from. from ≡ place.old.cells.group.topic.frontier) }
+    ensures allowed { OnOk result (place_subscribe_fault number place.old ≡ None) }
+    ensures ok { OnOk result
+        (place.new ≡ place_after_subscribe number (shown_of_source source).gauge place.old) }
+    ensures err { OnErr result (place.new ≡ place.old) }
+{
+    match place.subscribe(number, source) {
+        Ok(from) => Ok(from),
+        Err((fault, _source)) => Err(fault),
     }
 }
 

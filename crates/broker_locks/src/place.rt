@@ -2,13 +2,13 @@
 
 ghost use Rattle.std.specs.Prelude.{◌≡◌, ◌+◌, ℕ, List, [], length, nat_lt, slice_get, true, Result, Ok, Some, None, OnOk, OnErr, IfOk, IfErr};
 ghost use Rattle.std.specs.Arc.{arc_value};
+ghost use Rattle.std.specs.Option.{option_map};
 ghost use Rattle.mcast_txn.specs.Part.{data_of};
 ghost use Rattle.mcast_txn.specs.Span.{LogRow};
 ghost use Rattle.mcast_txn.specs.TopicSet.{names};
 ghost use Rattle.sub_queue.specs.Ends.{shown_of_source};
-ghost use Rattle.mcast_group.specs.CellGroup.{CellGroupState, CellTurns, open_count};
 ghost use Rattle.sub_queue.specs.Shown.{room};
-ghost use Rattle.std.specs.Option.{option_map};
+ghost use Rattle.mcast_group.specs.CellGroup.{CellGroupState, CellTurns, open_count};
 ghost use Rattle.mcast_group.specs.Group.{HasLeft, IsRefusedBy, IsTold, or_no_memory, result_of, shown_at, sub_refusal};
 ghost use Rattle.mcast_group.specs.Machine.{cancel_fault, due_part, next_number, subscription_state, unsubscribe_fault};
 ghost use Rattle.broker_locks.specs.KeptTrace.{AddsAll, AddsFirst};
@@ -307,6 +307,14 @@ impl<R: Wait> Place<R> {
         ensures room { result ≡ option_map room (shown_at number self.new.cells.group) }
     {
         self.group.room(rt, number)
+    }
+
+    /// It is balanced, and its topic is sound, by this type.
+    pub(crate) fn balanced(&self)
+        ensures { IsBalanced self.now }
+    {
+        // For the proof: to read a field shows what the type keeps.
+        let _ = &self.kept;
     }
 
     /// Adds what the topic leaves for a trace, where one is kept: the rows that it released, drained and held, in

@@ -1,10 +1,13 @@
 //! Room that is reserved at a topic, and who is waited for there.
 
-ghost use Rattle.std.specs.Prelude.{◌≡◌, ◌+◌, ℕ, [], false, filter, not, Some, None, IfOk, OnOk, OnErr};
+ghost use Rattle.std.specs.Prelude.{◌≡◌, ◌≤◌, ◌<◌, ◌+◌, ◌++◌, ◌==◌, ◌&&◌, nat_lt, ℕ, [], true, false, filter, not, Some, None, IfOk, IfErr, IfSome, IfNone, OnOk, OnErr};
 ghost use Rattle.std.specs.List.{find, list_any};
-ghost use Rattle.mcast_txn.specs.Lists.{RisesBy};
-ghost use Rattle.broker_locks.specs.Place.{PlaceState};
-ghost use Rattle.broker_locks.specs.Room.{BeginsWith, HasHeard, due_at, fits, is_waited_for, lacking_room, one_given_back, one_reserved, passing_over, reserve_answer, waiting_for, waiting_without, IsPushed};
+ghost use Rattle.mcast_txn.proofs.Rising.{Finds, IsGap};
+ghost use Rattle.mcast_txn.specs.Lists.{In, RisesBy};
+ghost use Rattle.mcast_group.specs.Group.{IsTold};
+ghost use Rattle.broker_locks.specs.Inner.Waited.{HaveSpare, spare_after_enter, waited_number};
+ghost use Rattle.broker_locks.specs.Room.{HasHeard, HasRoom, IsFirstOfLacking, IsPushed, due_at, fits, is_waited_for};
+ghost use Rattle.broker_locks.specs.Room.{lacking_room, one_given_back, one_reserved, passing_over, reserve_answer, room_after_enter, waiting_for, waiting_without};
 
 use crate::place::Place;
 use mcast_group::SubState;
@@ -35,13 +38,14 @@ impl Drop for Room {
 
 impl Model for Room {
     ghost use Rattle.mcast_txn.specs.Lists.{RisesBy};
+    ghost use Rattle.broker_locks.specs.Inner.Waited.{waited_number};
     ghost use Rattle.broker_locks.specs.Room.{RoomState};
 
     ghost Value = { RoomState };
 
     ghost view = { λ r. record { reserved = r.reserved; waited = r.waited.items } };
 
-    ghost invariant = { λ r. RisesBy (λ n. n) r.waited.items };
+    ghost invariant = { λ r. RisesBy waited_number r.waited.items };
 }
 
 impl Room {
@@ -64,28 +68,41 @@ impl Room {
         u128::from(pending) + u128::from(self.reserved)
     }
 
-    /// Reserves room for one part more, where a topic has room for so many. Those that are waited for are asked first
-    /// what was taken. Refused by the first of them that lacks room, or by none where as many are due.
+    /// Reserves room for one part more, where a topic has room for so many. `spare` is how many items more than parts
+    /// are due each that is waited for takes at least: where it is 0, they are asked what was taken, and it is found
+    /// anew. Refused by the first of them that lacks room, or by none where as many are due.
     pub(crate) fn reserve<R: Wait>(
         &mut self,
         rt: &R,
         capacity: usize,
         place: &mut Place<R>,
+        spare: &mut u64,
     ) -> Result<(), Option<u64>>
+        requires { HaveSpare spare.old self.old place.old.cells.group }
         ensures heard { HasHeard place.old place.new }
         ensures answer { result ≡ reserve_answer capacity self.old place.new.cells.group }
         ensures ok { OnOk result (self.new ≡ one_reserved self.old) }
+        ensures spare { OnOk result (HaveSpare spare.new self.new place.new.cells.group) }
         ensures err { OnErr result (self.new ≡ self.old) }
+        ensures same { OnErr result (spare.new ≡ spare.old) }
     {
         let due = self.due(place);
         if due >= capacity as u128 {
             return Err(None);
         }
-        if let Some(number) = first_lacking(rt, due + 1, &self.waited, place) {
-            return Err(Some(number));
+        if *spare > 0 {
+            *spare -= 1;
+            self.reserved += 1;
+            return Ok(());
         }
-        self.reserved += 1;
-        Ok(())
+        match least_spare(rt, due + 1, &self.waited, place) {
+            Ok(least) => {
+                *spare = least;
+                self.reserved += 1;
+                Ok(())
+            }
+            Err(number) => Err(Some(number)),
+        }
     }
 
     /// Gives back what was reserved for one part, where it is reserved.
@@ -95,17 +112,36 @@ impl Room {
         self.reserved = self.reserved.saturating_sub(1);
     }
 
-    /// A part was entered: with a reservation, where there is one, that is used up; else who has no room now is passed
-    /// over.
-    pub(crate) fn enter<R: Wait>(&mut self, rt: &R, with_reserved: bool, place: &mut Place<R>)
+    /// Whether a part that is entered with a reservation, or without, uses one up.
+    fn has_reserved(&self, with_reserved: bool) -> bool
+        ensures { result ≡ with_reserved && nat_lt 0 self.now.reserved }
+    {
+        with_reserved && self.reserved > 0
+    }
+
+    /// A part was entered: with a reservation, where there is one, that is used up; else the spare, of which one is
+    /// used up; and else who has no room now is passed over.
+    pub(crate) fn enter<R: Wait>(
+        &mut self,
+        rt: &R,
+        with_reserved: bool,
+        place: &mut Place<R>,
+        spare: &mut u64,
+    )
+        requires { 0 < spare.old → HaveSpare 0 self.old place.old.cells.group }
         ensures heard { HasHeard place.old place.new }
         ensures room { self.new ≡ room_after_enter with_reserved place.new.cells.group self.old }
+        ensures spare { spare.new ≡ spare_after_enter with_reserved self.old spare.old }
     {
-        if with_reserved && self.reserved > 0 {
+        if self.has_reserved(with_reserved) {
             self.give_back();
-        } else {
-            self.pass_over_full(rt, place);
+            return;
         }
+        if *spare > 0 {
+            *spare -= 1;
+            return;
+        }
+        self.pass_over_full(rt, place);
     }
 
     /// Those that are waited for and have no room for all parts that are due are passed over, once they were asked
@@ -119,35 +155,59 @@ impl Room {
         self.free_empty();
     }
 
+    /// The index of the subscription of this number among those that are waited for, or else the one at which it would
+    /// come.
+    fn search(&self, number: u64) -> Result<usize, usize>
+        ensures { Finds waited_number self.now.waited number result }
+    {
+        self.waited.binary_search_by_key(&number, |other| *other)
+    }
+
     /// Whether this subscription is waited for.
     fn is_waited_for(&self, number: u64) -> bool
         ensures { result ≡ is_waited_for number self.now }
     {
-        self.waited.iter().any(|other| *other == number)
+        self.search(number).is_ok()
     }
 
     /// Whether the subscription is waited for from now on: it is open, and has room for all parts that are due, once
-    /// it was asked what was taken. So it is where it was waited for. Not where there is no memory for one place more
-    /// in the list of them.
-    pub(crate) fn wait_for<R: Wait>(&mut self, rt: &R, number: u64, place: &mut Place<R>) -> bool {
-        if self.is_waited_for(number) {
+    /// it was asked what was taken; the spare is then no more than it has beside them. So it is where it was waited
+    /// for. Not where there is no memory for one place more in the list of them.
+    pub(crate) fn wait_for<R: Wait>(
+        &mut self,
+        rt: &R,
+        number: u64,
+        place: &mut Place<R>,
+        spare: &mut u64,
+    ) -> bool
+        ensures heard { HasHeard place.old place.new }
+        ensures yes { result ≡ true → self.new ≡ waiting_for number self.old }
+        ensures has { result ≡ true → is_waited_for number self.old ≡ false
+            → HasRoom (due_at self.old place.new.cells.group + spare.new) place.new.cells.group number }
+        ensures was { result ≡ false → is_waited_for number self.old ≡ false }
+        ensures no { result ≡ false → self.new ≡ self.old }
+        ensures spare { spare.new ≤ spare.old }
+    {
+        let Err(index) = self.search(number) else {
             return true;
-        }
-        if place.state(number) != Some(SubState::Open) {
+        };
+        let Some(more) = ready_spare(rt, self.due(place), number, place) else {
+            return false;
+        };
+        if !self.put(index, number) {
             return false;
         }
-        if !takes(rt, self.due(place), number, place) {
-            return false;
-        }
-        self.put(number)
+        *spare = (*spare).min(more);
+        true
     }
 
-    /// Puts a number among those that are waited for. Not where there is no memory for it.
-    fn put(&mut self, number: u64) -> bool {
-        let index = match self.waited.iter().position(|other| *other > number) {
-            Some(index) => index,
-            None => self.waited.len(),
-        };
+    /// Puts a number among those that are waited for, at the index where it comes. Not where there is no memory for
+    /// it.
+    fn put(&mut self, index: usize, number: u64) -> bool
+        requires { IsGap waited_number self.old.waited number index }
+        ensures yes { result ≡ true → self.new ≡ waiting_for number self.old }
+        ensures no { result ≡ false → self.new ≡ self.old }
+    {
         self.waited.insert(index, number).is_ok()
     }
 
@@ -171,6 +231,8 @@ impl Room {
         ensures heard { HasHeard place.old place.new }
         ensures ok { OnOk result
             (list.new.items ≡ list.old.items ++ lacking_room capacity place.new.cells.group self.now) }
+        ensures err { OnErr result
+            (IsFirstOfLacking capacity place.new.cells.group self.now list.old.items list.new.items) }
     {
         let due = self.due(place);
         if due >= capacity as u128 {
@@ -187,9 +249,17 @@ impl Room {
         capacity: usize,
         number: u64,
         place: &mut Place<R>,
-    ) -> bool {
+    ) -> bool
+        ensures heard { HasHeard place.old place.new }
+        ensures answer { result ≡ list_any (λ n. n == number) (lacking_room capacity place.new.cells.group self.old) }
+        ensures yes { result ≡ true → self.new ≡ waiting_without number self.old }
+        ensures no { result ≡ false → self.new ≡ self.old }
+    {
         let due = self.due(place);
-        if due >= capacity as u128 || !self.is_waited_for(number) {
+        if due >= capacity as u128 {
+            return false;
+        }
+        if !self.is_waited_for(number) {
             return false;
         }
         if takes(rt, due + 1, number, place) {
@@ -210,27 +280,70 @@ impl Room {
     }
 }
 
-/// Whether the outlet of the subscription of this number, if there is one, takes so many items more, once it was asked
-/// what was taken.
-fn takes<R: Wait>(rt: &R, due: u128, number: u64, place: &mut Place<R>) -> bool {
-    match place.room(rt, number) {
-        Some(room) => due <= room as u128,
-        None => false,
+/// How many items more than these the outlet of the subscription of this number takes at least, where it is open and
+/// takes these, once it was asked what was taken.
+fn ready_spare<R: Wait>(rt: &R, due: u128, number: u64, place: &mut Place<R>) -> Option<u64>
+    ensures heard { HasHeard place.old place.new }
+    ensures has { IfSome result (λ more. HasRoom (due + more) place.new.cells.group number) }
+{
+    if place.state(number) != Some(SubState::Open) {
+        return None;
+    }
+    spare_of(rt, due, number, place)
+}
+
+/// How many items more than these the outlet of the subscription of this number takes at least, if there is one that
+/// takes these, once it was asked what was taken.
+fn spare_of<R: Wait>(rt: &R, due: u128, number: u64, place: &mut Place<R>) -> Option<u64>
+    ensures told { IsTold number place.old.cells.group place.new.cells.group }
+    ensures heard { HasHeard place.old place.new }
+    ensures some { IfSome result (λ more. fits (due + more) place.new.cells.group number ≡ true) }
+    ensures none { IfNone result (fits due place.new.cells.group number ≡ false) }
+{
+    let room = place.room(rt, number)?;
+    if room as u128 >= due {
+        Some((room as u128 - due) as u64)
+    } else {
+        None
     }
 }
 
-/// The first of these subscriptions that doesn't take so many items more.
-fn first_lacking<R: Wait>(rt: &R, due: u128, waited: &[u64], place: &mut Place<R>) -> Option<u64> {
+/// Whether the outlet of the subscription of this number, if there is one, takes so many items more, once it was asked
+/// what was taken.
+fn takes<R: Wait>(rt: &R, due: u128, number: u64, place: &mut Place<R>) -> bool
+    ensures told { IsTold number place.old.cells.group place.new.cells.group }
+    ensures heard { HasHeard place.old place.new }
+    ensures answer { result ≡ fits due place.new.cells.group number }
+{
+    spare_of(rt, due, number, place).is_some()
+}
+
+/// How many items more than these each of these subscriptions takes at least; or the first of them that doesn't take
+/// these.
+fn least_spare<R: Wait>(rt: &R, due: u128, waited: &[u64], place: &mut Place<R>) -> Result<u64, u64>
+    ensures heard { HasHeard place.old place.new }
+    ensures each { IfOk result (λ least. (n : ℕ) → In n waited.now
+        → fits (due + least) place.new.cells.group n ≡ true) }
+    ensures none { OnOk result (find (λ n. not (fits due place.new.cells.group n)) waited.now ≡ None) }
+    ensures first { IfErr result
+        (λ number. find (λ n. not (fits due place.new.cells.group n)) waited.now ≡ Some number) }
+{
+    let mut least = u64::MAX;
     for &number in waited {
-        if !takes(rt, due, number, place) {
-            return Some(number);
+        match spare_of(rt, due, number, place) {
+            Some(more) => least = least.min(more),
+            None => return Err(number),
         }
     }
-    None
+    Ok(least)
 }
 
 /// Keeps those that take so many items more.
-fn keep_fitting<R: Wait>(rt: &R, due: u128, waited: &mut Vec<u64>, place: &mut Place<R>) {
+fn keep_fitting<R: Wait>(rt: &R, due: u128, waited: &mut Vec<u64>, place: &mut Place<R>)
+    requires { RisesBy waited_number waited.old.items }
+    ensures heard { HasHeard place.old place.new }
+    ensures kept { waited.new.items ≡ filter (fits due place.new.cells.group) waited.old.items }
+{
     let mut kept = 0;
     for index in 0..waited.len() {
         let number = waited[index];
@@ -249,7 +362,14 @@ fn add_lacking<R: Wait>(
     waited: &[u64],
     place: &mut Place<R>,
     list: &mut Vec<u64>,
-) -> Result<(), NoMemory> {
+) -> Result<(), NoMemory>
+    requires { RisesBy waited_number waited.now }
+    ensures heard { HasHeard place.old place.new }
+    ensures ok { OnOk result (list.new.items
+        ≡ list.old.items ++ filter (λ n. not (fits due place.new.cells.group n)) waited.now) }
+    ensures err { OnErr result (IsPushed (filter (λ n. not (fits due place.new.cells.group n)) waited.now)
+        list.old.items list.new.items) }
+{
     for &number in waited {
         if !takes(rt, due, number, place) {
             list.push(number)?;

@@ -1,5 +1,5 @@
--- What a topic's senders wait for those who take slowly. Times are in nanoseconds, and what waiting costs is in
--- six-hundredths of one, so that a sixtieth of a time and a six-hundredth of it are whole numbers.
+-- What a topic's senders wait for those who take slowly. Times are in nanoseconds, and what waiting costs
+-- is in six-hundredths of one, so that a sixtieth of a time and a six-hundredth of it are whole numbers.
 use Rattle.std.specs.Prelude.{ℕ, ◌<◌, ◌≤◌, [], ◌∷◌, ◌+◌, ◌-◌, ◌*◌, ◌/◌, ◌%◌, nat_lt, nat_le, min, max, Bool, false, not, ◌&&◌, ◌||◌, ◌==◌, List, sum_by, replicate, get_or, slice_set, Option, Some, None, is_some, if◌then◌else◌}
 use Rattle.std.specs.List.{range_with_len}
 use Rattle.broker_server.specs.declared.serving.moment.Moment.{Moment}
@@ -64,11 +64,13 @@ tenth_octets tenths number =
     let t = get_or tenths (number % 11) no_tenth in
     if t.number == number then t.octets else 0
 
--- The same after more octets at this moment: its tenth takes the place of the one that is eleven tenths older, or 22.
+-- The same after more octets at this moment: its tenth takes the place of the one that is eleven tenths
+-- older, or 22.
 abbrev pub tenths_after : List Tenth → Moment → ℕ → List Tenth
 tenths_after tenths now octets =
     let number = now.0 / tenth in
-    slice_set tenths (number % 11) (record { number = number; octets = plus (tenth_octets tenths number) octets })
+    let sum = plus (tenth_octets tenths number) octets in
+    slice_set tenths (number % 11) (record { number = number; octets = sum })
 
 -- how many octets of the tenth that is so many tenths back count: of each tenth at most so many
 abbrev pub counted_octets : List Tenth → Moment → ℕ → ℕ → ℕ
@@ -93,8 +95,8 @@ slow = 65536
 abbrev pub has_rate : ℕ → ℕ → ℕ → Bool
 has_rate octets time wanted = nat_le (wanted * time) (octets * second)
 
--- The octets that were taken lately are so many a second over this time, or more: of each tenth of a second at most
--- twice its share of these counts, rounded up.
+-- The octets that were taken lately are so many a second over this time, or more: of each tenth of a second
+-- at most twice its share of these counts, rounded up.
 abbrev pub is_taking : List Tenth → Moment → ℕ → ℕ → Bool
 is_taking tenths now time wanted = has_rate (lately_taken tenths now (wanted / 5 + 1)) time wanted
 
@@ -102,8 +104,8 @@ is_taking tenths now time wanted = has_rate (lately_taken tenths now (wanted / 5
 abbrev pub pace_price : Bool → Bool → Price
 pace_price is_fast is_slow = if is_fast then Free else if is_slow then Sixtieth else Full
 
--- the price after so long a time of being behind: in the first tenth the one that is known, else by what was taken
--- since it is behind, over a second at most
+-- the price after so long a time of being behind: in the first tenth the one that is known, else by what
+-- was taken since it is behind, over a second at most
 abbrev pub price_behind : Pace → Moment → ℕ → Price
 price_behind pace now time =
     if nat_lt time tenth then pace.known else
@@ -114,7 +116,8 @@ price_behind pace now time =
 abbrev pub price_at : Pace → Moment → Price
 price_at pace now = if is_some pace.since then price_behind pace now (time_since pace.since now) else Free
 
--- the price that is known of one that took so many octets while it was behind for this time, until it had taken all
+-- the price that is known of one that took so many octets while it was behind for this time, until it had
+-- taken all
 abbrev pub known_price : ℕ → ℕ → Price
 known_price octets time =
     if nat_lt time tenth then Free else pace_price (has_rate octets time fast) (has_rate octets time slow)
@@ -149,7 +152,8 @@ after_keeping_up pace = if is_some pace.since then pace else record pace { known
 -- after the connection was passed over
 abbrev pub after_giving_up : Pace → Moment → Pace
 after_giving_up pace now =
-    record pace { given_up = pace.given_up || (is_some pace.since && nat_le tenth (time_since pace.since now)) }
+    let is_long = is_some pace.since && nat_le tenth (time_since pace.since now) in
+    record pace { given_up = pace.given_up || is_long }
 
 -- so many octets in a row are more than the system's buffers hold
 abbrev pub long_streak : ℕ
@@ -165,7 +169,8 @@ full_purse = 600 * second
 abbrev pub least_purse : ℕ
 least_purse = 600 * tenth
 
--- what it lacks at most: who waits looks each tenth of a second, and may then have waited for a tenth more than it held
+-- what it lacks at most: who waits looks each tenth of a second, and may then have waited for a tenth more
+-- than it held
 abbrev pub most_lacking : ℕ
 most_lacking = full_purse + least_purse
 
@@ -192,7 +197,8 @@ lacks_after purse price time =
 -- a purse after the time until this moment, at this price
 abbrev pub after_time : Purse → Moment → Price → Purse
 after_time purse now price =
-    purse_with (record purse { at = later_moment purse.at now }) (lacks_after purse price (now.0 - purse.at.0))
+    purse_with (record purse { at = later_moment purse.at now })
+    (lacks_after purse price (now.0 - purse.at.0))
 
 -- Those that lack room may be waited for.
 abbrev pub may_wait : Purse → Bool
@@ -251,8 +257,9 @@ waited_cost purse (call ∷ calls) =
     cost_of purse (price_until purse call) ((moment_of call).0 - purse.at.0)
     + waited_cost (after_call purse call) calls
 
--- In any stretch of what happens at a topic, all waiting for those that cost something costs a second and a tenth at
--- most, and a six-hundredth of the stretch's time: so that who never reads holds a topic's senders up for no longer.
+-- In any stretch of what happens at a topic, all waiting for those that cost something costs a second and a
+-- tenth at most, and a six-hundredth of the stretch's time: so that who never reads holds a topic's senders
+-- up for no longer.
 abbrev pub IsBounded : Purse → Type 0
 IsBounded purse = (before calls : List PurseCall) → AreInTime (after_calls purse before) calls
     → waited_cost (after_calls purse before) calls
@@ -269,8 +276,8 @@ abbrev pub is_one_moment : Option Moment → Option Moment → Bool
 is_one_moment (Some one) (Some other) = one.0 == other.0
 is_one_moment one other = false
 
--- what it was spared since its connection is behind, with a time that wasn't paid for yet; nothing of what it was spared
--- when its connection was behind before
+-- what it was spared since its connection is behind, with a time that wasn't paid for yet; nothing of what
+-- it was spared when its connection was behind before
 abbrev pub spared_at : Account → Pace → Moment → ℕ → ℕ
 spared_at account pace now unpaid =
     spared_after (if is_one_moment account.behind pace.since then account.spared.0 else 0) (price_at pace now)
@@ -281,8 +288,8 @@ abbrev pub late_since : Moment → Bool → Option Moment → Moment
 late_since now fresh None = now
 late_since now fresh (Some late) = if fresh then now else late
 
--- the price where it lacks room: its connection's, or, where that isn't behind, nothing until its thread has been late
--- for a second
+-- the price where it lacks room: its connection's, or, where that isn't behind, nothing until its thread
+-- has been late for a second
 abbrev pub price_at_look : Account → Pace → Moment → Bool → Price
 price_at_look account pace now fresh =
     if is_some pace.since then price_at pace now else

@@ -1,0 +1,325 @@
+-- Whoever is waited for: numbers that rise, of which each is asked in its turn.
+use Rattle.std.proofs.Common.{◌≡◌, ◌≢◌, ℕ, zero, suc, ◌+◌, ◌<◌, ◌≤◌, ◌==◌, nat_lt, not, ◌&&◌, Bool, true, false, cond, inl, inr, ◌⊎◌, List, [], ◌∷◌, ◌++◌, length, take, drop, get_or, Option, Some, None, refl, sym, ap, subst, ◌∙◌, append-nil, append_assoc, min, IfSome, IfNone, Result, Ok, Err, OnErr, ◌||◌, arith}
+use Rattle.std.specs.List.{AllByRecursion, filter, find, list_any}
+use Rattle.std.proofs.lemmas.Bool.{eq-eqb, eqb-true, ne_eqb, true≢false}
+use Rattle.std.proofs.lemmas.Bool.Decides.{nat_tests}
+use Rattle.std.proofs.lemmas.List.{get_or-drop, take-append-drop, take_all}
+use Rattle.std.proofs.lemmas.List.Elements.{filter-append, filter_more}
+use Rattle.std.proofs.lemmas.List.Filters.{FiltersInPlace}
+use Rattle.std.specs.List.{insert}
+use Rattle.std.specs.Option.{is_some, option_map_or}
+use Rattle.std.specs.Result.{is_ok}
+use Rattle.sub_queue.specs.Shown.{Shown}
+use Rattle.mcast_txn.specs.Lists.{In, RisesBy}
+use Rattle.mcast_txn.proofs.Inserting.{puts_in_gap, rises_inserted}
+use Rattle.mcast_txn.proofs.Members.{In-get_or, any_found, any_from, filter_all, filter_same}
+use Rattle.mcast_txn.proofs.Rising.{Finds, IsAt, IsGap, none_in_gap}
+use Rattle.mcast_group.specs.Group.{GroupState, IsTold}
+use Rattle.broker_locks.specs.Place.{PlaceState}
+use Rattle.broker_locks.specs.Room.{HasHeard, IsPushed, RoomState, due_at, fits, is_waited_for, lacking_room, reserve_answer, room_after_enter, takes_more, waiting_for}
+use Rattle.broker_locks.specs.Inner.Waited.{HaveSpare, waited_number}
+use Rattle.broker_locks.proofs.Hearing.{fits_less, fits_more}
+use Rattle.broker_locks.proofs.Lookups.{shown_beside}
+
+-- ---- lists
+
+-- one that was asked before, or the last
+in_more : (xs : List ℕ) (i : ℕ) (d n : ℕ) → i < length xs → In n (take (suc i) xs) → In n (take i xs) ⊎ (get_or xs i d ≡ n)
+in_more [] i d n h m = absurd (omega (arith, h))
+in_more (x ∷ xs) zero d n h (inl e) = inr e
+in_more (x ∷ xs) zero d n h (inr m) = absurd m
+in_more (x ∷ xs) (suc i) d n h (inl e) = inl (inl e)
+in_more (x ∷ xs) (suc i) d n h (inr m) = elim (in_more xs i d n (omega (arith, h)) m) [ inl k ↦ inl (inr k) | inr e ↦ inr e ]
+
+-- nobody is found where nobody passes
+pub found_none : (p : ℕ → Bool) (xs : List ℕ) → ((n : ℕ) → In n xs → p n ≡ false) → find p xs ≡ None
+found_none p [] h = refl
+found_none p (x ∷ xs) h = let a = h x (inl refl) in let ih = found_none p xs (λ n i. h n (inr i)) in rw (a, ih) refl
+
+-- the first that passes is found
+pub found_first : (p : ℕ → Bool) (xs : List ℕ) (i d : ℕ) → i < length xs → ((n : ℕ) → In n (take i xs) → p n ≡ false) → p (get_or xs i d) ≡ true → find p xs ≡ Some (get_or xs i d)
+found_first p [] i d l h e = absurd (omega (arith, l))
+found_first p (x ∷ xs) zero d l h e = rw e refl
+found_first p (x ∷ xs) (suc i) d l h e =
+    let a = h x (inl refl) in
+    let ih = found_first p xs i d (omega (arith, l)) (λ n m. h n (inr m)) e in
+    rw (a, ih) refl
+
+-- each that was asked before is below
+pub asked_below : (xs : List ℕ) (i d n : ℕ) → RisesBy waited_number xs → i < length xs → In n (take i xs) → n < get_or xs i d
+asked_below [] i d n rises l m = absurd (omega (arith, l))
+asked_below (x ∷ xs) zero d n rises l m = absurd m
+asked_below (x ∷ xs) (suc i) d n rises l (inl e) = subst (λ (z : ℕ). z < get_or xs i d) e (above xs i rises.0 (omega (arith, l)))
+  where
+    above : (ys : List ℕ) (j : ℕ) → AllByRecursion (λ (y : ℕ). x < y) ys → j < length ys → x < get_or ys j d
+    above [] j all k = absurd (omega (arith, k))
+    above (y ∷ ys) zero all k = all.0
+    above (y ∷ ys) (suc j) all k = above ys j all.1 (omega (arith, k))
+asked_below (x ∷ xs) (suc i) d n rises l (inr m) = asked_below xs i d n rises.1 (omega (arith, l)) m
+
+all_filter : (P : ℕ → Type 0) (p : ℕ → Bool) (xs : List ℕ) → AllByRecursion P xs → AllByRecursion P (filter p xs)
+all_filter P p [] all = tt
+all_filter P p (x ∷ xs) all = go (p x) (all_filter P p xs all.1)
+  where
+    go : (b : Bool) → AllByRecursion P (filter p xs) → AllByRecursion P (cond b (x ∷ filter p xs) (filter p xs))
+    go true ih = (all.0, ih)
+    go false ih = ih
+
+-- those that are kept rise
+pub rises_filter : (p : ℕ → Bool) (xs : List ℕ) → RisesBy waited_number xs → RisesBy waited_number (filter p xs)
+rises_filter p [] rises = tt
+rises_filter p (x ∷ xs) rises = go (p x) (rises_filter p xs rises.1)
+  where
+    go : (b : Bool) → RisesBy waited_number (filter p xs) → RisesBy waited_number (cond b (x ∷ filter p xs) (filter p xs))
+    go true ih = (all_filter (λ y. x < y) p xs rises.0, ih)
+    go false ih = ih
+
+-- ---- a number among those that are waited for
+
+-- one that is found is waited for
+pub waited_at : (xs : List ℕ) (n i : ℕ) → IsAt waited_number xs n i → list_any (λ (m : ℕ). m == n) xs ≡ true
+waited_at [] n i at = absurd (omega (arith, at.in_range))
+waited_at (x ∷ xs) n i at =
+    any_from (λ (z : ℕ). z == n) (get_or (x ∷ xs) i x) (x ∷ xs) (In-get_or (x ∷ xs) i x at.in_range) (eq-eqb (get_or (x ∷ xs) i x) n (at.has_key x))
+
+none_waited : (xs : List ℕ) (n : ℕ) → AllByRecursion (λ (m : ℕ). waited_number m ≢ n) xs → list_any (λ (m : ℕ). m == n) xs ≡ false
+none_waited [] n all = refl
+none_waited (x ∷ xs) n all = let a = ne_eqb x n all.0 in let ih = none_waited xs n all.1 in rw (a, ih) refl
+
+-- one for which there is a gap isn't
+pub unwaited_at : (xs : List ℕ) (n i : ℕ) → IsGap waited_number xs n i → list_any (λ (m : ℕ). m == n) xs ≡ false
+unwaited_at xs n i gap = none_waited xs n (none_in_gap waited_number xs n i gap)
+
+-- who is waited for is one of them
+pub waited_in : (xs : List ℕ) (n : ℕ) → list_any (λ (m : ℕ). m == n) xs ≡ true → In n xs
+waited_in xs n e =
+    let f = any_found (λ (m : ℕ). m == n) xs e in
+    subst (λ (m : ℕ). In m xs) (eqb-true f.it n f.passes) f.stands
+
+-- who isn't, isn't
+pub unwaited_other : (xs : List ℕ) (n m : ℕ) → list_any (λ (k : ℕ). k == n) xs ≡ false → In m xs → m ≢ n
+unwaited_other xs n m e i d = true≢false (sym (any_from (λ (k : ℕ). k == n) m xs i (eq-eqb m n d)) ∙ e)
+
+-- ---- each is asked in its turn
+
+-- those who were asked have room, and one more
+pub asked_more : (due : ℕ) (xs : List ℕ) (i d : ℕ) (old new : PlaceState) → HasHeard old new → i < length xs → ((n : ℕ) → In n (take i xs) → fits due old.cells.group n ≡ true)
+    → fits due new.cells.group (get_or xs i d) ≡ true → (n : ℕ) → In n (take (i + 1) xs) → fits due new.cells.group n ≡ true
+asked_more due xs i d old new heard l asked e n m =
+    let next : i + 1 ≡ suc i = omega arith in
+    let k : In n (take (suc i) xs) = subst (λ (j : ℕ). In n (take j xs)) next m in
+    elim (in_more xs i d n l k) [
+      | inl o ↦ fits_more due n old.cells.group new.cells.group (heard.each n) (asked n o)
+      | inr is ↦ subst (λ (j : ℕ). fits due new.cells.group j ≡ true) is e
+    ]
+
+-- those who were asked, and one more, have the least spare of all
+pub spare_more : (due : ℕ) (xs : List ℕ) (i d least more : ℕ) (old new : PlaceState) → HasHeard old new → i < length xs → ((n : ℕ) → In n (take i xs) → fits (due + least) old.cells.group n ≡ true)
+    → fits (due + more) new.cells.group (get_or xs i d) ≡ true → (n : ℕ) → In n (take (i + 1) xs) → fits (due + min least more) new.cells.group n ≡ true
+spare_more due xs i d least more old new heard l asked e =
+    let fewer : due + min least more ≤ due + least = omega arith in
+    let fewer_here : due + min least more ≤ due + more = omega arith in
+    asked_more (due + min least more) xs i d old new heard l
+    (λ n m. fits_less (due + min least more) (due + least) old.cells.group n fewer (asked n m))
+    (fits_less (due + min least more) (due + more) new.cells.group (get_or xs i d) fewer_here e)
+
+-- the first who has none is found
+pub first_found : (due : ℕ) (xs : List ℕ) (i d least : ℕ) (old new : PlaceState) → HasHeard old new → i < length xs → ((n : ℕ) → In n (take i xs) → fits (due + least) old.cells.group n ≡ true)
+    → fits due new.cells.group (get_or xs i d) ≡ false → find (λ n. not (fits due new.cells.group n)) xs ≡ Some (get_or xs i d)
+first_found due xs i d least old new heard l asked e =
+    let fewer : due ≤ due + least = omega arith in
+    found_first (λ n. not (fits due new.cells.group n)) xs i d l (λ n m. ap not (fits_more due n old.cells.group new.cells.group (heard.each n) (fits_less due (due + least) old.cells.group n fewer (asked n m)))) (ap not e)
+
+-- all were asked
+pub all_asked : (due : ℕ) (xs : List ℕ) (i : ℕ) (g : GroupState) → length xs ≤ i → ((n : ℕ) → In n (take i xs) → fits due g n ≡ true) → (n : ℕ) → In n xs → fits due g n ≡ true
+all_asked due xs i g l asked n m = asked n (subst (In n) (sym (take_all i xs l)) m)
+
+-- where all have room, nobody is found
+pub nobody_found : (due least : ℕ) (xs : List ℕ) (g : GroupState) → ((n : ℕ) → In n xs → fits (due + least) g n ≡ true) → find (λ n. not (fits due g n)) xs ≡ None
+nobody_found due least xs g asked =
+    let fewer : due ≤ due + least = omega arith in
+    found_none (λ n. not (fits due g n)) xs (λ n m. ap not (fits_less due (due + least) g n fewer (asked n m)))
+
+-- whether there is a spare says whether it fits
+pub spare_says : (due n : ℕ) (g : GroupState) (o : Option ℕ) → IfSome o (λ more. fits (due + more) g n ≡ true) → IfNone o (fits due g n ≡ false) → is_some o ≡ fits due g n
+spare_says due n g None some none = sym none
+spare_says due n g (Some more) some none = let fewer : due ≤ due + more = omega arith in sym (fits_less due (due + more) g n fewer some)
+
+-- a reservation of the spare is allowed
+pub spare_answers : (capacity spare : ℕ) (state : RoomState) (g : GroupState) → due_at state g < capacity → 0 < spare → HaveSpare spare state g → Ok tt ≡ reserve_answer capacity state g
+spare_answers capacity spare state g less some have =
+    let fewer : due_at state g + 1 ≤ due_at state g + spare = omega (arith, some) in
+    let nobody = found_none (λ n. not (fits (due_at state g + 1) g n)) state.waited (λ n m. ap not (fits_less (due_at state g + 1) (due_at state g + spare) g n fewer (have n m))) in
+    let many : nat_lt (due_at state g) capacity ≡ true = grind (arith, nat_tests) in
+    rw (many, nobody) refl
+
+-- where all have room, nobody is passed over
+pub spare_passes : (with_reserved : Bool) (state : RoomState) (g : GroupState) → (with_reserved && nat_lt 0 state.reserved) ≡ false → HaveSpare 0 state g → state ≡ room_after_enter with_reserved g state
+spare_passes with_reserved state g none have =
+    let plain : due_at state g + 0 ≡ due_at state g = omega arith in
+    let all = filter_all (fits (due_at state g) g) state.waited (λ n m. subst (λ (k : ℕ). fits k g n ≡ true) plain (have n m)) in
+    rw none (ap (λ (ns : List ℕ). record { reserved = state.reserved; waited = ns }) (sym all))
+
+-- who was asked before shows the same as another is told
+pub told_same : (due : ℕ) (number n : ℕ) (g new : GroupState) → IsTold number g new → number ≢ n → fits due new n ≡ fits due g n
+told_same due number n g new told differ =
+    ap (λ (z : GroupState). fits due z n) told.2
+    ∙ ap (λ (o : Option Shown). option_map_or (takes_more due) o false) (shown_beside number n told.0 g differ)
+
+-- those who were asked before fit as before
+pub asked_same : (due : ℕ) (xs : List ℕ) (i d : ℕ) (g new : GroupState) → RisesBy waited_number xs → i < length xs → IsTold (get_or xs i d) g new → (n : ℕ) → In n (take i xs) → fits due new n ≡ fits due g n
+asked_same due xs i d g new rises l told n m = told_same due (get_or xs i d) n g new told (λ e. (let below = asked_below xs i d n rises l m in omega (arith, below, e)))
+
+-- they are kept as before
+pub still_filtered : (due : ℕ) (xs ys : List ℕ) (k i d : ℕ) (g new : GroupState) → RisesBy waited_number xs → i < length xs → IsTold (get_or xs i d) g new → FiltersInPlace (fits due g) xs ys k i → FiltersInPlace (fits due new) xs ys k i
+still_filtered due xs ys k i d g new rises l told h = record {
+  front = h.front ∙ filter_same (fits due g) (fits due new) (take i xs) (λ n m. sym (asked_same due xs i d g new rises l told n m));
+  rest = h.rest;
+  behind = h.behind;
+  within = h.within;
+  long = h.long;
+}
+
+-- the same, as the places in front are filled
+pub kept_told : (due : ℕ) (xs ys : List ℕ) (k i x : ℕ) (g new : GroupState) → RisesBy waited_number xs → i < length ys → x ≡ get_or ys i x → IsTold x g new → FiltersInPlace (fits due g) xs ys k i → FiltersInPlace (fits due new) xs ys k i
+kept_told due xs ys k i x g new rises l is told h =
+    let plain : i + 0 ≡ i = omega arith in
+    let at : (zs : List ℕ) → get_or (drop i zs) 0 x ≡ get_or zs i x = λ (zs : List ℕ). get_or-drop i zs 0 x ∙ ap (λ (j : ℕ). get_or zs j x) plain in
+    let read : x ≡ get_or xs i x = is ∙ (sym (at ys) ∙ (ap (λ (zs : List ℕ). get_or zs 0 x) h.rest ∙ at xs)) in
+    still_filtered due xs ys k i x g new rises (omega (arith, l, h.long)) (subst (λ (n : ℕ). IsTold n g new) read told) h
+
+-- the numbers that lack room
+abbrev pub lack : ℕ → GroupState → List ℕ → List ℕ
+lack due g xs = filter (λ n. not (fits due g n)) xs
+
+-- they lack it as before
+pub still_lack : (due : ℕ) (xs : List ℕ) (i d : ℕ) (g new : GroupState) → RisesBy waited_number xs → i < length xs → IsTold (get_or xs i d) g new → lack due new (take i xs) ≡ lack due g (take i xs)
+still_lack due xs i d g new rises l told = filter_same _ _ (take i xs) (λ n m. ap not (asked_same due xs i d g new rises l told n m))
+
+-- the first of them, and the others
+pub lack_parts : (due : ℕ) (g : GroupState) (xs : List ℕ) (i : ℕ) → lack due g xs ≡ lack due g (take i xs) ++ lack due g (drop i xs)
+lack_parts due g xs i = ap (lack due g) (sym (take-append-drop i xs)) ∙ filter-append (λ n. not (fits due g n)) (take i xs) (drop i xs)
+
+-- ---- one more, and one less
+
+-- whether a search finds it says whether it is waited for
+pub search_is : (xs : List ℕ) (n : ℕ) (r : Result ℕ ℕ) → Finds waited_number xs n r → is_ok r ≡ list_any (λ (m : ℕ). m == n) xs
+search_is xs n (Ok i) h = sym (waited_at xs n i h.found)
+search_is xs n (Err i) h = sym (unwaited_at xs n i h.absent)
+
+-- they rise with one more
+pub put_rises : (b : Bool) (xs ys : List ℕ) (i n : ℕ) → IsGap waited_number xs n i → RisesBy waited_number xs → ys ≡ cond b (insert xs i n) xs → RisesBy waited_number ys
+put_rises true xs ys i n gap rises e =
+    subst (RisesBy waited_number) (sym (e ∙ puts_in_gap waited_number xs i n gap))
+    (rises_inserted waited_number n xs rises (λ m k. unwaited_other xs n m (unwaited_at xs n i gap) k))
+put_rises false xs ys i n gap rises e = subst (RisesBy waited_number) (sym e) rises
+
+-- and are those with it
+pub put_waits : (state : RoomState) (b : Bool) (ys : List ℕ) (i n : ℕ) → IsGap waited_number state.waited n i → ys ≡ cond b (insert state.waited i n) state.waited → b ≡ true → record { reserved = state.reserved; waited = ys } ≡ waiting_for n state
+put_waits state true ys i n gap e k =
+    let unwaited : is_waited_for n state ≡ false = unwaited_at state.waited n i gap in
+    rw unwaited (ap (λ (zs : List ℕ). record { reserved = state.reserved; waited = zs }) (e ∙ puts_in_gap waited_number state.waited i n gap))
+put_waits state false ys i n gap e k = absurd (true≢false (sym k))
+
+-- ---- who lacks room
+
+any_filtered : (p : ℕ → Bool) (n : ℕ) (xs : List ℕ) → list_any (λ (m : ℕ). m == n) (filter p xs) ≡ (p n && list_any (λ (m : ℕ). m == n) xs)
+any_filtered p n [] = go (p n)
+  where
+    go : (b : Bool) → false ≡ (b && false)
+    go true = refl
+    go false = refl
+any_filtered p n (x ∷ xs) = go (p x) refl (x == n) refl (p n) refl (any_filtered p n xs)
+  where
+    same : (x == n) ≡ true → p x ≡ p n
+    same k = ap p (eqb-true x n k)
+
+    go : (b : Bool) → p x ≡ b → (c : Bool) → (x == n) ≡ c → (d : Bool) → p n ≡ d → list_any (λ (m : ℕ). m == n) (filter p xs) ≡ (d && list_any (λ (m : ℕ). m == n) xs)
+        → list_any (λ (m : ℕ). m == n) (cond b (x ∷ filter p xs) (filter p xs)) ≡ (d && (c || list_any (λ (m : ℕ). m == n) xs))
+    go true e true k true l ih = rw k refl
+    go true e true k false l ih = absurd (true≢false (sym e ∙ (same k ∙ l)))
+    go true e false k true l ih = rw k ih
+    go true e false k false l ih = rw k ih
+    go false e true k true l ih = absurd (true≢false (sym l ∙ (sym (same k) ∙ e)))
+    go false e true k false l ih = ih
+    go false e false k true l ih = ih
+    go false e false k false l ih = ih
+
+-- who lacks room, of whom this is known
+pub lacks : (capacity : ℕ) (g : GroupState) (state : RoomState) (n : ℕ) → list_any (λ (m : ℕ). m == n) (lacking_room capacity g state) ≡ (nat_lt (due_at state g) capacity && (not (fits (due_at state g + 1) g n) && is_waited_for n state))
+lacks capacity g state n = go (nat_lt (due_at state g) capacity)
+  where
+    go : (b : Bool) → list_any (λ (m : ℕ). m == n) (cond b (filter (λ (m : ℕ). not (fits (due_at state g + 1) g m)) state.waited) []) ≡ (b && (not (fits (due_at state g + 1) g n) && is_waited_for n state))
+    go true = any_filtered (λ (m : ℕ). not (fits (due_at state g + 1) g m)) n state.waited
+    go false = refl
+
+-- as many are due as before it was heard
+pub due_heard : (state : RoomState) (old new : PlaceState) → HasHeard old new → due_at state new.cells.group ≡ due_at state old.cells.group
+due_heard state old new h = ap (λ x. length x.pending + state.reserved) h.topic
+
+-- ---- those that lack it, added to a list
+
+-- one more of them
+pub lack_one : (due : ℕ) (xs : List ℕ) (i d : ℕ) (g new : GroupState) (base list : List ℕ) → RisesBy waited_number xs → i < length xs → IsTold (get_or xs i d) g new → fits due new (get_or xs i d) ≡ false
+    → list ≡ base ++ lack due g (take i xs) → list ++ get_or xs i d ∷ [] ≡ base ++ lack due new (take (i + 1) xs)
+lack_one due xs i d g new base list rises l told e is =
+    let x = get_or xs i d in
+    let here : cond (not (fits due new x)) (x ∷ []) [] ≡ x ∷ [] = ap (λ (b : Bool). cond (not b) (x ∷ []) []) e in
+    let more : lack due new (take (i + 1) xs) ≡ lack due new (take i xs) ++ x ∷ [] = filter_more (λ n. not (fits due new n)) xs i d l ∙ ap (λ (ys : List ℕ). lack due new (take i xs) ++ ys) here in
+    ap (λ (ys : List ℕ). ys ++ x ∷ []) (is ∙ ap (λ (ys : List ℕ). base ++ ys) (sym (still_lack due xs i d g new rises l told)))
+    ∙ (append_assoc base (lack due new (take i xs)) (x ∷ []) ∙ ap (λ (ys : List ℕ). base ++ ys) (sym more))
+
+-- one that has room isn't
+pub lack_none : (due : ℕ) (xs : List ℕ) (i d : ℕ) (g new : GroupState) (base list : List ℕ) → RisesBy waited_number xs → i < length xs → IsTold (get_or xs i d) g new → fits due new (get_or xs i d) ≡ true
+    → list ≡ base ++ lack due g (take i xs) → list ≡ base ++ lack due new (take (i + 1) xs)
+lack_none due xs i d g new base list rises l told e is =
+    let x = get_or xs i d in
+    let here : cond (not (fits due new x)) (x ∷ []) [] ≡ [] = ap (λ (b : Bool). cond (not b) (x ∷ []) []) e in
+    let more : lack due new (take (i + 1) xs) ≡ lack due new (take i xs) = filter_more (λ n. not (fits due new n)) xs i d l ∙ (ap (λ (ys : List ℕ). lack due new (take i xs) ++ ys) here ∙ append-nil (lack due new (take i xs))) in
+    is ∙ ap (λ (ys : List ℕ). base ++ ys) (sym (still_lack due xs i d g new rises l told) ∙ sym more)
+
+-- the first of them were added
+pub pushed_first : (due : ℕ) (xs : List ℕ) (i d : ℕ) (g new : GroupState) (base list : List ℕ) → RisesBy waited_number xs → i < length xs → IsTold (get_or xs i d) g new
+    → list ≡ base ++ lack due g (take i xs) → IsPushed (lack due new xs) base list
+pushed_first due xs i d g new base list rises l told is =
+    (lack due new (take i xs), lack due new (drop i xs), lack_parts due new xs i, is ∙ ap (λ (ys : List ℕ). base ++ ys) (sym (still_lack due xs i d g new rises l told)))
+
+-- what holds anyway holds on an error
+pub on_err_anyway : {A E : Type 0} {P : Type 0} (r : Result A E) → P → OnErr r P
+on_err_anyway (Ok a) p = tt
+on_err_anyway (Err e) p = p
+
+-- nobody lacks room where as many are due as there is room for
+pub lacks_full : (capacity : ℕ) (g : GroupState) (state : RoomState) (n : ℕ) → capacity ≤ due_at state g → false ≡ list_any (λ (m : ℕ). m == n) (lacking_room capacity g state)
+lacks_full capacity g state n le =
+    let many : nat_lt (due_at state g) capacity ≡ false = grind (arith, nat_tests) in
+    sym (lacks capacity g state n ∙ ap (λ (b : Bool). b && (not (fits (due_at state g + 1) g n) && is_waited_for n state)) many)
+
+-- one that isn't waited for doesn't lack it
+pub lacks_unwaited : (capacity : ℕ) (g : GroupState) (state : RoomState) (n : ℕ) → is_waited_for n state ≡ false → false ≡ list_any (λ (m : ℕ). m == n) (lacking_room capacity g state)
+lacks_unwaited capacity g state n e =
+    sym (lacks capacity g state n ∙ (ap (λ (w : Bool). nat_lt (due_at state g) capacity && (not (fits (due_at state g + 1) g n) && w)) e ∙ go (nat_lt (due_at state g) capacity) (fits (due_at state g + 1) g n)))
+  where
+    go : (b c : Bool) → (b && (not c && false)) ≡ false
+    go true true = refl
+    go true false = refl
+    go false c = refl
+
+-- nor does one that has it
+pub lacks_fitting : (capacity due : ℕ) (g : GroupState) (state : RoomState) (n : ℕ) → due ≡ due_at state g → fits (due + 1) g n ≡ true → false ≡ list_any (λ (m : ℕ). m == n) (lacking_room capacity g state)
+lacks_fitting capacity due g state n d e =
+    let f : fits (due_at state g + 1) g n ≡ true = subst (λ (k : ℕ). fits (k + 1) g n ≡ true) d e in
+    sym (lacks capacity g state n ∙ (ap (λ (w : Bool). nat_lt (due_at state g) capacity && (not w && is_waited_for n state)) f ∙ go (nat_lt (due_at state g) capacity)))
+  where
+    go : (b : Bool) → (b && false) ≡ false
+    go true = refl
+    go false = refl
+
+-- one that is waited for and has none does
+pub lacks_one : (capacity due : ℕ) (g : GroupState) (state : RoomState) (n : ℕ) → due ≡ due_at state g → due < capacity → is_waited_for n state ≡ true → fits (due + 1) g n ≡ false → true ≡ list_any (λ (m : ℕ). m == n) (lacking_room capacity g state)
+lacks_one capacity due g state n d less w e =
+    let f : fits (due_at state g + 1) g n ≡ false = subst (λ (k : ℕ). fits (k + 1) g n ≡ false) d e in
+    let some : due_at state g < capacity = omega (arith, less, d) in
+    let many : nat_lt (due_at state g) capacity ≡ true = grind (arith, nat_tests) in
+    sym (lacks capacity g state n ∙ (ap (λ (b : Bool). b && (not (fits (due_at state g + 1) g n) && is_waited_for n state)) many
+    ∙ (ap (λ (b : Bool). not b && is_waited_for n state) f ∙ w)))
