@@ -1,7 +1,7 @@
 //! By what connections ended.
 
 ghost use Rattle.std.specs.Prelude.{◌≡◌};
-ghost use Rattle.broker_server.specs.Counts.{plus};
+ghost use Rattle.broker_server.specs.Figures.{endings_with};
 
 use crate::conversation::{ConversationFault, Exit};
 use crate::serving::why_left::WhyLeft;
@@ -41,7 +41,9 @@ impl Endings {
     }
 
     /// One more ended so.
-    pub(crate) fn add(&mut self, left: &WhyLeft) {
+    pub(crate) fn add(&mut self, left: &WhyLeft)
+        ensures { self.new ≡ endings_with left.now self.old }
+    {
         let count = match left {
             WhyLeft::By(Exit::Disconnect, _) => &mut self.disconnect,
             WhyLeft::By(Exit::Error(ConversationFault::Lagged { .. }), _) | WhyLeft::Untaken => {
