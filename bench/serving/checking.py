@@ -6,8 +6,9 @@ import measuring
 import rows
 from servers import OUT, Server
 
-# One short run: a slow server is given time, and a quick one no more than so many messages of each publisher.
+# One short run: a slow server is given time, and a quick one no more than so many messages of each publisher. A burst is sent whole.
 SHORT = ["warm=0", "measured=400", "patience=15000", "most=20000", "whole"]
+SHORT_OF_BURST = ["measured=400", "patience=15000", "whole"]
 IDLE_SECONDS = 0.1
 
 # What a wrong server does, the row that shows it, what has to be told of it, and whether nothing else may be.
@@ -26,7 +27,7 @@ ALL = (*measuring.FAULTS, "split", "disagreeing")
 
 def run_load(server, row, prefix, is_strict):
     """One short run, what it came to, and why it isn't right; None where it is."""
-    report = measuring.load(server, row, prefix, SHORT)
+    report = measuring.load(server, row, prefix, SHORT_OF_BURST if row.kind == "burst" else SHORT)
     fault = measuring.order_fault(report, is_strict)
     came = f"{report.get('all_came', 0):,} deliveries"
     if fault is None and not report["all_came"]:
@@ -65,7 +66,7 @@ def check(chosen, programs, strict):
     good = [
         check_row(row, f"r{at}t", name, program, name == strict)
         for at, row in enumerate(chosen)
-        for name, program in programs.items()
+        for name, program in rows.programs_for(row, programs).items()
     ]
     good += [check_wrong(does) for does in WRONG]
     print(f"{sum(good)} of {len(good)} as they should be")

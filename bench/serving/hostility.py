@@ -1,17 +1,14 @@
 """What bench/hostile does to a server. Each row is a function of a Trial; it returns what it measured, in words, and says by
 `trial.expect` what has to be so."""
 
-import json
-import os
+import itertools
 import socket
 import statistics
-import subprocess
 import threading
 import time
 
 from client import Client, Ended, error_of, exchange, send_frame, subscribe
-from measuring import order_fault
-from servers import OUT
+from steady import load
 
 # The limits of docs/PROTOCOL.md and docs/PROGRAMS.md.
 MOST_CONNECTIONS = 256
@@ -24,7 +21,10 @@ MOST_TOPICS = 1024
 
 TOPICS = [b"/topic/T%d" % at for at in range(64)]
 MINE = b"/topic/own0"
-NAMES = [it.decode() for it in (*TOPICS, MINE)]
+# Topics that one row uses alone, each /topic/ with this and 0 behind it, as the load generator names its first.
+ALONE = [f"alone{at}." for at in range(64)]
+NAMES = [*(it.decode() for it in (*TOPICS, MINE)), *(f"/topic/{it}0" for it in ALONE)]
+NOT_USED = itertools.cycle(ALONE)
 
 
 class Trial:
@@ -36,6 +36,11 @@ class Trial:
     def part(self, count):
         """A count, or of a slow build a part of it."""
         return max(1, count // self.parts)
+
+    def topic_alone(self):
+        """A topic of this row, if there are enough of them: the load generator's prefix, and its name."""
+        prefix = next(NOT_USED)
+        return prefix, b"/topic/%s0" % prefix.encode()
 
     def expect(self, is_so, what):
         if not is_so:
@@ -100,11 +105,7 @@ def rate_of_another(trial, runs=5, milliseconds=500):
 
 def rate_once(trial, milliseconds):
     """What one connection that sends to itself gets, a second."""
-    words = [f"port={trial.address[1]}", f"process={trial.server.number}", "own", "prefix=own", f"measured={milliseconds}"]
-    done = subprocess.run([os.path.join(OUT, "load"), *words], stdout=subprocess.PIPE, timeout=120, check=True)
-    report = json.loads(done.stdout)
-    fault = order_fault(report, True)
-    trial.expect(fault is None, f"another connection: {fault}")
+    report = load(trial, "own", "own", f"measured={milliseconds}")
     return report["came"] / report["time"] * 1e9 if report["time"] else 0.0
 
 

@@ -1,6 +1,6 @@
-/* The load generator and checker of bench/serve: sends by windows or by the clock, on one thread over epoll, and sees that each
- * message comes at each who is to get it, once and in its publisher's order; and whether transactions are whole and all
- * streams in one order. It writes one line, of JSON. Plans are in plan.h.
+/* The load generator and checker of bench/serve: sends by windows, by the clock or without waiting, on one thread over epoll, and sees
+ * that each message comes at each who is to get it, once and in its publisher's order; and whether transactions are whole and
+ * all streams in one order. It writes one line, of JSON. Plans are in plan.h.
  *     load port=N process=N [NAME=VALUE..] */
 #define _GNU_SOURCE
 #include "client.h"
@@ -61,6 +61,13 @@ static void watch(int descriptor, struct client *it)
     epoll_ctl(poller, EPOLL_CTL_ADD, descriptor, &event);
 }
 
+/* Puts what each publisher may send now; it is written once its socket is said to be writable. */
+static void fill_all(int64_t now)
+{
+    for (int at = 0; at < plan.publishers; at++)
+        publishers_fill(&plan, at, now);
+}
+
 static void start(void)
 {
     struct itimerspec every = {.it_interval.tv_nsec = MILLISECOND, .it_value.tv_nsec = MILLISECOND};
@@ -74,6 +81,8 @@ static void start(void)
         timerfd_settime(timer, 0, &every, NULL);
         watch(timer, NULL);
     }
+    if (plan.burst)
+        fill_all(clock_now());
     begun = clock_now();
     measured_begin(&plan, begun);
 }
@@ -111,6 +120,8 @@ static void hear_frames(struct client *client, int64_t now)
             return;
         if (TEXT_IS(frame.command, "MESSAGE"))
             hear_message(client, &frame, now);
+        else if (plan.receipts && client->publisher >= 0 && TEXT_IS(frame.command, "RECEIPT"))
+            publishers[client->publisher].receipts++;
         else
             client_fail("it answered ", TEXT_IS(frame.command, "ERROR") ? frame.message : frame.command);
         in->from += size;
@@ -165,6 +176,7 @@ static bool is_given_up(int64_t now)
 static void run(void)
 {
     int64_t now = begun;
+    measured_tick(&plan, now);
     while (!measured_is_over(now) && !is_given_up(now) && !publishers_sent_all(&plan)) {
         send_all(now);
         now = wait();

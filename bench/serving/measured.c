@@ -11,7 +11,10 @@
 #include <stdlib.h>
 #include <unistd.h>
 
-enum { MOST_TIMES = 1 << 20 };
+enum { MOST_TIMES = 1 << 20, MOST_SECONDS = 600 };
+
+/* A stream stands still where nothing comes for so long. */
+enum { STILL = 50 * MILLISECOND };
 
 /* From when to when; how many messages came before, and between; processor time of the server and of this program. */
 static struct {
@@ -19,7 +22,11 @@ static struct {
     int64_t from, to, before, came, server, own;
 } measured;
 
-static int64_t came, last;
+/* How many messages came, when the run began and the last one came, and how long the streams together stood still. */
+static int64_t came, begun, last, still;
+
+/* How many messages came in each second of the run. */
+static int64_t seconds[MOST_SECONDS];
 
 /* By the clock how long each message took, where the plan has a rate. */
 static int64_t *times;
@@ -27,7 +34,7 @@ static size_t count_of_times;
 
 void measured_begin(const struct plan *plan, int64_t now)
 {
-    last = now;
+    begun = last = now;
     measured.from = now + (int64_t)plan->warm * MILLISECOND;
     measured.to = INT64_MAX;
     if (plan->rate > 0)
@@ -37,7 +44,10 @@ void measured_begin(const struct plan *plan, int64_t now)
 void measured_hear(int64_t sent, int64_t now)
 {
     came++;
+    still += now - last >= STILL ? now - last : 0;
     last = now;
+    if (now - begun < (int64_t)MOST_SECONDS * SECOND)
+        seconds[(now - begun) / SECOND]++;
     if (times != NULL && measured.has_begun && count_of_times < MOST_TIMES)
         times[count_of_times++] = now - sent;
 }
@@ -99,8 +109,19 @@ static void put_measured(void)
     put("time", measured.to - measured.from);
     put("server", measured.server);
     put("own", measured.own);
+    put("last", last - begun);
+    put("still", still);
     put("p50", time_of(50));
     put("p99", time_of(99));
+}
+
+/* Of each second until the last message. */
+static void put_seconds(void)
+{
+    printf(", \"seconds\": [%" PRId64, seconds[0]);
+    for (int at = 1; at < MOST_SECONDS && at <= (last - begun) / SECOND; at++)
+        printf(", %" PRId64, seconds[at]);
+    printf("]");
 }
 
 static void put_faults(const struct plan *plan)
@@ -125,6 +146,7 @@ void measured_report(const struct plan *plan, const char *trouble)
 {
     printf("{\"trouble\": \"%s\"", trouble);
     put_measured();
+    put_seconds();
     put_faults(plan);
     printf("}\n");
 }

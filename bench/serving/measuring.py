@@ -75,6 +75,8 @@ def figures(report, row):
     found = {"cost": report["server"] / report["came"] / 1e3, "busy": report["own"] / report["time"]}
     if row.kind == "latency":
         return {"p50": report["p50"] / 1e3, "p99": report["p99"] / 1e3, **found}
+    if row.kind == "burst":
+        return {"rate": report["all_came"] / report["last"] * 1e9, "last": report["last"] / 1e6, **found}
     return {"rate": report["came"] / report["time"] * 1e9, **found}
 
 

@@ -28,11 +28,11 @@ static const struct number NUMBERS[] = {
     {"each", 1, 64, PLACE(each)},
     {"topics", 1, 1024, PLACE(topics)},
     {"size", 16, 1 << 20, PLACE(size)},
-    {"window", 1, 1024, PLACE(window)},
+    {"window", 1, 1 << 20, PLACE(window)},
     {"sends", 1, 64, PLACE(sends)},
     {"rate", 0, 100000, PLACE(rate)},
     {"warm", 0, 60000, PLACE(warm)},
-    {"measured", 1, 60000, PLACE(measured)},
+    {"measured", 1, 600000, PLACE(measured)},
     {"patience", 1, 60000, PLACE(patience)},
 };
 
@@ -62,6 +62,12 @@ static void keep(struct plan *plan, const char *word)
         plan->own = true;
     else if (strcmp(word, "whole") == 0)
         plan->whole = true;
+    else if (strcmp(word, "burst") == 0)
+        plan->burst = true;
+    else if (strcmp(word, "unpaced") == 0)
+        plan->unpaced = true;
+    else if (strcmp(word, "receipts") == 0)
+        plan->receipts = true;
     else if (equals != NULL && strncmp(word, "prefix=", 7) == 0)
         plan->prefix = equals + 1;
     else if (equals != NULL && strncmp(word, "most=", 5) == 0)

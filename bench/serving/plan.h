@@ -19,6 +19,13 @@ struct plan {
     int size;
     /* Messages of a publisher that may be on their way at once. */
     int window;
+    /* Whether all that the window lets a publisher send is put before the time begins, so that it is written at once. */
+    bool burst;
+    /* Whether a publisher puts more only once little waits to be written: with a large window it goes as fast as the server
+     * takes it, and that window isn't put at once. */
+    bool unpaced;
+    /* Whether a publisher waits for the RECEIPT of each SEND or COMMIT before it goes on. */
+    bool receipts;
     /* SENDs of a transaction; 1: they are sent without one. */
     int sends;
     /* Messages that each publisher sends in a second; 0: as many as the window lets it. */

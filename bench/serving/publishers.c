@@ -7,6 +7,12 @@
 
 enum { DIGITS = 16, OF_PUBLISHER = 4 };
 
+/* Octets that wait to be written, from which on an unpaced publisher puts no more. */
+enum { AHEAD = 1 << 18 };
+
+/* The header line that asks for a RECEIPT. */
+#define RECEIPT "receipt:r\n"
+
 struct publisher *publishers;
 
 /* For each topic the front of a SEND to it and how many subscriptions it has; what is between front and body; the body's rest. */
@@ -69,6 +75,8 @@ static void put_message(const struct plan *plan, int number, int64_t k)
         int size = snprintf(line, sizeof line, "transaction:t%lld\n", (long long)(k / plan->sends));
         octets_put(out, line, (size_t)size);
     }
+    if (plan->receipts && plan->sends == 1)
+        OCTETS_PUT(out, RECEIPT);
     octets_put(out, length_line.start, octets_size(&length_line));
     put_hex(digits, (uint64_t)number, OF_PUBLISHER);
     put_hex(digits + OF_PUBLISHER, (uint64_t)k, DIGITS - OF_PUBLISHER);
@@ -77,17 +85,21 @@ static void put_message(const struct plan *plan, int number, int64_t k)
     octets_put(out, "", 1);
 }
 
-/* Puts a BEGIN or a COMMIT. */
-static void put_bound(struct publisher *it, const char *command, int64_t transaction)
+/* Puts a BEGIN or a COMMIT, with a header line. */
+static void put_bound(struct publisher *it, const char *command, int64_t transaction, const char *more)
 {
     char text[80];
-    int size = snprintf(text, sizeof text, "%s\ntransaction:t%lld\n\n", command, (long long)transaction);
+    int size = snprintf(text, sizeof text, "%s\ntransaction:t%lld\n%s\n", command, (long long)transaction, more);
     octets_put(&it->client->out, text, (size_t)size + 1);
 }
 
 static bool may_send(const struct plan *plan, const struct publisher *it)
 {
     int64_t then = it->sent + plan->sends;
+    if (plan->unpaced && octets_size(&it->client->out) >= AHEAD)
+        return false;
+    if (plan->receipts && it->sent > it->receipts * plan->sends)
+        return false;
     return then - it->done <= plan->window && then <= plan->most && (plan->rate == 0 || then <= it->due);
 }
 
@@ -96,7 +108,7 @@ static void put_transaction(const struct plan *plan, int number, int64_t now)
     struct publisher *it = &publishers[number];
     int64_t transaction = it->sent / plan->sends;
     if (plan->sends > 1)
-        put_bound(it, "BEGIN", transaction);
+        put_bound(it, "BEGIN", transaction, "");
     for (int place = 0; place < plan->sends; place++) {
         int64_t k = it->sent + place;
         put_message(plan, number, k);
@@ -104,7 +116,7 @@ static void put_transaction(const struct plan *plan, int number, int64_t now)
         it->times[k % plan->window] = now;
     }
     if (plan->sends > 1)
-        put_bound(it, "COMMIT", transaction);
+        put_bound(it, "COMMIT", transaction, plan->receipts ? RECEIPT : "");
     it->sent += plan->sends;
 }
 

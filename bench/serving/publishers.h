@@ -11,8 +11,8 @@ struct publisher {
     struct client *client;
     /* How many messages it has sent, and how many of them, from the first, came at all who are to get them. */
     int64_t sent, done;
-    /* How many it may have sent by now, where it sends by the clock. */
-    int64_t due;
+    /* How many it may have sent by now, where it sends by the clock; how many RECEIPTs it got. */
+    int64_t due, receipts;
     /* Of a message that is on its way, by its number mod the window: where it is still to come, and when it was sent. */
     int *left;
     int64_t *times;

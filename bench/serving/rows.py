@@ -1,12 +1,19 @@
 """The rows of bench/serve."""
 
 import collections
+import itertools
 
 # A row's words are the load generator's plan (plan.h). A growth is the group of rows that are compared with one of them.
 Row = collections.namedtuple("Row", "name words topics kind growth", defaults=(1, "rate", None))
 
-# The octets of a transaction's bodies.
+# The octets of a transaction's bodies, and how many SENDs it has.
 IN_TRANSACTION = 64
+SENDS = 4
+
+# The octets of a burst's bodies, how many of the largest all senders send together, and a run that ends once all came.
+SIZES = {16: "16 octets", 1024: "1 KiB", 20000: "20,000 octets"}
+OF_LARGEST = 80_000_000
+UNTIL_ALL_CAME = "warm=0 measured=150000"
 
 IDLE = 256
 
@@ -19,10 +26,33 @@ def loads():
     yield Row("1 to 1, 16 octets, window 1", "size=16 window=1")
     yield Row("1 to 16, 1 KiB", "size=1024 readers=16")
     yield Row("8 to 8, 4 topics, 256 octets", "size=256 publishers=8 readers=8 topics=4", 4)
-    pair = f"size={IN_TRANSACTION} sends=4 topics=2 each=2"
+    pair = f"size={IN_TRANSACTION} sends={SENDS} topics=2 each=2"
     yield Row("transactions of 4 SENDs to 2 topics, 1 to 1", pair, 2)
     yield Row("transactions of 4 SENDs to 2 topics, 4 to 4", f"{pair} publishers=4 readers=4", 2)
     yield Row("1 to 1, 16 octets, 1,000 a second", "size=16 rate=1000", 1, "latency")
+
+
+def counted(count, what):
+    return f"{count} {what}" + ("" if count == 1 else "s")
+
+
+def burst(what, plan, topics, size, senders, subscribers):
+    """Senders that write all they have at once: 2,000 SENDs each, or of the largest so many transactions that it is 80 MB in all."""
+    each = 2000 if size < max(SIZES) else SENDS * round(OF_LARGEST / (SENDS * size * senders))
+    name = f"{what}: {counted(senders, 'sender')}, {SIZES[size]}, {counted(subscribers, 'subscriber')}"
+    words = f"{plan} publishers={senders} readers={subscribers} size={size} most={each} window={each} burst {UNTIL_ALL_CAME}"
+    return Row(name, words.strip(), topics, "burst")
+
+
+def bursts():
+    """Senders that don't wait until what they sent has come."""
+    transactions = f"sends={SENDS} topics=2 each=2"
+    for size, senders, subscribers in itertools.product(SIZES, (1, 2, 8, 64), (1, 16)):
+        yield burst("burst", "", 1, size, senders, subscribers)
+    for size, senders, subscribers in itertools.product(SIZES, (1, 2, 8, 64), (1, 16)):
+        yield burst("burst of transactions", transactions, 2, size, senders, subscribers)
+    ceaseless = "publishers=8 size=16 window=1048576 unpaced warm=0 measured=4000"
+    yield Row("burst for 4 seconds: 8 senders, 16 octets, 1 subscriber", ceaseless, 1, "burst")
 
 
 def growths():
@@ -43,8 +73,14 @@ def idle():
 
 def all_rows():
     yield from loads()
+    yield from bursts()
     yield from growths()
     yield from idle()
+
+
+def programs_for(row, programs):
+    """The programs that a row is for: the shape drops what it has no room for, so no burst is."""
+    return {name: it for name, it in programs.items() if not (row.kind == "burst" and name == "shape")}
 
 
 def names(row, prefix):

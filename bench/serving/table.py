@@ -74,6 +74,10 @@ def microseconds(value):
     return f"{value:,.1f} us" if value >= 10 else f"{value:.2g} us"
 
 
+def milliseconds(value):
+    return f"{value:,.1f} ms" if value >= 1 else f"{value:.2g} ms"
+
+
 def line(cells):
     return "| " + " | ".join(cells) + " |"
 
@@ -113,6 +117,8 @@ def ratios(results, peers):
 def measures(row):
     if row.kind == "latency":
         return [("p50", "p50", microseconds), ("p99", "p99", microseconds)]
+    if row.kind == "burst":
+        return [("rate", "deliveries", rate), ("last", "time until all came", milliseconds)]
     return [("rate", "deliveries", rate)]
 
 

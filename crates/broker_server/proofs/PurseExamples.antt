@@ -113,11 +113,18 @@ pub falls_once : after_falling_behind (taking 10000) (at 200) ≡ taking 10000
 falls_once = refl
 
 -- what it took while it was behind, over all of that time: 9 MB in one second, and in two
-pub known_fast : known_price 9000000 1000000000 ≡ Free
+pub known_fast : known_price Full 9000000 1000000000 ≡ Free
 known_fast = refl
 
-pub known_slow : known_price 9000000 2000000000 ≡ Sixtieth
+pub known_slow : known_price Free 9000000 2000000000 ≡ Sixtieth
 known_slow = refl
+
+-- half a second makes one that was fast no dearer
+pub fast_still : known_price Free 1000000 500000000 ≡ Free
+fast_still = refl
+
+pub no_better_known : known_price Full 1000000 500000000 ≡ Sixtieth
+no_better_known = refl
 
 -- one that is passed over in its first tenth isn't given up, later it is, and when it caught up no longer
 pub not_yet : (after_giving_up (after_falling_behind newcomer (at 100)) (record { 0 = 10099999999 })).given_up ≡ false

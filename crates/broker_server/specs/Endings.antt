@@ -10,17 +10,24 @@ use Rattle.broker_server.specs.declared.notice.Notice.{Notice}
 use Rattle.broker_server.specs.declared.notice.Notice.TheVariants as notices
 use Rattle.broker_server.specs.declared.program_fault.ProgramFault.{ProgramFault}
 use Rattle.broker_server.specs.declared.program_fault.ProgramFault.TheVariants.{NoMemory, Io}
+use Rattle.broker_server.specs.declared.words_fault.WordsFault.{WordsFault}
+use Rattle.broker_server.specs.declared.words_fault.WordsFault.TheVariants.{Unreadable}
 use Rattle.broker_server.specs.Programs.{fault_status}
+
+-- the programs with their words
+abbrev pub usage_text : List ℕ
+usage_text = codes "usage: stompd relay NAME | script | trace | audit | serve ADDR NAME.."
 
 -- the text of a line on standard error
 abbrev pub notice_text : Notice → List ℕ
-notice_text notices.Usage = codes "usage: stompd relay NAME | script | trace | audit | serve ADDR NAME.."
+notice_text notices.Usage = usage_text
 notice_text (notices.Fault NoMemory) = codes "no memory"
 notice_text (notices.Fault Io) = codes "io fault"
 
--- the ending after wrong words: the usage, and status 1
-abbrev pub usage_ending : Ending
-usage_ending = record { status = 1; notice = Some notices.Usage; detail = None }
+-- the ending after words that are wrong so: status 1, the usage, and what is wrong
+abbrev pub usage_ending : WordsFault → Ending
+usage_ending fault =
+    record { status = 1; notice = Some notices.Usage; detail = Some (details.Words fault) }
 
 -- the ending of a run that went on to this status, with this detail and no line before it
 abbrev pub done : ℕ → Option Detail → Ending
@@ -48,8 +55,8 @@ run_ending (Err NoMemory) read wrote = ending_of (Err NoMemory)
 run_ending (Err Io) read wrote = record (ending_of (Err Io)) { detail = Some (failure_told read wrote) }
 
 -- This is the ending after words that could not be read: that of NoMemory if memory ran out, and else that
--- of wrong words.
+-- of words that are wrong in this.
 abbrev pub IsUnreadEnding : Error → Ending → Type 0
 IsUnreadEnding error ending =
     (error_kind error ≡ OutOfMemory → ending ≡ ending_of (Err NoMemory))
-    × (error_kind error ≢ OutOfMemory → ending ≡ usage_ending)
+    × (error_kind error ≢ OutOfMemory → ending ≡ usage_ending Unreadable)

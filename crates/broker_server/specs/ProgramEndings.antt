@@ -1,5 +1,5 @@
 -- What a program writes and how it ends, with its detail, as a function of the text that it read.
-use Rattle.std.specs.Prelude.{◌≡◌, ◌⊎◌, ℕ, ◌<◌, ◌≤◌, ◌==◌, Bool, true, false, List, length, Option, Some, None, if◌then◌else◌}
+use Rattle.std.specs.Prelude.{◌≡◌, ◌⊎◌, ℕ, ◌<◌, ◌≤◌, ◌==◌, Bool, true, false, List, length, take, codes, Option, Some, None, if◌then◌else◌}
 use Rattle.std.specs.List.{count_by}
 use Rattle.mcast_group.specs.declared.fault.ProposeFault.TheVariants as propose
 use Rattle.stomp_frame.specs.declared.raw_frame.RawFrame.{RawFrame}
@@ -22,10 +22,10 @@ use Rattle.broker_server.specs.declared.ending.Ending.{Ending}
 use Rattle.broker_server.specs.declared.relay_fault.RelayFault.{RelayFault}
 use Rattle.broker_server.specs.declared.script.script_fault.ScriptFault.TheVariants.{BadLine}
 use Rattle.broker_server.specs.Audit.{IsYes, IsNo}
-use Rattle.broker_server.specs.Endings.{done}
+use Rattle.broker_server.specs.Endings.{done, usage_text}
 use Rattle.broker_server.specs.Excerpts.{excerpt_of, line_at}
 use Rattle.broker_server.specs.Input.{input_limit, too_long}
-use Rattle.broker_server.specs.Programs.{Asked, ToRelay, ToScript, ToTrace, ToAudit}
+use Rattle.broker_server.specs.Programs.{Asked, ToRelay, ToScript, ToTrace, ToAudit, ToHelp, ToVersion}
 use Rattle.broker_server.specs.Relay.{IsAnswered}
 use Rattle.broker_server.specs.RelayFaults.{relay_fault_title}
 use Rattle.broker_server.specs.ScriptRuns.{IsScriptRun, IsTracedRun, IsRefusedScript}
@@ -133,9 +133,17 @@ IsAnsweredEnding name input output ending =
 abbrev pub IsRelayEnding : List ℕ → List ℕ → List ℕ → Ending → Type 0
 IsRelayEnding name = EndsWithin (IsAnsweredEnding name)
 
+-- ---- what the program says of itself
+
+-- Whatever the input is, the output begins so, and is the program's last.
+abbrev pub IsToldEnding : List ℕ → List ℕ → List ℕ → Ending → Type 0
+IsToldEnding front input output ending = (take (length front) output ≡ front) × (ending ≡ done 0 None)
+
 -- what the program that is asked for writes of an input, and how it ends
 abbrev pub IsEndedBy : Asked → List ℕ → List ℕ → Ending → Type 0
 IsEndedBy (ToRelay name) = IsRelayEnding name
 IsEndedBy ToScript = IsScriptEnding
 IsEndedBy ToTrace = IsTraceEnding
 IsEndedBy ToAudit = IsAuditEnding
+IsEndedBy ToHelp = IsToldEnding usage_text
+IsEndedBy ToVersion = IsToldEnding (codes "stompd ")

@@ -116,11 +116,16 @@ price_behind pace now time =
 abbrev pub price_at : Pace → Moment → Price
 price_at pace now = if is_some pace.since then price_behind pace now (time_since pace.since now) else Free
 
--- the price that is known of one that took so many octets while it was behind for this time, until it had
--- taken all
-abbrev pub known_price : ℕ → ℕ → Price
-known_price octets time =
-    if nat_lt time tenth then Free else pace_price (has_rate octets time fast) (has_rate octets time slow)
+-- the cheaper of two prices
+abbrev pub cheaper : Price → Price → Price
+cheaper one other = if is_below one other then one else other
+
+-- the price that is known of one that took so many octets while it was behind for this time, until it
+-- had taken all, where this one was known before: less than a second makes it no dearer
+abbrev pub known_price : Price → ℕ → ℕ → Price
+known_price known octets time =
+    let price = pace_price (has_rate octets time fast) (has_rate octets time slow) in
+    if nat_lt time tenth then Free else if nat_lt time second then cheaper known price else price
 
 -- a pace after the system took so many octets
 abbrev pub after_octets : Pace → Moment → ℕ → Pace
@@ -141,7 +146,7 @@ after_falling_behind pace now = if is_some pace.since then pace else record pace
 abbrev pub after_catching_up : Pace → Moment → Pace
 after_catching_up pace now = if is_some pace.since then record pace {
   since = None;
-  known = known_price pace.taken (time_since pace.since now);
+  known = known_price pace.known pace.taken (time_since pace.since now);
   given_up = false;
 } else pace
 

@@ -3,6 +3,7 @@
 use crate::excerpt::Excerpt;
 use crate::relay_fault::RelayFault;
 use crate::script::ScriptFault;
+use crate::words_fault::WordsFault;
 use std::fmt::{Display, Formatter};
 use std::{fmt, io};
 use stomp_frame::FrameFault;
@@ -12,6 +13,8 @@ use trace_audit::{AuditFault, ParseFault};
 /// end. The octets of the input that it shows are escaped, where they aren't from 32 to 126.
 #[derive(Drop)]
 pub enum Detail {
+    /// The words on the command line are wrong.
+    Words(WordsFault),
     /// The input is over the limit.
     TooLong,
     /// The relay refuses a frame.
@@ -37,13 +40,14 @@ pub enum Detail {
 impl Display for Detail {
     fn fmt<W: fmt::Write>(&self, f: &mut Formatter<W>) -> fmt::Result {
         match self {
+            Detail::Words(fault) => write!(f, "{fault}"),
             Detail::TooLong => f.write_str("112 TooLong: give at most 16,777,216 octets of input"),
             Detail::Frame(fault) => write!(f, "{fault}"),
             Detail::Stream(fault) => write!(f, "{fault}"),
-            Detail::Line(fault, line) => write!(f, "{fault}; it is {line}"),
+            Detail::Line(fault, line) => write!(f, "{fault}; it is {line}{}", line.end()),
             Detail::Row(number, line) => {
                 let fault = ParseFault::BadRow(*number);
-                write!(f, "{fault}; line {number} is {line}")
+                write!(f, "{fault}; line {number} is {line}{}", line.end())
             }
             Detail::No(fault) => write!(f, "{fault}"),
             Detail::Events(count) => {

@@ -2,12 +2,14 @@
 
 ghost use Rattle.std.specs.Prelude.{◌≡◌, Err, Option, Result};
 ghost use Rattle.broker_server.specs.declared.program_fault.ProgramFault.TheVariants.{NoMemory};
-ghost use Rattle.broker_server.specs.Endings.{done, failure_told, usage_ending, ending_of, run_ending};
+ghost use Rattle.broker_server.specs.Endings.{done, failure_told, usage_ending, ending_of, run_ending, IsUnreadEnding};
 
 use crate::detail::Detail;
 use crate::notice::Notice;
 use crate::program_fault::ProgramFault;
+use crate::words_fault::WordsFault;
 use std::io;
+use std::io::ErrorKind;
 
 /// How a program ends.
 #[derive(Drop)]
@@ -21,15 +23,25 @@ pub struct Ending {
 }
 
 impl Ending {
-    /// The ending after wrong words.
-    pub(crate) fn by_usage() -> Ending
-        ensures { result ≡ usage_ending }
+    /// The ending after words that are wrong so.
+    pub fn by_words(fault: WordsFault) -> Ending
+        ensures { result ≡ usage_ending fault }
     {
         Ending {
             status: 1,
             notice: Some(Notice::Usage),
-            detail: None,
+            detail: Some(Detail::Words(fault)),
         }
+    }
+
+    /// The ending after words that could not be read, for this reason: where memory was missing that of `NoMemory`.
+    pub fn unread(reason: &io::Error) -> Ending
+        ensures { IsUnreadEnding reason.now result }
+    {
+        if reason.kind() == ErrorKind::OutOfMemory {
+            return Ending::without_memory();
+        }
+        Ending::by_words(WordsFault::Unreadable)
     }
 
     /// The ending of a program for which there was no memory.

@@ -13,9 +13,9 @@ use trace_audit::first_line;
 /// How many octets of a line are shown.
 const ROOM: usize = 60;
 
-/// The beginning of a line of the input, at most 60 octets, and what is to be said of the rest. It takes no memory. Its
-/// `Display` is in one line.
-#[derive(Drop)]
+/// The beginning of a line of the input, or of a word of the command line, at most 60 octets, and what is to be said of
+/// the rest. It takes no memory. Its `Display` is in one line.
+#[derive(Debug, Drop)]
 pub struct Excerpt {
     octets: [u8; 60],
     len: usize,
@@ -58,6 +58,15 @@ impl Excerpt {
     {
         Excerpt::of(line_at(number, text))
     }
+
+    /// What is to be said behind it of the line's end.
+    pub(crate) fn end(&self) -> &'static str {
+        if self.ends_by_cr {
+            ", which ends by CR: end each line by LF alone"
+        } else {
+            ""
+        }
+    }
 }
 
 /// Whether the last octet of a line is a CR.
@@ -92,9 +101,6 @@ impl Display for Excerpt {
         write!(f, "\"{}\"", Spelled(&self.octets[..self.len]))?;
         if self.more > 0 {
             write!(f, " and {} octets more", self.more)?;
-        }
-        if self.ends_by_cr {
-            f.write_str(", which ends by CR: end each line by LF alone")?;
         }
         Ok(())
     }

@@ -3,10 +3,11 @@
 ghost use Rattle.std.specs.Prelude.{◌≡◌, true, [], Some, IfOk};
 ghost use Rattle.crossbeam_queue.specs.Passes.{queue_capacity};
 
+use crate::log_form::LogForm;
 use crossbeam_queue::ArrayQueue;
 use log::kv::Source;
 use log::span::Spans;
-use log::{Line, Log, Metadata, Record};
+use log::{Level, Line, Log, Metadata, Record};
 use std::alloc::{AllocError, Global};
 use std::fmt::Display;
 use std::sync::atomic::{AtomicBool, AtomicU64, Ordering};
@@ -23,6 +24,7 @@ const MAX_LINES: usize = 1_024;
 #[derive(Drop)]
 pub struct LogQueue {
     alloc: Global,
+    form: LogForm,
     lines: ArrayQueue<String>,
     lost: AtomicU64,
     writer: Parker,
@@ -32,12 +34,13 @@ pub struct LogQueue {
 }
 
 impl LogQueue {
-    /// No lines.
-    pub fn new(alloc: Global) -> Result<LogQueue, AllocError>
+    /// No lines. They will begin so.
+    pub fn new(alloc: Global, form: LogForm) -> Result<LogQueue, AllocError>
         ensures { IfOk result (λ queue. queue_capacity queue.lines ≡ 1024) }
     {
         Ok(LogQueue {
             alloc,
+            form,
             lines: ArrayQueue::new(alloc, MAX_LINES)?,
             lost: AtomicU64::new(0),
             writer: Parker::new(),
@@ -47,12 +50,13 @@ impl LogQueue {
         })
     }
 
-    /// A queue, and the thread that writes its lines to standard error. The thread isn't joined: it may wait for ever.
-    pub fn start<R>(rt: R, alloc: Global) -> Result<Arc<LogQueue>, AllocError>
+    /// A queue, and the thread that writes its lines, which begin so, to standard error. The thread isn't joined: it may
+    /// wait for ever.
+    pub fn start<R>(rt: R, alloc: Global, form: LogForm) -> Result<Arc<LogQueue>, AllocError>
     where
         R: Threads + Wait + Eprint + Copy + Send + 'static,
     {
-        let queue = match Arc::new(alloc, LogQueue::new(alloc)?) {
+        let queue = match Arc::new(alloc, LogQueue::new(alloc, form)?) {
             Ok(queue) => queue,
             Err(failed) => return Err(AllocError::from(failed)),
         };
@@ -82,7 +86,8 @@ impl LogQueue {
             let closing = self.closing.load(Ordering::SeqCst);
             let lost = self.lost.swap(0, Ordering::SeqCst);
             if lost > 0 {
-                let _ = eprintln!(rt; "[WARN  serve] {lost} lines of this log were lost");
+                let front = self.form.front(Level::Warn);
+                let _ = eprintln!(rt; "{front}[WARN  serve] {lost} lines of this log were lost");
             }
             match self.lines.pop(rt) {
                 Some(line) => {
@@ -133,7 +138,9 @@ impl<'a, R: Wait> Log for Queued<'a, R> {
     }
 
     fn log<D: Display, K: Source, S: Spans>(&self, record: &Record<'_, D, K, S>) {
-        self.queue.put(self.rt, String::format(self.queue.alloc, Line::new(record)));
+        let front = self.queue.form.front(record.level());
+        let line = format!(in self.queue.alloc; "{front}{}", Line::new(record));
+        self.queue.put(self.rt, line);
     }
 
     fn flush(&self) {}

@@ -1,12 +1,12 @@
 //! The words that ask for the server.
 
-ghost use Rattle.std.specs.Prelude.{◌≡◌, map, string_bytes, IfSome, IsNone, List, ℕ};
-ghost use Rattle.std.specs.List.{list_all, list_any};
+ghost use Rattle.std.specs.Prelude.{◌≡◌, map, string_bytes, IfOk, IfErr};
+ghost use Rattle.std.specs.List.{list_any};
 ghost use Rattle.std.specs.Str.{bytes_eq};
-ghost use Rattle.std.specs.declared.net.socket_addr.SocketAddr.{SocketAddr};
-ghost use Rattle.stomp_session.specs.Names.{is_name};
-ghost use Rattle.broker_server.specs.ServeWords.{AsksToServe, are_distinct, are_few, may_serve, stands_in};
+ghost use Rattle.broker_server.specs.Requests.{IsAskedOfServer, IsWrongBy, names_fault, serve_by, stands_in, topics_fault};
 
+use crate::excerpt::Excerpt;
+use crate::words_fault::WordsFault;
 use delivery::MAX_TOPICS;
 use std::net::SocketAddr;
 use stomp_session::is_name;
@@ -22,73 +22,54 @@ pub struct ServeWords<'a> {
 }
 
 impl<'a> ServeWords<'a> {
-    /// What the words after the program's own name ask for, where they ask for the server.
-    pub fn parse(words: &'a [String]) -> Option<ServeWords<'a>>
-        ensures asked { IfSome result (λ asked. AsksToServe (map string_bytes words.now)
-            asked.text.now asked.addr (map string_bytes asked.names.now)) }
-        ensures not_asked { IsNone result → (text : List ℕ) → (addr : SocketAddr) → (names : List (List ℕ))
-            → ¬ (AsksToServe (map string_bytes words.now) text addr names) }
+    /// What the words after `serve` ask for.
+    pub(crate) fn of(words: &'a [String]) -> Result<ServeWords<'a>, WordsFault>
+        ensures asked { IfOk result (IsAskedOfServer (serve_by (map string_bytes words.now))) }
+        ensures wrong { IfErr result (IsWrongBy (serve_by (map string_bytes words.now))) }
     {
-        let Some((word, rest)) = words.split_first() else {
-            return None;
+        let Some((text, names)) = words.split_first() else {
+            return Err(WordsFault::NoAddress);
         };
-        let Some((text, names)) = rest.split_first() else {
-            return None;
-        };
-        if word.as_bytes() != b"serve".as_slice() || !may_serve(names) {
-            return None;
+        if let Some(fault) = topics_fault(names) {
+            return Err(fault);
         }
         match text.as_str().parse::<SocketAddr>() {
-            Ok(addr) => Some(ServeWords {
+            Ok(addr) => Ok(ServeWords {
                 text: text.as_str(),
                 addr,
                 names,
             }),
-            Err(_) => None,
+            Err(_) => Err(WordsFault::NotAddress(Excerpt::of(text.as_bytes()))),
         }
     }
 }
 
-/// Whether topics of these names can be served.
-fn may_serve(names: &[String]) -> bool
-    ensures { result ≡ may_serve (map string_bytes names.now) }
+/// Why topics of these names can't be served, if they can't.
+fn topics_fault(names: &[String]) -> Option<WordsFault>
+    ensures { result ≡ topics_fault (map string_bytes names.now) }
 {
-    are_few(names) && are_names(names) && are_distinct(names)
+    if names.len() > MAX_TOPICS {
+        return Some(WordsFault::TooManyTopics(names.len()));
+    }
+    names_fault(names)
 }
 
-/// Whether there are at most 1,024 names.
-fn are_few(names: &[String]) -> bool
-    ensures { result ≡ are_few (map string_bytes names.now) }
-{
-    names.len() <= MAX_TOPICS
-}
-
-/// Whether each of them is a name.
-fn are_names(names: &[String]) -> bool
-    ensures { result ≡ list_all is_name (map string_bytes names.now) }
-{
-    all_are_names(names)
-}
-
-/// The same, of the names as they lie there.
-fn all_are_names(names: &[String]) -> bool
-    ensures { result ≡ list_all (λ name. is_name (string_bytes name)) names.now }
-{
-    names.iter().all(|name| is_name(name.as_bytes()))
-}
-
-/// Whether no name stands twice.
-fn are_distinct(names: &[String]) -> bool
-    ensures { result ≡ are_distinct (map string_bytes names.now) }
+/// The first of these names that is none, or comes again behind itself.
+fn names_fault(names: &[String]) -> Option<WordsFault>
+    ensures { result ≡ names_fault (map string_bytes names.now) }
 {
     let mut left = names;
     while let [first, rest @ ..] = left {
-        if stands_in(first.as_bytes(), rest) {
-            return false;
+        let name = first.as_bytes();
+        if !is_name(name) {
+            return Some(WordsFault::of_name(name));
+        }
+        if stands_in(name, rest) {
+            return Some(WordsFault::NameTwice(Excerpt::of(name)));
         }
         left = rest;
     }
-    true
+    None
 }
 
 /// Whether this is one of the names.

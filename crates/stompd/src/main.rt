@@ -4,29 +4,58 @@
 #[cfg(test)]
 mod tests;
 
-use broker_server::{Counting, Ending, LogQueue, Queued, ServeWords, run_server, run_words};
+use broker_server::{
+    Counting, Ending, LogForm, LogQueue, Queued, Request, ServeWords, run_program, run_server,
+};
 use log::{LevelFilter, Logged};
+use std::alloc::Global;
+use std::io::Write;
+use std::net::Net;
 use std::process::ExitCode;
+use std::sync::Wait;
+use std::thread::Threads;
+use std::time::Clock;
 use std::{env, io};
 
 /// Collects the words, runs what they ask for over the standard streams, and ends as that run says.
 fn main(rt: HostRuntime) -> ExitCode {
-    let words = words(&rt);
-    if let Ok(all) = &words
-        && let Some(asked) = ServeWords::parse(all.as_slice())
-    {
-        let Ok(queue) = LogQueue::start(rt, rt.alloc()) else {
-            return end(&rt, Ending::without_memory());
-        };
-        let logged = Logged::new(rt, LevelFilter::Info, Queued::new(&rt, &queue));
-        let ended = run_server(&logged, rt.alloc(), asked, &mut rt.stdout());
-        queue.close(&rt);
-        return end(&rt, ended);
-    }
-    let mut reader = Counting::new(rt.stdin());
-    let mut writer = Counting::new(rt.stdout());
-    let ended = run_words(rt.alloc(), words, &mut reader, &mut writer);
+    let words = match words(&rt) {
+        Ok(words) => words,
+        Err(reason) => return end(&rt, Ending::unread(&reason)),
+    };
+    let ended = match Request::parse(words.as_slice()) {
+        Ok(Request::Run(asked)) => {
+            let mut reader = Counting::new(rt.stdin());
+            let mut writer = Counting::new(rt.stdout());
+            run_program(rt.alloc(), asked, &mut reader, &mut writer)
+        }
+        Ok(Request::Serve(asked)) => serve(rt, rt.alloc(), log_form(&rt), asked, &mut rt.stdout()),
+        Err(fault) => Ending::by_words(fault),
+    };
     end(&rt, ended)
+}
+
+/// How the log's lines begin, as the environment says it.
+fn log_form(rt: &HostRuntime) -> LogForm {
+    match env::var(rt, "STOMPD_LOG_PRIORITIES") {
+        Ok(value) if value.as_str() == "1" => LogForm::Prioritized,
+        _ => LogForm::Plain,
+    }
+}
+
+/// Runs the server that is asked for. A thread of its own writes its log, whose lines begin so.
+fn serve<R, O>(rt: R, alloc: Global, form: LogForm, asked: ServeWords<'_>, writer: &mut O) -> Ending
+where
+    R: Threads + Wait + Net + Clock + Eprint + Copy + Send + Sync + 'static,
+    O: Write,
+{
+    let Ok(queue) = LogQueue::start(rt, alloc, form) else {
+        return Ending::without_memory();
+    };
+    let logged = Logged::new(rt, LevelFilter::Info, Queued::new(&rt, &queue));
+    let ended = run_server(&logged, alloc, asked, writer);
+    queue.close(&rt);
+    ended
 }
 
 /// Writes the lines of this ending, if it has any, and gives its status.

@@ -6,9 +6,10 @@ use crate::ending::Ending;
 use crate::program_fault::ProgramFault;
 use crate::serve_words::ServeWords;
 use crate::serving::serve;
+use crate::version::VERSION;
 use broker_locks::{Broker, ServerFault, Side};
 use delivery::Topics;
-use log::{Log, error};
+use log::{Log, error, info};
 use mio::net::TcpListener;
 use std::alloc::Global;
 use std::io::Write;
@@ -75,6 +76,10 @@ where
             return Err(ProgramFault::Io);
         }
     };
+    match listener.local_addr() {
+        Ok(addr) => info!(rt; target: "serve", "{VERSION} listens at {addr}"),
+        Err(_) => info!(rt; target: "serve", "{VERSION} listens at {text}"),
+    }
     writeln!(writer, "listening {text}")?;
     writer.flush()?;
     match serve(rt, alloc, broker, listener, None) {

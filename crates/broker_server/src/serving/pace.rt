@@ -9,6 +9,7 @@ ghost use Rattle.broker_server.specs.Purses.{
   after_octets,
   has_rate,
   is_taking,
+  known_price,
   no_tenths,
   pace_price,
   price_at,
@@ -109,15 +110,26 @@ impl Pace {
         ensures { self.new ≡ after_catching_up self.old now }
     {
         if let Some(since) = self.since {
-            let time = now.since(since);
-            self.known = if time.0 < TENTH {
-                Price::Free
-            } else {
-                let is_fast = has_rate(self.taken, time, FAST);
-                pace_price(is_fast, has_rate(self.taken, time, SLOW))
-            };
+            self.known = self.known_after(now.since(since));
             self.since = None;
             self.given_up = false;
+        }
+    }
+
+    /// The price that is known once it has taken all, and was behind for this time: less than a second makes it no
+    /// dearer.
+    fn known_after(&self, time: Span) -> Price
+        ensures { result ≡ known_price self.now.known self.now.taken time.0 }
+    {
+        if time.0 < TENTH {
+            return Price::Free;
+        }
+        let is_fast = has_rate(self.taken, time, FAST);
+        let price = pace_price(is_fast, has_rate(self.taken, time, SLOW));
+        if time.0 < SECOND {
+            self.known.cheaper(price)
+        } else {
+            price
         }
     }
 

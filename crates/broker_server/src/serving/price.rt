@@ -1,7 +1,7 @@
 //! What waiting for a connection costs.
 
 ghost use Rattle.std.specs.Prelude.{◌≡◌, ◌-◌, ◌*◌, ◌^◌, min};
-ghost use Rattle.broker_server.specs.Purses.{dearer, is_below, is_free, rate};
+ghost use Rattle.broker_server.specs.Purses.{cheaper, dearer, is_below, is_free, rate};
 
 use crate::serving::cost::Cost;
 use crate::serving::span::Span;
@@ -41,6 +41,13 @@ impl Price {
         ensures { result ≡ is_below self other }
     {
         self.rate() < other.rate()
+    }
+
+    /// The cheaper of the two.
+    pub(crate) fn cheaper(self, other: Price) -> Price
+        ensures { result ≡ cheaper self other }
+    {
+        if self.is_below(other) { self } else { other }
     }
 
     /// The dearer of the two.

@@ -2,7 +2,8 @@
 
 use super::peers::{LineFeeds, Source, Target};
 use super::script_rows::FOUR_TICKETS;
-use broker_server::{Counting, Ending, run_words};
+use super::words::run_words;
+use broker_server::{Counting, Ending};
 use std::alloc::{AllocError, Global};
 use std::io::Read;
 use std::test::Fail;
@@ -35,7 +36,7 @@ fn told<R: Read + Drop>(
     writer: &mut Counting<Target>,
 ) -> Result<Told, AllocError> {
     let words = words_of(alloc, words)?;
-    let ended = run_words(alloc, Ok(words), &mut Counting::new(reader), writer);
+    let ended = run_words(alloc, words.as_slice(), &mut Counting::new(reader), writer);
     let text = text_of(alloc, &ended)?;
     Ok((ended.status, text))
 }

@@ -1,8 +1,8 @@
 //! Programs, from their words to their status and their first line on standard error.
 
 use super::peers::{Source, Target};
-use super::words::words_of;
-use broker_server::{Counting, Notice, ProgramFault, run_words};
+use super::words::{run_words, words_of};
+use broker_server::{Counting, Ending, Notice, ProgramFault, USAGE, VERSION};
 use std::alloc::{AllocError, Global};
 use std::io;
 use std::io::ErrorKind;
@@ -73,23 +73,20 @@ fn run(
         Fails::Read => reader.inner.fails_at = 1,
         Fails::Flush => writer.inner.fails_flush = true,
     }
-    let ended = run_words(alloc, Ok(words), &mut reader, &mut writer);
+    let ended = run_words(alloc, words.as_slice(), &mut reader, &mut writer);
     let told = (ended.status, ended.notice);
     Ok((told, writer.inner.taken.as_slice() == output))
 }
 
-/// How words that aren't these of a program end, where nothing is read or written.
-fn refused(alloc: Global, words: io::Result<Vec<String>>) -> Result<Option<Ended>, AllocError> {
+/// How these words end, where nothing is read, and whether what is written begins with this and is flushed.
+fn told(alloc: Global, words: &[String], front: &str) -> Result<Option<Ended>, AllocError> {
     let mut reader = Counting::new(Source::of(SEND));
     let mut writer = Counting::new(Target::with_room(alloc, 1024)?);
     let ended = run_words(alloc, words, &mut reader, &mut writer);
-    let untouched = (
-        reader.inner.reads,
-        writer.inner.writes,
-        writer.inner.flushes,
-    ) == (0, 0, 0);
-    let alone = untouched && ended.detail.is_none();
-    Ok(if alone {
+    let written = writer.inner.taken.as_slice();
+    let is_front = written.starts_with(front.as_bytes()) && writer.inner.flushes == 1;
+    let is_nothing = front.is_empty() && (writer.inner.writes, writer.inner.flushes) == (0, 0);
+    Ok(if reader.inner.reads == 0 && (is_front || is_nothing) {
         Some((ended.status, ended.notice))
     } else {
         None
@@ -102,7 +99,7 @@ const NO_MEMORY: Ended = (4, Some(Notice::Fault(ProgramFault::NoMemory)));
 
 const WELL: Ended = (0, None);
 
-const USAGE: Ended = (1, Some(Notice::Usage));
+const WRONG: Ended = (1, Some(Notice::Usage));
 
 const BAD_INPUT: Ended = (2, None);
 
@@ -170,16 +167,33 @@ fn ends_without_memory(rt: HostRuntime) {
 
 /// An error of the words' reading, and how the program ends then.
 const UNREAD: &[(ErrorKind, Ended)] = &[
-    (ErrorKind::InvalidData, USAGE),
+    (ErrorKind::InvalidData, WRONG),
     (ErrorKind::OutOfMemory, NO_MEMORY),
 ];
 
+/// How words end whose reading failed so.
+fn unread(kind: ErrorKind) -> Ended {
+    let ended = Ending::unread(&io::Error::from(kind));
+    (ended.status, ended.notice)
+}
+
 #[test]
 fn wrong_words(rt: HostRuntime) -> Result<(), Fail> {
-    let alloc = rt.alloc();
-    assert!(rt; refused(alloc, Ok(Vec::new(alloc)))? == Some(USAGE));
+    assert!(rt; told(rt.alloc(), &[], "")? == Some(WRONG));
     for &(kind, ended) in UNREAD {
-        assert!(rt; refused(alloc, Err(io::Error::from(kind)))? == Some(ended));
+        assert!(rt; unread(kind) == ended);
+    }
+    Ok(())
+}
+
+/// A word, and how that begins which is written for it.
+const SELF: &[(&str, &str)] = &[("--help", USAGE), ("--version", VERSION)];
+
+#[test]
+fn tells_of_itself(rt: HostRuntime) -> Result<(), Fail> {
+    for &(word, front) in SELF {
+        let words = words_of(rt.alloc(), &[word])?;
+        assert!(rt; told(rt.alloc(), words.as_slice(), front)? == Some(WELL));
     }
     Ok(())
 }

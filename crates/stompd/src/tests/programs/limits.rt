@@ -1,8 +1,8 @@
 //! Inputs at the limit and past it.
 
 use super::peers::{Interrupted, LineFeeds, Target};
-use super::words::words_of;
-use broker_server::{Counting, Ending, run_relay, run_words};
+use super::words::{run_words, words_of};
+use broker_server::{Counting, Ending, run_relay};
 use std::alloc::{AllocError, Global};
 
 const LIMIT: usize = 16_777_216;
@@ -63,7 +63,7 @@ fn gives_up(
     writer: &mut Counting<Target>,
 ) -> Result<bool, AllocError> {
     let words = words_of(alloc, &["audit"])?;
-    let ended = run_words(alloc, Ok(words), reader, writer);
+    let ended = run_words(alloc, words.as_slice(), reader, writer);
     let line = "reading: no end of the input after 16,777,218 reads";
     Ok(tells(alloc, &ended, 5, line))
 }

@@ -1,10 +1,12 @@
 //! A server that can't begin.
 
 use super::served::quiet;
-use broker_server::{Notice, ProgramFault, ServeWords, run_server};
+use broker_server::{Notice, ProgramFault, Request, run_server};
 use log::Log;
 use mio::net::TcpListener;
 use std::alloc::{AllocError, Global};
+use std::io;
+use std::io::{ErrorKind, Write};
 use std::net::{Ipv4Addr, Net, SocketAddr};
 use std::sync::Wait;
 use std::thread::Threads;
@@ -25,19 +27,34 @@ fn words(alloc: Global, port: u16) -> Result<Vec<String>, AllocError> {
     Ok(words)
 }
 
-/// How a server of these words ends, and how much it writes.
-fn ends<R>(rt: &R, alloc: Global, words: &[String]) -> Option<(u8, Option<Notice>, usize)>
+/// A writer that takes nothing.
+#[derive(Drop)]
+struct Closed;
+
+impl Write for Closed {
+    fn write(&mut self, _buf: &[u8]) -> io::Result<usize> {
+        Err(io::Error::from(ErrorKind::BrokenPipe))
+    }
+
+    fn flush(&mut self) -> io::Result<()> {
+        Ok(())
+    }
+}
+
+/// How a server of these words ends that can't say that it listens.
+fn ends<R>(rt: &R, alloc: Global, words: &[String]) -> Option<(u8, Option<Notice>)>
 where
     R: Threads + Wait + Net + Clock + Log + Send + Sync,
 {
-    let asked = ServeWords::parse(words)?;
-    let mut written = Vec::new(alloc);
-    let ending = run_server(rt, alloc, asked, &mut written);
-    Some((ending.status, ending.notice, written.len()))
+    let Ok(Request::Serve(asked)) = Request::parse(words) else {
+        return None;
+    };
+    let ending = run_server(rt, alloc, asked, &mut Closed);
+    Some((ending.status, ending.notice))
 }
 
-/// The same of a server at this port.
-fn ends_at<R>(rt: &R, alloc: Global, port: u16) -> Option<(u8, Option<Notice>, usize)>
+/// The same of a server at this port; 0 is one that is free.
+pub(super) fn at_port<R>(rt: &R, alloc: Global, port: u16) -> Option<(u8, Option<Notice>)>
 where
     R: Threads + Wait + Net + Clock + Log + Send + Sync,
 {
@@ -45,18 +62,18 @@ where
     ends(rt, alloc, words.as_slice())
 }
 
-/// How the server ends, and how much it writes, at an address where another listens.
-pub(super) fn at_a_used_address<R>(rt: &R, alloc: Global) -> Option<(u8, Option<Notice>, usize)>
+/// How the server ends at an address where another listens.
+pub(super) fn at_a_used_address<R>(rt: &R, alloc: Global) -> Option<(u8, Option<Notice>)>
 where
     R: Threads + Wait + Net + Clock + Log + Send + Sync,
 {
     let listener = TcpListener::bind(rt, SocketAddr::from((Ipv4Addr::LOCALHOST, 0))).ok()?;
     let addr = listener.local_addr().ok()?;
-    ends_at(rt, alloc, addr.port())
+    at_port(rt, alloc, addr.port())
 }
 
 #[test]
 fn a_listener_that_cannot_bind_ends_with_status_5(rt: HostRuntime) {
     let fault = Notice::Fault(ProgramFault::Io);
-    assert!(rt; at_a_used_address(&quiet(rt), rt.alloc()) == Some((5, Some(fault), 0)));
+    assert!(rt; at_a_used_address(&quiet(rt), rt.alloc()) == Some((5, Some(fault))));
 }

@@ -1,12 +1,13 @@
 //! What a server says in its log of peers that lag, don't read, are gone or find no place, and of an address that it can't
 //! have.
 
-use super::ending::at_a_used_address;
+use super::ending::{at_a_used_address, at_port};
 use super::logged::Kept;
 use super::many::Many;
 use super::peers::Reset;
 use super::served::serves;
 use super::slow::{NeverReads, OneOfTwo, Silent};
+use broker_server::VERSION;
 use log::{LevelFilter, Logged};
 use std::sync::Mutex;
 
@@ -76,16 +77,32 @@ fn lagged_behind(lines: &[String]) -> Option<u64> {
     }
 }
 
-/// Whether these lines say that the first lagged at A, behind as many items as a queue has room for or more, and fewer than
-/// came; and that it left by 74.
+/// Whether this line says that those who send to A wait for the first connection.
+fn says_who_waits(line: &str) -> bool {
+    let front = "[WARN  serve] senders to the topic A wait for connection 0; ";
+    match line.strip_prefix(front) {
+        Some(rest) => rest.ends_with(" subscriptions passed over"),
+        None => false,
+    }
+}
+
+/// Whether these lines say that senders waited for the first, that it lagged at A, behind as many items as a queue has room
+/// for or more, and fewer than came; and that it left by 74.
 fn say_who_lagged(lines: &[String]) -> bool {
     let behind = lagged_behind(lines);
+    let mut waits = 0usize;
+    for line in lines {
+        if says_who_waits(line.as_str()) {
+            waits = waits.saturating_add(1);
+        }
+    }
     behind.is_some_and(|items| items >= 64 && items < 400)
         && say_it_lagged(lines)
         && says_of_first(lines, " left: ERROR 74 Lagged")
         && figures_have(lines, " ended_lag=1 ")
         && figures_have(lines, " lagged=1 ")
-        && count_without_waits(lines) == 8
+        && waits > 0
+        && lines.len() == waits.saturating_add(8)
 }
 
 /// The first subscribes to A and B, and doesn't read while 400 items come to A, and one to B. A queue holds 64 of them.
@@ -190,4 +207,26 @@ fn the_log_says_where_it_cannot_listen(rt: HostRuntime) {
     let logged = Logged::new(rt, LevelFilter::Info, kept);
     assert!(rt; at_a_used_address(&logged, rt.alloc()).is_some());
     assert!(rt; say_where_it_cannot_listen(lines.lock(&rt).as_slice()));
+}
+
+/// Whether this is `VERSION listens at 127.0.0.1:` and a port that isn't 0.
+fn is_version_and_port(text: &str) -> bool {
+    let rest = text.strip_prefix(VERSION);
+    let port = rest.and_then(|rest| rest.strip_prefix(" listens at 127.0.0.1:"));
+    port.is_some_and(|port| is_port(port) && port != "0")
+}
+
+/// Whether these lines say which version listens at which port, and nothing else.
+fn say_version_and_port(lines: &[String]) -> bool {
+    between(lines, "[INFO  serve] ", "").is_some_and(is_version_and_port) && lines.len() == 1
+}
+
+/// A free port is asked for.
+#[test]
+fn the_log_says_its_version_and_port(rt: HostRuntime) {
+    let lines = Mutex::new(Vec::new(rt.alloc()));
+    let kept = Kept::here(&rt, rt.alloc(), &lines);
+    let logged = Logged::new(rt, LevelFilter::Info, kept);
+    assert!(rt; at_port(&logged, rt.alloc(), 0).is_some());
+    assert!(rt; say_version_and_port(lines.lock(&rt).as_slice()));
 }

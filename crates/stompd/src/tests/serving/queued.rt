@@ -1,7 +1,7 @@
 //! A log's queue, and what is written of it.
 
-use broker_server::{LogQueue, Queued};
-use log::{LevelFilter, Logged, info};
+use broker_server::{LogForm, LogQueue, Queued};
+use log::{LevelFilter, Logged, error, info, warn};
 use std::alloc::{AllocError, Global};
 use std::fmt::Display;
 use std::io;
@@ -35,7 +35,7 @@ impl<R: Wait> Eprint for Heard<'_, R> {
 
 /// A queue with so many lines.
 fn filled<R: Wait + Copy>(rt: R, alloc: Global, lines: u64) -> Result<LogQueue, AllocError> {
-    let queue = LogQueue::new(alloc)?;
+    let queue = LogQueue::new(alloc, LogForm::Plain)?;
     let logged = Logged::new(rt, LevelFilter::Info, Queued::new(&rt, &queue));
     for line in 0..lines {
         info!(logged; target: "serve", "line {line}");
@@ -101,12 +101,51 @@ fn lines_are_written_in_their_order(rt: HostRuntime) -> Result<(), Fail> {
     Ok(())
 }
 
+/// A queue whose lines begin by their priority, with a line of each level, and six more than there is room for.
+fn prioritized<R: Wait + Copy>(rt: R, alloc: Global) -> Result<LogQueue, AllocError> {
+    let queue = LogQueue::new(alloc, LogForm::Prioritized)?;
+    let logged = Logged::new(rt, LevelFilter::Info, Queued::new(&rt, &queue));
+    error!(logged; target: "serve", "an error");
+    warn!(logged; target: "serve", "a warning");
+    for line in 0..ROOM + 4 {
+        info!(logged; target: "serve", "line {line}");
+    }
+    Ok(queue)
+}
+
+/// How the first lines of that queue begin, and the last.
+const FRONTS: &[&str] = &[
+    "<4>[WARN  serve] 6 lines of this log were lost",
+    "<3>[ERROR serve] an error",
+    "<4>[WARN  serve] a warning",
+    "<6>[INFO  serve] line 0",
+];
+
+/// Whether lines begin with these.
+fn begin_with(lines: &[String], fronts: &[&str]) -> bool {
+    let mut left = lines.iter();
+    for front in fronts {
+        if left.next().is_none_or(|line| line.as_str() != *front) {
+            return false;
+        }
+    }
+    true
+}
+
+#[test]
+fn lines_begin_with_their_priority(rt: HostRuntime) -> Result<(), Fail> {
+    let queue = prioritized(rt, rt.alloc())?;
+    let lines = written(&rt, rt.alloc(), &queue)?;
+    assert!(rt; begin_with(lines.as_slice(), FRONTS));
+    Ok(())
+}
+
 /// A queue with its thread takes lines until it is closed. What the thread writes is on standard error.
 #[test]
 fn a_queue_starts_its_thread(rt: HostRuntime) -> Result<(), Fail> {
-    let queue = match LogQueue::start(rt, rt.alloc()) {
+    let queue = match LogQueue::start(rt, rt.alloc(), LogForm::Prioritized) {
         Ok(queue) => queue,
-        Err(AllocError) => LogQueue::start(rt, rt.alloc())?,
+        Err(AllocError) => LogQueue::start(rt, rt.alloc(), LogForm::Prioritized)?,
     };
     let logged = Logged::new(rt, LevelFilter::Info, Queued::new(&rt, &queue));
     info!(logged; target: "serve", "a line of a test");

@@ -1,0 +1,255 @@
+"""What bench/hostile does to see whom a sender waits for, and for how long: rows as in hostility.py."""
+
+import contextlib
+import socket
+import statistics
+import subprocess
+import sys
+import threading
+import time
+
+from client import error_of, send_frame, subscribe
+from hostility import MOST_OPEN, TOPICS, bursts, close_all
+from slow import PACES, Pace, Slow
+from steady import Steady, load
+
+# A steady sender's seconds before and behind what is done beside it; how long that is, and at least, where only parts are done.
+BEFORE, BEHIND = 4, 4
+SECONDS, LEAST_SECONDS = 120, 6
+
+# How long a stream may stand still in all, in seconds, and what part of its rate it has to have again.
+MOST_STILL, RATE_AGAIN = 1.5, 0.9
+
+# Until when a stream has its rate again beside one that reads as follows.
+AGAIN_WITHIN = 70
+SLOW_BUT_READING = Pace("200 KB a second", 2000, 0.01)
+
+# How many SENDs each sender of a burst has, and what else the load generator has to know of each.
+OF_A_BURST = 2000
+BURSTS = [
+    "publishers=2 size=16",
+    "publishers=8 size=16",
+    "publishers=64 size=16",
+    "publishers=4 size=1000 readers=4",
+    "publishers=4 size=1000 sends=20",
+    "publishers=4 size=20000",
+]
+
+
+def one_slow_subscriber(trial):
+    """One that never reads, one that reads an octet each millisecond, and one that reads 1 KiB each 90 ms, at a topic each, beside a steady
+    sender there and another subscriber."""
+    return beside_slow(trial, 1)
+
+
+def many_slow_subscribers(trial):
+    """64 of each, at once."""
+    return beside_slow(trial, 64)
+
+
+def slow_subscribers_one_after_another(trial):
+    """64 of each; one begins each 0.15 seconds."""
+    return beside_slow(trial, 64, every=0.15)
+
+
+def slow_subscribers_that_come_anew(trial):
+    """64 of each; each connects anew once it was ended."""
+    return beside_slow(trial, 64, anew=SECONDS)
+
+
+def slow_subscribers_that_come_each_second(trial):
+    """64 of each; each connects anew a second after it came."""
+    return beside_slow(trial, 64, anew=1)
+
+
+def slow_subscribers_that_subscribe_again(trial):
+    """64 of each; each unsubscribes and subscribes again each second."""
+    return beside_slow(trial, 64, again=True)
+
+
+def beside_slow(trial, count, **way):
+    """Streams beside slow subscribers of each pace, each pace at a topic of its own, and one at a topic without any."""
+    seconds, count, topics = max(LEAST_SECONDS, trial.part(SECONDS)), trial.part(count), [trial.topic_alone() for _ in (None, *PACES)]
+    with contextlib.ExitStack() as block:
+        streams = [block.enter_context(Steady(trial, prefix, BEFORE + seconds + BEHIND, 250)) for prefix, _ in topics]
+        time.sleep(BEFORE)
+        slow = [block.enter_context(Slow(trial, topic, count, pace, **way)) for pace, (_, topic) in zip(PACES, topics[1:])]
+        time.sleep(seconds)
+        for it in slow:
+            it.may_come = False
+        alone, *reports = (it.report() for it in streams)
+        trial.expect(alone["still"] <= MOST_STILL, f"a stream without slow subscribers stood still for {alone['still']:.2f} s")
+        said = (judged(trial, it, report, alone["still"]) for it, report in zip(slow, reports))
+        return f"a stream without slow subscribers was still for {alone['still']:.2f} s; {'; '.join(said)}"
+
+
+def judged(trial, slow, report, alone):
+    """Whether a stream stood still for too long, and has its rate again; in words what it had. What the machine stops stands still beside
+    no slow subscribers, too."""
+    what = f"{slow.came} that read {slow.pace.name}"
+    if report["trouble"]:
+        return f"beside {what} the stream ended"
+    before, behind = (statistics.median(it) for it in (report["seconds"][1:BEFORE], report["seconds"][-BEHIND + 1 :]))
+    trial.expect(report["still"] - alone <= MOST_STILL, f"beside {what} a stream stood still for {report['still']:.2f} s")
+    trial.expect(behind >= RATE_AGAIN * before, f"behind {what} a stream has {behind:,.0f}/s, and had {before:,.0f}")
+    trial.expect(slow.refused == 0, f"{slow.refused} of {what} couldn't connect")
+    return f"beside {what} {report['still']:.2f} s, {before:,.0f}/s before and {behind:,.0f}/s behind"
+
+
+def slow_for_a_minute(trial):
+    """One that reads 200 KB a second, in messages of 100 octets: another has its rate again within 70 seconds."""
+    prefix, topic = trial.topic_alone()
+    with Steady(trial, prefix, BEFORE + AGAIN_WITHIN + BEHIND, 100) as stream:
+        time.sleep(BEFORE)
+        with Slow(trial, topic, 1, SLOW_BUT_READING):
+            rates = stream.report()["seconds"]
+    before = statistics.median(rates[1:BEFORE])
+    # A second is slow where most of it and its two neighbours are: the machine may stop all for a moment.
+    slow = [at for at in range(BEFORE, len(rates) - 1) if statistics.median(rates[at - 1 : at + 2]) < RATE_AGAIN * before]
+    until = slow[-1] + 1 - BEFORE if slow else 0
+    trial.expect(until <= AGAIN_WITHIN, f"a stream hasn't its rate again: {rates[-BEHIND:]} a second, and {before:,.0f} before")
+    held = statistics.median(rates[it] for it in slow) if slow else before
+    return f"another's {before:,.0f}/s were {held:,.0f}/s in {len(slow)} seconds, the last of them its second {until}"
+
+
+def fast_enough(trial, count=6000):
+    """6,000 SENDs of 10,000 octets that come at once, to one that reads 2 MB a second without a rest, alone at its topic."""
+    count, (_, topic) = trial.part(count), trial.topic_alone()
+    (reader, sender), begun = trial.open(2), time.monotonic()
+    reader.ask(subscribe(topic))
+    sending = threading.Thread(target=sender.send, args=(count * send_frame(topic, b"x" * 10000),), daemon=True)
+    sender.socket.settimeout(None)
+    sending.start()
+    came, number = read_frames(reader, count, 2_000_000, 120)
+    close_all([reader, sender])
+    sending.join()
+    trial.expect(number is None and came == count, f"{came:,} of {count:,} came, then {number}")
+    return f"{came:,} of {count:,} SENDs came in {time.monotonic() - begun:.1f} s"
+
+
+def read_frames(client, count, rate, seconds):
+    """Reads so many octets a second until so many frames came; how many did whole, and the number of an ERROR that was the last."""
+    begun, read, came, tail = time.monotonic(), 0, 0, b""
+    while came < count and time.monotonic() < begun + seconds:
+        due = int(rate * (time.monotonic() - begun)) - read
+        piece = client.socket.recv(min(due, 1 << 16)) if due >= 1000 else None
+        if piece is None:
+            time.sleep(0.0005)
+            continue
+        if not piece:
+            break
+        read, came, tail = read + len(piece), came + piece.count(b"\0"), (tail + piece)[-1000:]
+    number = error_of(tail)
+    return came - (number is not None), number
+
+
+def read_after_the_last(trial, count=1000):
+    """1,000 SENDs of 100,000 octets. One subscriber reads each before the next is sent; another only after the last: it has lagged."""
+    count, (_, topic) = max(200, trial.part(count)), trial.topic_alone()
+    (late, reader, sender), body, begun, came = trial.open(3), b"x" * 99990, time.monotonic(), 0
+    for it in (late, reader):
+        it.ask(subscribe(topic))
+    for at in range(count):
+        sender.send(send_frame(topic, b"%s%010d" % (body, at)))
+        came += reader.wait_for(b"%010d\0" % at, 30).count(b"MESSAGE\n")
+    took, text = time.monotonic() - begun, late.read_to_end(60)
+    close_all([late, reader, sender])
+    lately, number = text.count(b"MESSAGE\n"), error_of(text)
+    trial.expect(came == count, f"{came} of {count} came at one that reads each")
+    trial.expect(number == 74 and lately >= MOST_OPEN, f"one that read after the last got {lately} and {number}, and not 74")
+    return f"{came} came at one that reads each, in {took:.1f} s; {lately} and ERROR {number} at one that read after the last"
+
+
+def waiting_for_receipts(trial, seconds=20):
+    """Two clients that commit transactions of 40 SENDs, and wait for each RECEIPT, beside one that reads all the time."""
+    words = ("publishers=2", "sends=40", "receipts", "window=65536", "warm=0", f"measured={1000 * max(2, trial.part(seconds))}")
+    report = load(trial, trial.topic_alone()[0], *words)
+    return f"{report['all_came']:,} SENDs of two clients came whole"
+
+
+def sharing_a_slow_topic(trial, seconds=20):
+    """64 clients commit transactions to 64 topics without a rest, and wait for the last of these, whose subscriber reads 200 KB a second. A
+    steady sender at the first keeps half of its rate."""
+    (sender, reader), seconds = trial.open(2), max(5, trial.part(seconds))
+    reader.ask(subscribe(TOPICS[0]))
+    before = rate_by_clock(sender, reader, 3)
+    with Slow(trial, TOPICS[-1], 1, SLOW_BUT_READING), contextlib.ExitStack() as block:
+        for it in trial.open(trial.part(64)):
+            block.callback(hang_up, it)
+            threading.Thread(target=commit_without_end, args=(it,), daemon=True).start()
+        during = rate_by_clock(sender, reader, seconds)
+    close_all([sender, reader])
+    trial.expect(during >= before / 2, f"a steady sender had {during:,.0f}/s, and {before:,.0f} before")
+    return f"a steady sender had {during:,.0f}/s beside {trial.part(64)} that wait at another topic, and {before:,.0f} before"
+
+
+def commit_without_end(client):
+    """Commits transactions to all topics, with 1,000 octets to the last, until the connection ends."""
+    within = b"transaction:t\n"
+    sends = b"".join(send_frame(it, b"o" * (1000 if it == TOPICS[-1] else 1), within) for it in TOPICS)
+    client.socket.settimeout(None)
+    with contextlib.suppress(OSError):
+        while True:
+            client.send(b"BEGIN\n" + within + b"\n\0" + sends + b"COMMIT\n" + within + b"\n\0")
+
+
+def hang_up(client):
+    """Closes, also where a thread waits until it may send."""
+    with contextlib.suppress(OSError):
+        client.socket.shutdown(socket.SHUT_RDWR)
+    client.close()
+
+
+def rate_by_clock(sender, reader, seconds):
+    """Sends 2,000 SENDs a second to the first topic, as far as they are taken; how many of them come at the reader, a second."""
+    frames, to_send, heard, came, turns = send_frame(TOPICS[0], b"steady") * 20, b"", b"", 0, 0
+    for it in (sender, reader):
+        it.socket.settimeout(0.001)
+    begun = time.monotonic()
+    while time.monotonic() < begun + seconds:
+        if time.monotonic() >= begun + 0.01 * turns:
+            to_send, turns = to_send + frames, turns + 1
+        with contextlib.suppress(TimeoutError):
+            to_send = to_send[sender.socket.send(to_send) :]
+        with contextlib.suppress(TimeoutError):
+            heard += reader.socket.recv(1 << 16)
+        came, heard = came + heard.count(b"steady\0"), heard[heard.rfind(b"\0") + 1 :]
+    return came / seconds
+
+
+def bursts_of_many(trial):
+    """Senders that write all they have at once, or never wait, to those who read all the time."""
+    came, each = 0, max(20, trial.part(OF_A_BURST))
+    for plan in BURSTS:
+        words = (*plan.split(), "burst", f"most={each}", f"window={each}", "warm=0", "measured=150000")
+        came += load(trial, trial.topic_alone()[0], *words)["all_came"]
+    words = ("publishers=8", "unpaced", "window=1048576", "warm=0", f"measured={trial.part(4000)}")
+    without_end = load(trial, trial.topic_alone()[0], *words)["all_came"]
+    return f"{came:,} MESSAGEs of bursts came, and {without_end:,} of senders that never wait"
+
+
+def busy_machine(trial, count=16):
+    """All that says who is ended, beside 16 processes that never rest."""
+    rows = (bursts, bursts_of_many, waiting_for_receipts, read_after_the_last, fast_enough)
+    with contextlib.ExitStack() as block:
+        for _ in range(trial.part(count)):
+            busy = subprocess.Popen([sys.executable, "-c", "while True: pass"])
+            block.callback(busy.wait)
+            block.callback(busy.kill)
+        return "; ".join(row(trial) for row in rows)
+
+
+ROWS = [
+    one_slow_subscriber,
+    many_slow_subscribers,
+    slow_subscribers_one_after_another,
+    slow_subscribers_that_come_anew,
+    slow_subscribers_that_come_each_second,
+    slow_subscribers_that_subscribe_again,
+    slow_for_a_minute,
+    fast_enough,
+    read_after_the_last,
+    waiting_for_receipts,
+    bursts_of_many,
+    busy_machine,
+]
