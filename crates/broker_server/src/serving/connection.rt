@@ -182,15 +182,24 @@ impl<'a, 'b, R: Wait + Log + Clock, W: Side, T: Side> Connection<'a, 'b, R, W, T
         self.go_on(desk);
     }
 
-    /// Goes on with the transaction that waits for room, if one does, and with what came behind it, until none waits, or
-    /// there is no room though all that it sent was turned, or it is told of something. What is there for it is taken
-    /// once none waits: a lag that was found meanwhile is told then.
+    /// Goes on with the transaction that waits for room, if one does, as `tries` says, and says whom it waits for.
     fn go_on(&mut self, desk: &mut Desk<'a, R, W, T>) -> Round
         ensures { result ≡ Idle → is_some desk.new.talk.held ≡ true → desk.new.calls.commits ≡ 0 }
     {
         if !desk.talk.is_held() {
             return Round::Idle;
         }
+        let round = self.tries(desk);
+        self.tell_wait(desk);
+        round
+    }
+
+    /// Tries the transaction that waits for room, and what came behind it, until none waits, or there is no room though
+    /// all that it sent was turned, or it is told of something. What is there for it is taken once none waits: a lag that
+    /// was found meanwhile is told then.
+    fn tries(&mut self, desk: &mut Desk<'a, R, W, T>) -> Round
+        ensures { result ≡ Idle → desk.new.calls.commits ≡ 0 }
+    {
         let rt = self.rt;
         for _ in rt.forever() {
             if desk.calls.commits() > 0 && !self.stands_in(desk) {
@@ -205,11 +214,10 @@ impl<'a, 'b, R: Wait + Log + Clock, W: Side, T: Side> Connection<'a, 'b, R, W, T
                 return Round::Busy;
             }
             if desk.calls.commits() == 0 {
-                break;
+                return Round::Idle;
             }
         }
-        self.tell_wait(desk);
-        Round::Idle
+        unreachable!()
     }
 
     /// What waited for room was done: what is there for it is taken.
@@ -221,7 +229,10 @@ impl<'a, 'b, R: Wait + Log + Clock, W: Side, T: Side> Connection<'a, 'b, R, W, T
     }
 
     /// Says whom it waits for, if that is to be said.
-    fn tell_wait(&self, desk: &mut Desk<'a, R, W, T>) {
+    fn tell_wait(&self, desk: &mut Desk<'a, R, W, T>)
+        ensures talk { desk.new.talk ≡ desk.old.talk }
+        ensures commits { desk.new.calls.commits ≡ desk.old.calls.commits }
+    {
         if let Some(news) = desk.calls.take_news() {
             let name = Spelled(desk.talk.name(news.topic).unwrap_or(&[]));
             let passed_over = news.passed_over;

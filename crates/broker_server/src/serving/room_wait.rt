@@ -80,7 +80,9 @@ impl RoomWait {
         };
         self.counted_at = Some(topic);
         let passed_over = pass_over_those(rt, hub, seats, topic, now, &look);
-        self.news = news_of(rt, seats, topic, now, &look, passed_over);
+        if let Some(news) = news_of(rt, seats, topic, now, &look, passed_over) {
+            self.news = Some(news);
+        }
         passed_over
     }
 
