@@ -74,6 +74,8 @@ pub struct Conversation<C: BrokerCalls> {
     next: usize,
     /// How many items a queue holds at most.
     capacity: u64,
+    /// How many SENDs it committed, for the server's figures: no contract speaks of it.
+    sends: u64,
 }
 
 impl<C: BrokerCalls> Drop for Conversation<C> {
@@ -93,6 +95,7 @@ impl<C: BrokerCalls> Drop for Conversation<C> {
             more: _,
             next: _,
             capacity: _,
+            sends: _,
         } = self;
         drop(reader);
         drop(session);
@@ -144,6 +147,7 @@ impl<C: BrokerCalls> Conversation<C> {
             more: false,
             next: 0,
             capacity,
+            sends: 0,
         }
     }
 
@@ -163,6 +167,11 @@ impl<C: BrokerCalls> Conversation<C> {
             Some(open) => Some(&open.sub),
             None => None,
         }
+    }
+
+    /// How many SENDs it committed.
+    pub(crate) fn sends(&self) -> u64 {
+        self.sends
     }
 
     /// What waits to be written.
@@ -505,8 +514,12 @@ impl<C: BrokerCalls> Conversation<C> {
             calls.give_room_back(room);
             return Err(ConversationFault::NoMemory);
         };
+        let sends = txn.len() as u64;
         let (gate, done) = commit_by(self.alloc, calls, gate, txn, room);
         self.gate = Some(gate);
+        if done.is_ok() {
+            self.sends = self.sends.saturating_add(sends);
+        }
         done
     }
 

@@ -7,6 +7,7 @@ ghost use Rattle.broker_locks.specs.Gathering.{IsTraceLeft};
 
 mod accepting;
 mod account;
+mod activity;
 mod bell;
 mod calls;
 mod connection;
@@ -14,11 +15,14 @@ mod cost;
 mod desk;
 mod desks;
 mod door;
+mod endings;
+mod figures;
 mod head;
 mod hub;
 mod intake;
 mod listening;
 mod look;
+mod minute;
 mod moment;
 mod naming;
 mod outfit;
@@ -26,18 +30,21 @@ mod pace;
 mod peer;
 mod price;
 mod purse;
+mod reporting;
 mod room_wait;
 mod running;
 mod said;
 mod seat;
 mod seat_entry;
 mod seldom;
+mod shortened;
 mod socket;
 mod span;
 mod standing;
 mod streak;
 mod tenths;
 mod topic_seats;
+mod totals;
 mod trouble;
 mod unturned;
 mod wait_news;
@@ -49,6 +56,7 @@ use crate::serving::desks::Desks;
 use crate::serving::door::Door;
 use crate::serving::head::Head;
 use crate::serving::hub::{Hub, MAX_CONNECTIONS};
+use crate::serving::reporting::say_figures;
 use crate::serving::running::Running;
 use broker_locks::{Broker, ServerFault, Side};
 pub use listening::run_server;
@@ -94,7 +102,9 @@ where
     };
     info!(rt; target: "serve",
         "serving {} topics to at most {MAX_CONNECTIONS} connections", hub.running.topics());
-    run(rt, alloc, &hub, &mut door, limit)?;
+    let done = run(rt, alloc, &hub, &mut door, limit);
+    say_figures(rt, &hub.figures(rt));
+    done?;
     match hub.into_running().into_trace() {
         Some(trace) => Ok(trace),
         None => Err(ServerFault::NoMemory),

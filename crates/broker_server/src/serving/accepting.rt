@@ -2,15 +2,18 @@
 
 ghost use Rattle.std.specs.Prelude.{◌≡◌};
 
+use crate::serving::activity::Activity;
 use crate::serving::connection::attend;
 use crate::serving::desks::Desks;
 use crate::serving::door::Door;
 use crate::serving::hub::{Hub, MAX_CONNECTIONS};
 use crate::serving::outfit::Outfit;
 use crate::serving::peer::Peer;
+use crate::serving::reporting::Reporting;
 use crate::serving::seldom::Seldom;
 use crate::serving::socket::Socket;
 use crate::serving::trouble::Trouble;
+use crate::serving::why_left::WhyLeft;
 use broker_locks::{ServerFault, Side};
 use log::{Log, error, warn};
 use mio::net::TcpStream;
@@ -31,6 +34,7 @@ pub(crate) struct Counter {
     refused: Seldom,
     /// Those for which memory or descriptors were wanting.
     wanting: Seldom,
+    reporting: Reporting,
 }
 
 impl Counter {
@@ -42,6 +46,7 @@ impl Counter {
             came: 0,
             refused: Seldom::new(),
             wanting: Seldom::new(),
+            reporting: Reporting::new(),
         }
     }
 
@@ -65,7 +70,7 @@ impl Counter {
         if self.refused.waits() {
             Some(Duration::from_secs(1))
         } else {
-            None
+            self.reporting.time()
         }
     }
 
@@ -108,6 +113,7 @@ where
                 socket.say_no_memory();
             }
             warn!(rt; target: "serve", "{peer} is closed: {error}");
+            hub.totals().leaves(rt, Activity::new(), &WhyLeft::NoMemory);
             desks.free_number(rt, desk);
             return;
         }
@@ -115,13 +121,14 @@ where
     if hub.enter(rt, number, &outfit.bell).is_err() {
         socket.say_no_memory();
         warn!(rt; target: "serve", "{peer} is closed: no memory for its bell");
+        hub.totals().leaves(rt, Activity::new(), &WhyLeft::NoMemory);
         desks.free_number(rt, desk);
         return;
     }
     let run = move || attend(rt, alloc, hub, desks, outfit, socket);
     if scope.spawn(run).is_err() {
         warn!(rt; target: "serve", "{peer} is closed: no memory for its thread");
-        hub.leave(rt, number);
+        hub.leave(rt, number, &WhyLeft::NoMemory);
         desks.free_number(rt, desk);
     }
 }
@@ -146,6 +153,8 @@ where
 {
     let number = counter.came;
     counter.came = number.saturating_add(1);
+    hub.totals().comes(rt);
+    hub.stir();
     match desks.take_number(rt) {
         Some(desk) => {
             let peer = Peer { number, desk, addr };
@@ -153,6 +162,7 @@ where
         }
         None => {
             drop(stream);
+            hub.totals().refuses(rt);
             counter.refused.add();
             counter.say(rt);
         }
@@ -204,6 +214,7 @@ fn wait_after<R: Wait + Clock + Log, W: Side, T: Side>(
     match Trouble::of(error) {
         Trouble::NoneWaits => {
             counter.say(rt);
+            counter.reporting.say(rt, hub);
             if hub.door().hears() || !hub.door().sleeps() {
                 return Ok(());
             }

@@ -2,9 +2,11 @@
 
 ghost use Rattle.std.specs.Prelude.{◌≡◌};
 
+use crate::serving::activity::Activity;
 use crate::serving::intake::Intake;
 use mio::Waker;
 use std::sync::atomic::{AtomicBool, AtomicU8, Ordering};
+use std::sync::{Mutex, Wait};
 
 /// The thread is at work, and wasn't told anything since it looked last.
 const AWAKE: u8 = 0;
@@ -24,6 +26,8 @@ pub(crate) struct Bell {
     stuck: AtomicBool,
     waker: Waker,
     intake: Intake,
+    /// What the connection did, as its thread showed it last.
+    activity: Mutex<Activity>,
 }
 
 impl Bell {
@@ -34,6 +38,7 @@ impl Bell {
             stuck: AtomicBool::new(false),
             waker,
             intake: Intake::new(),
+            activity: Mutex::new(Activity::new()),
         }
     }
 
@@ -42,6 +47,16 @@ impl Bell {
         ensures { result.now ≡ self.now.intake }
     {
         &self.intake
+    }
+
+    /// Shows what the connection did so far. No lock is taken while this one is held.
+    pub(crate) fn show<R: Wait>(&self, rt: &R, activity: Activity) {
+        *self.activity.lock(rt) = activity;
+    }
+
+    /// What the connection did, as it was shown last.
+    pub(crate) fn activity<R: Wait>(&self, rt: &R) -> Activity {
+        *self.activity.lock(rt)
     }
 
     /// Tells the thread. The system is called only where it waits. (A wake that fails is one whose poll is gone.) Where

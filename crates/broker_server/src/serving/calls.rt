@@ -5,17 +5,19 @@ ghost use Rattle.broker_server.specs.UnturnedTopics.{none_unturned};
 
 use crate::conversation::{BrokerCalls, ConversationFault};
 use crate::serving::account::Account;
+use crate::serving::activity::Activity;
 use crate::serving::bell::Bell;
 use crate::serving::hub::Hub;
 use crate::serving::moment::Moment;
 use crate::serving::peer::Peer;
 use crate::serving::room_wait::RoomWait;
 use crate::serving::seat::Seat;
+use crate::serving::shortened::Shortened;
 use crate::serving::unturned::Unturned;
 use crate::serving::wait_news::WaitNews;
 use crate::spelled::Spelled;
 use broker_locks::{CommitFault, NoRoom, Reserved, Side, Subscribed, Worker};
-use log::{Log, info};
+use log::{Log, info, warn};
 use mcast_group::{SubFault, SubState};
 use mcast_txn::{Released, Topic};
 use sender_gate::{ClaimFault, Flying, Gate};
@@ -30,6 +32,9 @@ use stomp_session::{Names, Session, Step};
 /// (our choice).
 const AT_ONCE: u64 = 16;
 
+/// The most octets of a topic's name: as many as a line has.
+const MOST_NAMED: usize = 4_096;
+
 /// An open subscription of a connection, with its seat.
 #[derive(Drop)]
 pub(crate) struct SeatedSub {
@@ -40,6 +45,8 @@ pub(crate) struct SeatedSub {
     untold: u64,
     /// Whether it has ended at its topic.
     over: AtomicBool,
+    /// Whether it was said that it has lagged.
+    said: AtomicBool,
 }
 
 /// What one connection asks of the broker, and which topics it still has to turn.
@@ -62,6 +69,8 @@ pub(crate) struct Calls<'a, R: Wait + Log + Clock, W: Side, T: Side> {
     subs: u64,
     /// How many it had, with these.
     begun: u64,
+    /// What it did, as far as that is counted here.
+    activity: Activity,
     worker: Worker<W>,
 }
 
@@ -94,6 +103,7 @@ impl<'a, R: Wait + Log + Clock, W: Side, T: Side> Calls<'a, R, W, T> {
             wait: RoomWait::new(),
             subs: 0,
             begun: 0,
+            activity: Activity::new(),
             worker,
         }
     }
@@ -115,6 +125,16 @@ impl<'a, R: Wait + Log + Clock, W: Side, T: Side> Calls<'a, R, W, T> {
         &self.bell
     }
 
+    /// What it did, as far as that is counted here, and its subscriptions.
+    pub(crate) fn activity(&self) -> Activity
+        ensures { result ≡ record self.now.activity { subscriptions = self.now.subs } }
+    {
+        Activity {
+            subscriptions: self.subs,
+            ..self.activity
+        }
+    }
+
     /// Its worker, when it asks no more.
     pub(crate) fn into_worker(self) -> Worker<W>
         ensures { result ≡ self.entry.worker }
@@ -132,6 +152,7 @@ impl<'a, R: Wait + Log + Clock, W: Side, T: Side> Calls<'a, R, W, T> {
             wait: _,
             subs: _,
             begun: _,
+            activity: _,
             worker,
         } = self;
         worker
@@ -185,6 +206,26 @@ impl<'a, R: Wait + Log + Clock, W: Side, T: Side> Calls<'a, R, W, T> {
         {
             seats.settle(self.rt, Moment::now(self.rt), account, intake);
         }
+    }
+
+    /// This subscription was found to have lagged: it is said and counted, once.
+    fn note_lag(&mut self, sub: &SeatedSub) {
+        if sub.said.swap(true, Ordering::SeqCst) {
+            return;
+        }
+        self.activity.lags();
+        let Ok(mut name) = Vec::with_capacity(self.alloc, MOST_NAMED) else {
+            return;
+        };
+        self.hub.running.put_name(self.rt, sub.topic, &mut name);
+        let peer = self.peer;
+        warn!(self.rt; target: "serve", "{peer} lagged at the topic {}", Spelled(name.as_slice()));
+    }
+
+    /// Says that it has claimed the sender of this client-id.
+    fn tell_claimed(&self, client: &[u8]) {
+        let peer = self.peer;
+        info!(self.rt; target: "serve", "{peer} is client-id {}", Shortened(client));
     }
 
     /// Says that the last of these topics was made.
@@ -303,7 +344,8 @@ impl<'a, R: Wait + Log + Clock, W: Side, T: Side> Calls<'a, R, W, T> {
                 },
             ) => {
                 if full.0 == topic.0 {
-                    self.wait.look(self.rt, self.alloc, self.hub, topic);
+                    let count = self.wait.look(self.rt, self.alloc, self.hub, topic);
+                    self.activity.passes_over(count);
                 } else {
                     self.bell.ring();
                 }
@@ -390,7 +432,11 @@ impl<'a, R: Wait + Log + Clock, W: Side, T: Side> BrokerCalls for Calls<'a, R, W
     }
 
     fn claim(&mut self, client: Option<&[u8]>) -> Result<Gate, ClaimFault> {
-        self.hub.running.broker.claim(self.rt, client)
+        let claimed = self.hub.running.broker.claim(self.rt, client);
+        if let (Ok(_), Some(client)) = (&claimed, client) {
+            self.tell_claimed(client);
+        }
+        claimed
     }
 
     fn give_back(&mut self, gate: Gate) {
@@ -419,6 +465,7 @@ impl<'a, R: Wait + Log + Clock, W: Side, T: Side> BrokerCalls for Calls<'a, R, W
                     seat,
                     untold: 0,
                     over: AtomicBool::new(false),
+                    said: AtomicBool::new(false),
                 })
             }
             Err(fault) => {
@@ -443,14 +490,21 @@ impl<'a, R: Wait + Log + Clock, W: Side, T: Side> BrokerCalls for Calls<'a, R, W
             .running
             .broker
             .state(self.rt, sub.topic, sub.begun.sub);
-        matches!(state, Some(SubState::Lag(_)))
+        let has_lagged = matches!(state, Some(SubState::Lag(_)));
+        if has_lagged {
+            self.note_lag(sub);
+        }
+        has_lagged
     }
 
     /// Those who wait for room are told once nothing is there, or half of what a queue holds was taken.
     fn take(&mut self, sub: &mut SeatedSub) -> Option<Released> {
         let item = sub.begun.taker.take(self.rt);
-        match item {
-            Some(_) => self.count_taken(sub),
+        match &item {
+            Some(item) => {
+                self.activity.takes(item.part.sends.len() as u64);
+                self.count_taken(sub);
+            }
             None => self.find_empty(sub),
         }
         item
@@ -480,7 +534,10 @@ impl<'a, R: Wait + Log + Clock, W: Side, T: Side> BrokerCalls for Calls<'a, R, W
         );
         self.count_commit();
         match done {
-            Ok((gate, _)) => Ok(gate),
+            Ok((gate, _)) => {
+                self.activity.commits();
+                Ok(gate)
+            }
             Err(refused) => {
                 self.hub.ring_all_waiters(self.rt);
                 Err(refused)

@@ -301,6 +301,7 @@ impl<'a, 'b, R: Wait + Log + Clock, W: Side, T: Side> Connection<'a, 'b, R, W, T
                 Round::Busy => {
                     rounds = rounds.wrapping_add(1);
                     if desk.socket.is_blocked() || rounds % MAX_ROUNDS == 0 {
+                        self.show(desk);
                         self.look(desk)?;
                     }
                 }
@@ -313,6 +314,7 @@ impl<'a, 'b, R: Wait + Log + Clock, W: Side, T: Side> Connection<'a, 'b, R, W, T
                 Round::Idle => {
                     rounds = 0;
                     yielded_at = 0;
+                    self.show(desk);
                     if self.outfit.bell.sleeps() {
                         return self.sleep_of(desk);
                     }
@@ -320,6 +322,12 @@ impl<'a, 'b, R: Wait + Log + Clock, W: Side, T: Side> Connection<'a, 'b, R, W, T
             }
         }
         unreachable!()
+    }
+
+    /// Shows what it did, for the log's figures.
+    fn show(&self, desk: &Desk<'a, R, W, T>) {
+        desk.show();
+        self.hub.stir();
     }
 
     /// By what it is woken, as there is nothing to do. Refused where the connection would be told of a lag behind what
@@ -401,13 +409,13 @@ impl<'a, 'b, R: Wait + Log + Clock, W: Side, T: Side> Connection<'a, 'b, R, W, T
         }
     }
 
-    /// Says that a subscription has lagged, if that is why the connection leaves.
+    /// Says how far behind a subscription has lagged, if that is why the connection leaves. That it lagged was said.
     fn tell_lag(&self, desk: &Desk<'a, R, W, T>) {
         if let Some(Exit::Error(ConversationFault::Lagged { topic, items })) = desk.talk.exit() {
             let name = desk.talk.name(topic).unwrap_or(&[]);
             let peer = self.outfit.peer;
-            warn!(self.rt; target: "serve",
-                "{peer} lagged at the topic {}: {items} items behind", Spelled(name));
+            info!(self.rt; target: "serve",
+                "{peer} is told that it lagged at the topic {}: {items} items behind", Spelled(name));
         }
     }
 
@@ -423,6 +431,7 @@ impl<'a, 'b, R: Wait + Log + Clock, W: Side, T: Side> Connection<'a, 'b, R, W, T
             return WhyLeft::Closing;
         };
         let left = self.leave(ended, &mut desk);
+        desk.show();
         let (socket, calls) = Box::into_inner(desk).into_parts();
         drop(socket);
         self.hub.running.put_worker(self.rt, calls.into_worker());
@@ -461,7 +470,10 @@ pub(crate) fn attend<'a, 'b, R: Wait + Log + Clock, W: Side, T: Side>(
     let peer = outfit.peer;
     info!(rt; target: "serve", "{peer} came");
     let left = talk_over(rt, alloc, hub, desks, outfit, socket);
-    info!(rt; target: "serve", "{peer} left: {left}");
+    match left {
+        WhyLeft::Untaken => warn!(rt; target: "serve", "{peer} left: {left}"),
+        _ => info!(rt; target: "serve", "{peer} left: {left}"),
+    }
     desks.free_number(rt, peer.desk);
 }
 
@@ -492,7 +504,7 @@ fn talk_over<'a, 'b, R: Wait + Log + Clock, W: Side, T: Side>(
             WhyLeft::NoMemory
         }
     };
-    hub.leave(rt, number);
+    hub.leave(rt, number, &left);
     left
 }
 

@@ -6,6 +6,7 @@ ghost use Rattle.broker_server.specs.Delivering.{DeliversRound, may_read};
 ghost use Rattle.broker_server.specs.declared.serving.socket.Came.TheVariants.{Nothing};
 
 use crate::conversation::{BrokerCalls, Conversation};
+use crate::serving::activity::Activity;
 use crate::serving::calls::Calls;
 use crate::serving::moment::Moment;
 use crate::serving::socket::{Came, Socket};
@@ -37,6 +38,10 @@ pub(crate) struct Desk<'a, R: Wait + Log + Clock, W: Side, T: Side> {
     waits: u32,
     /// What the system took in a row while it wasn't behind.
     streak: Streak,
+    /// How many octets were read.
+    octets_in: u64,
+    /// How many octets the system took.
+    octets_out: u64,
 }
 
 impl<'a, R: Wait + Log + Clock, W: Side, T: Side> Desk<'a, R, W, T> {
@@ -59,6 +64,8 @@ impl<'a, R: Wait + Log + Clock, W: Side, T: Side> Desk<'a, R, W, T> {
             untaken: None,
             waits: 0,
             streak: Streak::new(),
+            octets_in: 0,
+            octets_out: 0,
         }
     }
 
@@ -80,6 +87,7 @@ impl<'a, R: Wait + Log + Clock, W: Side, T: Side> Desk<'a, R, W, T> {
         let sent = self.socket.write(&mut self.talk);
         if sent > 0 {
             self.untaken = None;
+            self.octets_out = self.octets_out.saturating_add(sent as u64);
         }
         self.note_pace(sent);
         sent
@@ -109,11 +117,14 @@ impl<'a, R: Wait + Log + Clock, W: Side, T: Side> Desk<'a, R, W, T> {
         ensures talk { self.new.talk ≡ self.old.talk }
         ensures calls { self.new.calls ≡ self.old.calls }
     {
-        if self.talk.may_read() {
-            self.socket.read(room)
-        } else {
-            Came::Nothing
+        if !self.talk.may_read() {
+            return Came::Nothing;
         }
+        let came = self.socket.read(room);
+        if let Came::Octets(n) = came {
+            self.octets_in = self.octets_in.saturating_add(n as u64);
+        }
+        came
     }
 
     /// Whether a write has failed.
@@ -121,6 +132,33 @@ impl<'a, R: Wait + Log + Clock, W: Side, T: Side> Desk<'a, R, W, T> {
         ensures { result ≡ self.now.socket.gone }
     {
         self.socket.is_gone()
+    }
+
+    /// What the connection did, and what it has now.
+    fn activity(&self) -> Activity
+        ensures { result ≡ record self.now.calls.activity {
+          sends = result.sends;
+          octets_in = self.now.octets_in;
+          octets_out = self.now.octets_out;
+          subscriptions = self.now.calls.subs;
+          waiting = result.waiting;
+          behind = result.behind;
+        } }
+    {
+        let is_behind = self.talk.has_more() || !self.talk.wire().is_empty();
+        Activity {
+            sends: self.talk.sends(),
+            octets_in: self.octets_in,
+            octets_out: self.octets_out,
+            waiting: one_if(self.talk.is_held()),
+            behind: one_if(is_behind),
+            ..self.calls.activity()
+        }
+    }
+
+    /// Shows what the connection did, for the log's figures.
+    pub(crate) fn show(&self) {
+        self.calls.bell().show(self.calls.rt(), self.activity());
     }
 
     /// It is stuck where more is there than the system takes: it looks again once that takes some.
@@ -145,6 +183,7 @@ impl<'a, R: Wait + Log + Clock, W: Side, T: Side> Desk<'a, R, W, T> {
         }
         self.deliver();
         self.write();
+        self.show();
         self.talk.wire().is_empty()
             && !self.talk.has_more()
             && !self.talk.is_leaving()
@@ -197,7 +236,17 @@ impl<'a, R: Wait + Log + Clock, W: Side, T: Side> Desk<'a, R, W, T> {
             untaken: _,
             waits: _,
             streak: _,
+            octets_in: _,
+            octets_out: _,
         } = self;
         (socket, calls)
     }
+}
+
+/// 1 where that is so, else 0.
+fn one_if(is_so: bool) -> u64
+    ensures yes { is_so ≡ true → result ≡ 1 }
+    ensures no { is_so ≡ false → result ≡ 0 }
+{
+    if is_so { 1 } else { 0 }
 }

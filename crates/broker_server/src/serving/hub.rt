@@ -5,11 +5,14 @@ ghost use Rattle.std.specs.Option.{option_map};
 
 use crate::serving::account::Account;
 use crate::serving::bell::Bell;
+use crate::serving::figures::Figures;
 use crate::serving::head::Head;
 use crate::serving::running::Running;
 use crate::serving::seat::Seat;
 use crate::serving::topic_seats::TopicSeats;
+use crate::serving::totals::Totals;
 use crate::serving::unturned::Unturned;
+use crate::serving::why_left::WhyLeft;
 use broker_locks::{NoRoom, Reserved, Side};
 use delivery::MAX_TOPICS;
 use mcast_txn::{NoMemory, Topic};
@@ -36,6 +39,7 @@ pub(crate) struct Hub<R: Wait, W: Side, T: Side> {
     connections: Mutex<Vec<(u64, Arc<Bell>)>>,
     /// The bell of the thread that accepts.
     door: Bell,
+    totals: Totals,
     /// Whether the server ends: connections go on no longer.
     closing: AtomicBool,
     /// Whether a poll failed.
@@ -59,6 +63,7 @@ impl<R: Wait, W: Side, T: Side> Hub<R, W, T> {
             heads,
             connections: Mutex::new(Vec::with_capacity(alloc, MAX_CONNECTIONS as usize)?),
             door,
+            totals: Totals::new(),
             closing: AtomicBool::new(false),
             failed: AtomicBool::new(false),
         })
@@ -249,15 +254,43 @@ impl<R: Wait, W: Side, T: Side> Hub<R, W, T> {
         Ok(())
     }
 
-    /// Takes a connection's bell out.
-    pub(crate) fn leave(&self, rt: &R, connection: u64) {
+    /// Takes a connection's bell out, which left so: what it did is added to the totals under the same lock, so that it
+    /// is never counted twice.
+    pub(crate) fn leave(&self, rt: &R, connection: u64, left: &WhyLeft) {
         let mut connections = self.connections.lock(rt);
         let connections = &mut *connections;
         let found = connections.iter().position(|entry| entry.0 == connection);
         if let Some(at) = found
             && at < connections.len()
         {
-            connections.swap_remove(at);
+            let (_, bell) = connections.swap_remove(at);
+            self.totals.leaves(rt, bell.activity(rt), left);
+        }
+        self.stir();
+    }
+
+    /// What the server did, and what is there.
+    pub(crate) fn figures(&self, rt: &R) -> Figures {
+        let topics = self.running.names_len(rt);
+        let connections = self.connections.lock(rt);
+        let mut figures = self.totals.past(rt);
+        for (_, bell) in connections.iter() {
+            figures.activity.add(bell.activity(rt));
+        }
+        figures.connections = connections.len() as u64;
+        figures.topics = topics;
+        figures
+    }
+
+    /// What is counted of those who left.
+    pub(crate) fn totals(&self) -> &Totals {
+        &self.totals
+    }
+
+    /// Something happened that the figures tell of: the accepting thread is told, where it waits for that.
+    pub(crate) fn stir(&self) {
+        if self.totals.stirs() {
+            self.door.ring();
         }
     }
 
@@ -303,6 +336,7 @@ impl<R: Wait, W: Side, T: Side> Hub<R, W, T> {
             heads: _,
             connections: _,
             door: _,
+            totals: _,
             closing: _,
             failed: _,
         } = self;

@@ -53,35 +53,37 @@ impl RoomWait {
     }
 
     /// It has found no room at this topic, and looks whom it waits for: those for whom it may not wait are passed over.
-    /// Where nobody lacks room, only what is pending or reserved fills the topic, and that isn't looked at.
+    /// Where nobody lacks room, only what is pending or reserved fills the topic, and that isn't looked at. How many it
+    /// passed over.
     pub(crate) fn look<R: Wait + Clock, W: Side, T: Side>(
         &mut self,
         rt: &R,
         alloc: Global,
         hub: &Hub<R, W, T>,
         topic: Topic,
-    )
+    ) -> u64
         ensures counted { (self.new.counted_at ≡ self.old.counted_at) ⊎ (self.new.counted_at ≡ None)
             ⊎ (self.new.counted_at ≡ Some topic) }
     {
         let mut lacking = Vec::new(alloc);
         let _ = hub.running.broker.lacking(rt, topic, &mut lacking);
         if lacking.is_empty() && self.counted_at.is_none() {
-            return;
+            return 0;
         }
         let Some(seats) = hub.seats(topic) else {
-            return;
+            return 0;
         };
         let is_counted = self.stays_at(rt, hub, topic);
         let now = Moment::now(rt);
         let Ok(look) = seats.look(rt, alloc, now, lacking.as_slice(), is_counted) else {
-            return;
+            return 0;
         };
         self.counted_at = Some(topic);
         let passed_over = pass_over_those(rt, hub, seats, topic, now, &look);
         if let Some(news) = news_of(rt, seats, topic, now, &look, passed_over) {
             self.news = Some(news);
         }
+        passed_over
     }
 
     /// Whether it is counted at this topic. At another one it waits no longer.

@@ -62,6 +62,18 @@ impl<R: Wait, W: Side, T: Side> Running<R, W, T> {
         step_by_all(all, session, frame, names)
     }
 
+    /// How many topics have a name.
+    pub(crate) fn names_len(&self, rt: &R) -> u64 {
+        self.names.lock(rt).len() as u64
+    }
+
+    /// Appends the name of a topic to this list, which is to have room for it.
+    pub(crate) fn put_name(&self, rt: &R, topic: Topic, list: &mut Vec<u8>) {
+        if let Some(name) = self.names.lock(rt).name(topic) {
+            let _ = list.extend_from_slice(name);
+        }
+    }
+
     /// How many items a queue holds at most.
     pub(crate) fn capacity(&self) -> u64
         ensures { result ≡ self.now.broker.capacity }

@@ -4,6 +4,7 @@ mod client;
 mod drawn;
 mod ending;
 mod errors;
+mod figures;
 mod lines;
 mod log_lines;
 mod logged;

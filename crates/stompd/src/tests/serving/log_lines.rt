@@ -6,7 +6,7 @@ use super::logged::Kept;
 use super::many::Many;
 use super::peers::Reset;
 use super::served::serves;
-use super::slow::{OneOfTwo, Silent};
+use super::slow::{NeverReads, OneOfTwo, Silent};
 use broker_server::VERSION;
 use log::{LevelFilter, Logged};
 use std::sync::Mutex;
@@ -26,6 +26,26 @@ fn between<'a>(lines: &'a [String], front: &str, back: &str) -> Option<&'a str> 
     if count == 1 { found } else { None }
 }
 
+/// How many lines there are, but for those of who waits.
+fn count_without_waits(lines: &[String]) -> usize {
+    let waits = "[WARN  serve] senders to the topic ";
+    let others = lines
+        .iter()
+        .filter(|line| !line.as_str().starts_with(waits));
+    others.count()
+}
+
+/// Whether the last of these lines has these figures.
+fn figures_have(lines: &[String], part: &str) -> bool {
+    match lines.last() {
+        Some(line) => {
+            let line = line.as_str();
+            line.starts_with("[INFO  serve] figures connections=0 ") && line.contains(part)
+        }
+        None => false,
+    }
+}
+
 /// Whether this is the number of a port.
 fn is_port(text: &str) -> bool {
     text.parse::<u16>().is_ok()
@@ -39,11 +59,17 @@ fn says_of_first(lines: &[String], left: &str) -> bool {
     }
 }
 
+/// Whether these lines say once that the first connection lagged at A.
+fn say_it_lagged(lines: &[String]) -> bool {
+    let front = "[WARN  serve] connection 0 of 127.0.0.1:";
+    between(lines, front, " lagged at the topic A").is_some_and(|port| is_port(port))
+}
+
 /// How many items behind the first connection lagged at A, where these lines say it once.
 fn lagged_behind(lines: &[String]) -> Option<u64> {
-    let front = "[WARN  serve] connection 0 of 127.0.0.1:";
+    let front = "[INFO  serve] connection 0 of 127.0.0.1:";
     let middle = between(lines, front, " items behind")?;
-    let (port, number) = middle.split_once(" lagged at the topic A: ")?;
+    let (port, number) = middle.split_once(" is told that it lagged at the topic A: ")?;
     if is_port(port) {
         number.parse::<u64>().ok()
     } else {
@@ -71,9 +97,12 @@ fn say_who_lagged(lines: &[String]) -> bool {
         }
     }
     behind.is_some_and(|items| items >= 64 && items < 400)
+        && say_it_lagged(lines)
         && says_of_first(lines, " left: ERROR 74 Lagged")
+        && figures_have(lines, " ended_lag=1 ")
+        && figures_have(lines, " lagged=1 ")
         && waits > 0
-        && lines.len() == waits.saturating_add(6)
+        && lines.len() == waits.saturating_add(8)
 }
 
 /// The first subscribes to A and B, and doesn't read while 400 items come to A, and one to B. A queue holds 64 of them.
@@ -86,11 +115,32 @@ fn the_log_says_who_lagged(rt: HostRuntime) {
     assert!(rt; say_who_lagged(lines.lock(&rt).as_slice()));
 }
 
+/// Whether these lines say once that the first lagged, before it was told, and that its peer closed it or a write failed.
+fn say_who_takes_nothing(lines: &[String]) -> bool {
+    let closed = says_of_first(lines, " left: its peer closed it");
+    say_it_lagged(lines)
+        && (closed || says_of_first(lines, " left: a write failed"))
+        && figures_have(lines, " ended_lag=0 ")
+        && figures_have(lines, " lagged=1 ")
+        && count_without_waits(lines) == 9
+}
+
+/// The first subscribes to A, never reads while 400 items come there, and is gone a while later.
+#[test]
+fn the_log_says_who_lagged_and_takes_nothing(rt: HostRuntime) {
+    let lines = Mutex::new(Vec::new(rt.alloc()));
+    let kept = Kept::here(&rt, rt.alloc(), &lines);
+    let logged = Logged::new(rt, LevelFilter::Info, kept);
+    assert!(rt; serves(&logged, rt.alloc(), &NeverReads, 400));
+    assert!(rt; say_who_takes_nothing(lines.lock(&rt).as_slice()));
+}
+
 /// Whether these lines say that the first left by its ERROR, which the system took from the server or not.
 fn say_who_never_read(lines: &[String]) -> bool {
     let told = " left: ERROR 21 Unsupported";
     let given_up = " left: ERROR 21 Unsupported, closed after 100 polls that brought nothing out";
-    (says_of_first(lines, told) || says_of_first(lines, given_up)) && lines.len() == 5
+    (says_of_first(lines, told) || says_of_first(lines, given_up))
+        && count_without_waits(lines) == 6
 }
 
 /// The first is sent more than it reads, is refused a frame, and doesn't read its ERROR. Whether the system takes that from
@@ -111,7 +161,7 @@ fn say_who_is_gone(lines: &[String]) -> bool {
     let by_write = between(lines, front, " left: a write failed");
     by_read.or(by_write).is_some_and(|port| is_port(port))
         && (by_read.is_none() || by_write.is_none())
-        && lines.len() == 9
+        && lines.len() == 10
 }
 
 /// The second resets its connection, which a read or a write finds.
@@ -127,7 +177,9 @@ fn the_log_says_who_is_gone(rt: HostRuntime) {
 /// Whether these lines say that one connection was refused.
 fn say_one_was_refused(lines: &[String]) -> bool {
     let refused = "[WARN  serve] refused 1 connections: 256 are there";
-    between(lines, refused, "").is_some() && lines.len() == 514
+    between(lines, refused, "").is_some()
+        && figures_have(lines, " came=257 refused=1 ")
+        && lines.len() == 515
 }
 
 /// 256 are there, and one more comes.

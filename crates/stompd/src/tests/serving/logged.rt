@@ -120,7 +120,7 @@ fn tell_all(alloc: Global, lines: &[String]) -> bool {
     }
     is_said_once(lines, topics, topics)
         && is_said_once(lines, MADE.0, MADE.1)
-        && lines.len() == LEAVING.len().saturating_mul(2).saturating_add(2)
+        && lines.len() == LEAVING.len().saturating_mul(2).saturating_add(3)
 }
 
 #[test]

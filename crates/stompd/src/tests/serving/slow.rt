@@ -260,6 +260,26 @@ impl Peers for OneOfTwo {
     }
 }
 
+/// One subscribes to A and never reads; it is gone a while after a burst to A.
+#[derive(Drop)]
+pub(super) struct NeverReads;
+
+impl Peers for NeverReads {
+    fn count(&self) -> u64 {
+        3
+    }
+
+    fn meet(&self, alloc: Global, lines: &mut Lines) -> bool {
+        let Some(_never) = Client::subscribed(alloc, lines) else {
+            return false;
+        };
+        match Client::connected(alloc, lines) {
+            Some(mut sender) => bursts(&mut sender, alloc) && pauses(&mut sender, alloc, lines),
+            None => false,
+        }
+    }
+}
+
 #[test]
 fn a_burst_lags_one_of_two_subscriptions(rt: HostRuntime) {
     assert!(rt; serves(&quiet(rt), rt.alloc(), &OneOfTwo, 401));

@@ -1,0 +1,75 @@
+//! By what connections ended.
+
+ghost use Rattle.std.specs.Prelude.{◌≡◌};
+ghost use Rattle.broker_server.specs.Figures.{endings_with};
+
+use crate::conversation::{ConversationFault, Exit};
+use crate::serving::why_left::WhyLeft;
+use std::fmt;
+use std::fmt::{Display, Formatter};
+
+/// How many connections ended, by what ended them. Its `Display` is its part of the log's line of figures.
+#[derive(Clone, Copy, PartialEq, Eq)]
+pub(crate) struct Endings {
+    /// By their DISCONNECT.
+    pub(crate) disconnect: u64,
+    /// By an ERROR that isn't a lag's.
+    pub(crate) error: u64,
+    /// Their peers closed them.
+    pub(crate) closed: u64,
+    /// By a lag: told of it, or lost behind it.
+    pub(crate) lag: u64,
+    /// A write failed.
+    pub(crate) write_failed: u64,
+    /// By what failed here, memory, descriptors, a thread or a poll, or as the server ended.
+    pub(crate) other: u64,
+}
+
+impl Endings {
+    /// None.
+    pub(crate) fn new() -> Endings
+        ensures { result ≡ record { disconnect = 0; error = 0; closed = 0; lag = 0; write_failed = 0; other = 0 } }
+    {
+        Endings {
+            disconnect: 0,
+            error: 0,
+            closed: 0,
+            lag: 0,
+            write_failed: 0,
+            other: 0,
+        }
+    }
+
+    /// One more ended so.
+    pub(crate) fn add(&mut self, left: &WhyLeft)
+        ensures { self.new ≡ endings_with left.now self.old }
+    {
+        let count = match left {
+            WhyLeft::By(Exit::Disconnect, _) => &mut self.disconnect,
+            WhyLeft::By(Exit::Error(ConversationFault::Lagged { .. }), _) | WhyLeft::Untaken => {
+                &mut self.lag
+            }
+            WhyLeft::By(Exit::Error(_), _) => &mut self.error,
+            WhyLeft::By(Exit::Lost, _) => &mut self.closed,
+            WhyLeft::WriteFailed => &mut self.write_failed,
+            WhyLeft::NoMemory | WhyLeft::PollFailed | WhyLeft::Closing => &mut self.other,
+        };
+        *count = count.saturating_add(1);
+    }
+}
+
+impl Display for Endings {
+    fn fmt<W: fmt::Write>(&self, f: &mut Formatter<W>) -> fmt::Result {
+        write!(
+            f,
+            "ended_disconnect={} ended_error={}",
+            self.disconnect, self.error
+        )?;
+        write!(f, " ended_closed={} ended_lag={}", self.closed, self.lag)?;
+        write!(
+            f,
+            " ended_write_failed={} ended_other={}",
+            self.write_failed, self.other
+        )
+    }
+}
