@@ -1,6 +1,6 @@
 -- Worked examples of what words ask for, or what is wrong with them.
 use Rattle.std.proofs.Common.{◌≡◌, false, ℕ, List, [], ◌∷◌, codes, Some, None, Ok, Err, refl}
-use Rattle.broker_server.specs.declared.words_fault.WordsFault.TheVariants.{NoWord, UnknownProgram, TooManyWords, NoName, NoAddress, EmptyName, BadName, NameTwice, TooManyTopics}
+use Rattle.broker_server.specs.declared.words_fault.WordsFault.TheVariants.{NoWord, UnknownProgram, TooManyWords, NoName, NoAddress, EmptyName, BadName, NameTwice}
 use Rattle.broker_server.specs.Excerpts.{ExcerptData}
 use Rattle.broker_server.specs.Programs.{ToRelay, ToAudit, ToHelp}
 use Rattle.broker_server.specs.Requests.{ToRun, ToServe, request_by, topics_fault}
