@@ -310,7 +310,9 @@ impl<'a, R: Wait + Log + Clock, W: Side, T: Side> Calls<'a, R, W, T> {
     fn go_on(&mut self, room: Reserved) -> Option<Reserved>
         ensures { result ≡ Some room }
     {
-        self.end_wait();
+        if self.wait.is_counted() {
+            self.end_wait();
+        }
         Some(room)
     }
 

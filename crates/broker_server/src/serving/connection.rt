@@ -1,7 +1,10 @@
 //! A connection's thread.
 
-ghost use Rattle.std.specs.Prelude.{◌≡◌, true};
+ghost use Rattle.std.specs.Prelude.{◌≡◌, ◌≤◌, Bool, List, take, true, vec_len};
 ghost use Rattle.std.specs.Option.{is_some};
+ghost use Rattle.broker_server.specs.BrokerRows.{BrokerRow};
+ghost use Rattle.broker_server.specs.Delivering.{DeliversRound};
+ghost use Rattle.broker_server.specs.Hearing.{Hears};
 ghost use Rattle.broker_server.specs.declared.serving.connection.Round.TheVariants.{Idle};
 
 use crate::conversation::{Conversation, ConversationFault, Exit};
@@ -133,6 +136,7 @@ impl<'a, 'b, R: Wait + Log + Clock, W: Side, T: Side> Connection<'a, 'b, R, W, T
             match desk.read(self.outfit.room.as_mut_slice()) {
                 Came::Octets(n) => {
                     self.hear_read(desk, n);
+                    self.go_on(desk);
                     round = Round::Busy;
                 }
                 Came::Again => round = Round::Busy,
@@ -172,14 +176,17 @@ impl<'a, 'b, R: Wait + Log + Clock, W: Side, T: Side> Connection<'a, 'b, R, W, T
         true
     }
 
-    /// Does what the first so many octets of the room ask for.
-    fn hear_read(&mut self, desk: &mut Desk<'a, R, W, T>, n: usize) {
+    /// Does what the first so many octets of the room ask for, up to a transaction that finds no room.
+    fn hear_read(&mut self, desk: &mut Desk<'a, R, W, T>, n: usize)
+        ensures heard { n ≤ vec_len self.old.outfit.room → (asked : List BrokerRow)
+            × Hears (take n self.old.outfit.room.items) desk.old.talk asked desk.new.talk }
+        ensures same { self.new ≡ record self.old { heard = self.new.heard } }
+    {
         self.heard = self.heard.saturating_add(n);
         desk.calls.set_heard_little(self.heard <= MOST_HEARD);
         if let Some(piece) = self.outfit.room.as_slice().get(..n) {
             desk.talk.hear(&mut desk.calls, piece);
         }
-        self.go_on(desk);
     }
 
     /// Goes on with the transaction that waits for room, if one does, as `tries` says, and says whom it waits for.
@@ -221,7 +228,10 @@ impl<'a, 'b, R: Wait + Log + Clock, W: Side, T: Side> Connection<'a, 'b, R, W, T
     }
 
     /// What waited for room was done: what is there for it is taken.
-    fn end_wait(&mut self, desk: &mut Desk<'a, R, W, T>) {
+    fn end_wait(&mut self, desk: &mut Desk<'a, R, W, T>)
+        ensures { (asked : List BrokerRow) × (any : Bool)
+            × DeliversRound desk.old.talk asked any desk.new.talk }
+    {
         desk.deliver();
         if desk.calls.commits() == 0 {
             self.heard = 0;

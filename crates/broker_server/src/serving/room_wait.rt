@@ -1,6 +1,7 @@
 //! A connection's wait for room.
 
 ghost use Rattle.std.specs.Prelude.{◌≡◌, ◌≤◌, ◌⊎◌, None, Some, true, false, length, IfSome};
+ghost use Rattle.std.specs.Option.{is_some};
 ghost use Rattle.broker_server.specs.Purses.{is_free};
 
 use crate::serving::hub::Hub;
@@ -39,6 +40,13 @@ impl RoomWait {
         ensures none { self.new ≡ record self.old { news = None } }
     {
         self.news.take()
+    }
+
+    /// Whether it is counted as one that waits.
+    pub(crate) fn is_counted(&self) -> bool
+        ensures { result ≡ is_some self.now.counted_at }
+    {
+        self.counted_at.is_some()
     }
 
     /// It waits no longer. No clock is read where it wasn't counted.
