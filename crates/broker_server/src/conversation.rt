@@ -517,10 +517,17 @@ impl<C: BrokerCalls> Conversation<C> {
         let sends = txn.len() as u64;
         let (gate, done) = commit_by(self.alloc, calls, gate, txn, room);
         self.gate = Some(gate);
-        if done.is_ok() {
-            self.sends = self.sends.saturating_add(sends);
-        }
+        self.count_sends(sends, done.is_ok());
         done
+    }
+
+    /// So many SENDs are counted where they were committed.
+    fn count_sends(&mut self, count: u64, is_done: bool)
+        ensures { self.new ≡ self.old }
+    {
+        if is_done {
+            self.sends = self.sends.saturating_add(count);
+        }
     }
 
     /// The connection is lost: what is open is ended, a transaction that waits for room is dropped, and nothing is
