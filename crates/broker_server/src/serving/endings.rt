@@ -44,17 +44,17 @@ impl Endings {
     pub(crate) fn add(&mut self, left: &WhyLeft)
         ensures { self.new ≡ endings_with left.now self.old }
     {
-        let count = match left {
-            WhyLeft::By(Exit::Disconnect, _) => &mut self.disconnect,
-            WhyLeft::By(Exit::Error(ConversationFault::Lagged { .. }), _) | WhyLeft::Untaken => {
-                &mut self.lag
+        match left {
+            WhyLeft::By(Exit::Disconnect, _) => self.disconnect = self.disconnect.saturating_add(1),
+            WhyLeft::By(Exit::Error(ConversationFault::Lagged { topic: _, items: _ }), _)
+            | WhyLeft::Untaken => self.lag = self.lag.saturating_add(1),
+            WhyLeft::By(Exit::Error(_), _) => self.error = self.error.saturating_add(1),
+            WhyLeft::By(Exit::Lost, _) => self.closed = self.closed.saturating_add(1),
+            WhyLeft::WriteFailed => self.write_failed = self.write_failed.saturating_add(1),
+            WhyLeft::NoMemory | WhyLeft::PollFailed | WhyLeft::Closing => {
+                self.other = self.other.saturating_add(1);
             }
-            WhyLeft::By(Exit::Error(_), _) => &mut self.error,
-            WhyLeft::By(Exit::Lost, _) => &mut self.closed,
-            WhyLeft::WriteFailed => &mut self.write_failed,
-            WhyLeft::NoMemory | WhyLeft::PollFailed | WhyLeft::Closing => &mut self.other,
-        };
-        *count = count.saturating_add(1);
+        }
     }
 }
 

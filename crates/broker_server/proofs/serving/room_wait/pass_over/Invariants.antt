@@ -1,7 +1,6 @@
-use Rattle.std.proofs.Common.{◌≤◌, ◌+◌, length}
-use Rattle.std.specs.Slice.Iter.{iter_rest}
+use Rattle.std.proofs.Common.{◌≤◌}
 use Rattle.broker_server.proofs.serving.room_wait.pass_over.Given as goal
 
 -- as many were passed over as came so far, at most
 abbrev pub invariant-loop-sub : goal.invariant-loop-sub
-invariant-loop-sub g l = l.count + length (iter_rest l.sub-iterator) ≤ length l.fn.subs
+invariant-loop-sub g l = l.count ≤ l.sub-index
