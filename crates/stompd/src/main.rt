@@ -5,33 +5,37 @@
 mod tests;
 
 use broker_server::{
-    Counting, Ending, LogForm, LogQueue, Queued, Request, ServeWords, run_program, run_server,
+    Counting, Ending, LogForm, LogQueue, Queued, Request, run_program, run_server,
 };
 use log::{LevelFilter, Logged};
-use std::alloc::Global;
-use std::io::Write;
-use std::net::Net;
 use std::process::ExitCode;
-use std::sync::Wait;
-use std::thread::Threads;
-use std::time::Clock;
 use std::{env, io};
 
-/// Collects the words, runs what they ask for over the standard streams, and ends as that run says.
+/// Collects the words, runs what they ask for over the standard streams, and ends as that run says. Where they ask for the
+/// server, a thread of its own writes its log.
 fn main(rt: HostRuntime) -> ExitCode {
     let words = match words(&rt) {
         Ok(words) => words,
         Err(reason) => return end(&rt, Ending::unread(&reason)),
     };
-    let ended = match Request::parse(words.as_slice()) {
+    let asked = match Request::parse(words.as_slice()) {
+        Ok(Request::Serve(asked)) => asked,
         Ok(Request::Run(asked)) => {
             let mut reader = Counting::new(rt.stdin());
             let mut writer = Counting::new(rt.stdout());
-            run_program(rt.alloc(), asked, &mut reader, &mut writer)
+            return end(
+                &rt,
+                run_program(rt.alloc(), asked, &mut reader, &mut writer),
+            );
         }
-        Ok(Request::Serve(asked)) => serve(rt, rt.alloc(), log_form(&rt), asked, &mut rt.stdout()),
-        Err(fault) => Ending::by_words(fault),
+        Err(fault) => return end(&rt, Ending::by_words(fault)),
     };
+    let Ok(queue) = LogQueue::start(rt, rt.alloc(), log_form(&rt)) else {
+        return end(&rt, Ending::without_memory());
+    };
+    let logged = Logged::new(rt, LevelFilter::Info, Queued::new(&rt, &queue));
+    let ended = run_server(&logged, rt.alloc(), asked, &mut rt.stdout());
+    queue.close(&rt);
     end(&rt, ended)
 }
 
@@ -41,21 +45,6 @@ fn log_form(rt: &HostRuntime) -> LogForm {
         Ok(value) if value.as_str() == "1" => LogForm::Prioritized,
         _ => LogForm::Plain,
     }
-}
-
-/// Runs the server that is asked for. A thread of its own writes its log, whose lines begin so.
-fn serve<R, O>(rt: R, alloc: Global, form: LogForm, asked: ServeWords<'_>, writer: &mut O) -> Ending
-where
-    R: Threads + Wait + Net + Clock + Eprint + Copy + Send + Sync + 'static,
-    O: Write,
-{
-    let Ok(queue) = LogQueue::start(rt, alloc, form) else {
-        return Ending::without_memory();
-    };
-    let logged = Logged::new(rt, LevelFilter::Info, Queued::new(&rt, &queue));
-    let ended = run_server(&logged, alloc, asked, writer);
-    queue.close(&rt);
-    ended
 }
 
 /// Writes the lines of this ending, if it has any, and gives its status.

@@ -1,6 +1,6 @@
 //! What one connection asks of the broker.
 
-ghost use Rattle.std.specs.Prelude.{◌≡◌, ◌<◌, ◌⊎◌, ◌==◌, IfSome, None};
+ghost use Rattle.std.specs.Prelude.{◌≡◌, ◌<◌, ◌⊎◌, ◌==◌, [], IfSome, None};
 ghost use Rattle.broker_server.specs.UnturnedTopics.{none_unturned};
 
 use crate::conversation::{BrokerCalls, ConversationFault};
@@ -316,15 +316,27 @@ impl<'a, R: Wait + Log + Clock, W: Side, T: Side> Calls<'a, R, W, T> {
         Some(room)
     }
 
-    /// Room at these topics. Where there is none, and it owes no turns, it waits.
+    /// Room at these topics. Where there is none, and it owes no turns, it waits. Out of memory for the reservation it is
+    /// room at none of them: a commit that lacks memory, too, says so, and waits for nothing.
     fn room_at(&mut self, topics: &[Topic]) -> Option<Reserved>
-        ensures { IfSome result (λ room. room ≡ topics.now) }
+        ensures { IfSome result (λ room. (room ≡ topics.now) ⊎ (room ≡ [])) }
     {
         match self.hub.reserve(self.rt, topics) {
             Ok(room) => self.go_on(room),
             Err(NoRoom::Full { topic, sub: _ }) if self.commits == 0 => {
                 self.wait_at(topic, topics)
             }
+            Err(NoRoom::Full { topic: _, sub: _ }) => None,
+            Err(NoRoom::NoMemory) => self.without_room(),
+        }
+    }
+
+    /// Room at no topic, which takes no memory.
+    fn without_room(&mut self) -> Option<Reserved>
+        ensures { IfSome result (λ room. room ≡ []) }
+    {
+        match self.hub.reserve(self.rt, &[]) {
+            Ok(room) => self.go_on(room),
             Err(_) => None,
         }
     }
