@@ -48,7 +48,7 @@ fn ask_for(alloc: Global, words: &[&str], wanted: &str) -> Result<bool, AllocErr
     Ok(match Request::parse(words.as_slice()) {
         Ok(Request::Run(asked)) => is_program(asked, wanted.as_bytes()),
         Ok(Request::Serve(asked)) => {
-            asked.text == wanted && asked.names.len() == words.len() - 2
+            asked.text == wanted && Some(asked.names.len()) == words.len().checked_sub(2)
         }
         Err(_) => false,
     })
