@@ -8,6 +8,7 @@ ghost use Rattle.broker_locks.specs.Gathering.{IsTraceLeft};
 mod accepting;
 mod account;
 mod activity;
+mod asker;
 mod bell;
 mod calls;
 mod connection;
@@ -20,8 +21,12 @@ mod figures;
 mod head;
 mod hub;
 mod intake;
+mod keepers;
+mod line;
+mod links;
 mod listening;
 mod look;
+mod mark;
 mod minute;
 mod moment;
 mod naming;
@@ -30,7 +35,10 @@ mod pace;
 mod peer;
 mod price;
 mod purse;
+mod queue;
 mod reporting;
+mod room_made;
+mod room_step;
 mod room_wait;
 mod running;
 mod said;
@@ -40,6 +48,7 @@ mod seldom;
 mod shortened;
 mod socket;
 mod span;
+mod stand;
 mod standing;
 mod streak;
 mod tenths;
@@ -48,7 +57,9 @@ mod totals;
 mod trouble;
 mod unturned;
 mod wait_news;
+mod waiter;
 mod waiters;
+mod waiting;
 mod why_left;
 
 use crate::serving::accepting::accept_all;
@@ -104,8 +115,9 @@ where
         "serving {} topics to at most {MAX_CONNECTIONS} connections", hub.running.topics());
     let done = run(rt, alloc, &hub, &mut door, limit);
     say_figures(rt, &hub.figures(rt));
+    let running = hub.into_running(rt);
     done?;
-    match hub.into_running().into_trace() {
+    match running.into_trace() {
         Some(trace) => Ok(trace),
         None => Err(ServerFault::NoMemory),
     }

@@ -13,6 +13,7 @@ use crate::serving::desk::Desk;
 use crate::serving::desks::Desks;
 use crate::serving::hub::Hub;
 use crate::serving::outfit::Outfit;
+use crate::serving::peer::Peer;
 use crate::serving::seat::Seat;
 use crate::serving::socket::{Came, Socket};
 use crate::serving::why_left::{LastWords, WhyLeft};
@@ -304,6 +305,7 @@ impl<'a, 'b, R: Wait + Log + Clock, W: Side, T: Side> Connection<'a, 'b, R, W, T
             return Ok(None);
         };
         desk.socket.note_waited(&self.outfit.events);
+        desk.calls.set_timed(self.outfit.events.is_empty());
         let mut rounds = 0u32;
         let mut yielded_at = 0u32;
         for _ in rt.forever() {
@@ -441,6 +443,7 @@ impl<'a, 'b, R: Wait + Log + Clock, W: Side, T: Side> Connection<'a, 'b, R, W, T
             return WhyLeft::Closing;
         };
         let left = self.leave(ended, &mut desk);
+        desk.calls.end_behind();
         desk.show();
         let (socket, calls) = Box::into_inner(desk).into_parts();
         drop(socket);
@@ -496,7 +499,11 @@ fn talk_over<'a, 'b, R: Wait + Log + Clock, W: Side, T: Side>(
     outfit: Outfit,
     socket: Socket,
 ) -> WhyLeft {
-    let number = outfit.peer.number;
+    let Peer {
+        number,
+        desk,
+        addr: _,
+    } = outfit.peer;
     let left = match desk_of(rt, alloc, hub, &outfit, socket) {
         Ok(desk) => {
             let mut connection = Connection {
@@ -514,6 +521,7 @@ fn talk_over<'a, 'b, R: Wait + Log + Clock, W: Side, T: Side>(
             WhyLeft::NoMemory
         }
     };
+    hub.waiters().set_bell(rt, desk, None);
     hub.leave(rt, number, &left);
     left
 }
@@ -529,9 +537,13 @@ fn desk_of<'a, R: Wait + Log + Clock, W: Side, T: Side>(
     let Ok(bell) = outfit.bell.clone() else {
         return Err(socket);
     };
+    let Ok(rung) = outfit.bell.clone() else {
+        return Err(socket);
+    };
     let Ok(worker) = hub.running.take_worker(rt) else {
         return Err(socket);
     };
+    hub.waiters().set_bell(rt, outfit.peer.desk, Some(rung));
     let calls = Calls::new(rt, alloc, hub, outfit.peer, bell, worker);
     let talk = Conversation::new(alloc, hub.running.capacity());
     match Box::new(alloc, Desk::new(socket, calls, talk)) {

@@ -105,6 +105,7 @@ impl<'a, R: Wait + Log + Clock, W: Side, T: Side> Desk<'a, R, W, T> {
         if is_behind || was_behind {
             self.streak.ends();
             intake.note(rt, Moment::now(rt), sent as u64, is_behind);
+            self.calls.note_behind(was_behind, is_behind);
         } else if self.streak.adds(sent as u64) {
             intake.keep_up(rt);
         }
