@@ -12,4 +12,8 @@ pub(crate) struct Asker<'a, R: Wait, W: Side, T: Side> {
     pub(crate) alloc: Global,
     pub(crate) hub: &'a Hub<R, W, T>,
     pub(crate) desk: usize,
+    /// Whether it owes its topics turns.
+    pub(crate) owes_turns: bool,
+    /// Half of what a queue holds, and one at least.
+    pub(crate) most: u64,
 }

@@ -326,9 +326,18 @@ impl<'a, R: Wait + Log + Clock, W: Side, T: Side> Calls<'a, R, W, T> {
     pub(crate) fn end_wait(&mut self)
         ensures { self.new ≡ record self.old { waiting = self.new.waiting } }
     {
-        if self.waiting.is_held() {
+        if !self.waiting.is_idle() {
             let room = self.kept_room();
             self.waiting.gives_up(&self.asker(), room);
+        }
+    }
+
+    /// It goes on with nothing that was read: where it waits for no room, it isn't the first of a line any more.
+    pub(crate) fn rest(&mut self)
+        ensures { self.new ≡ record self.old { waiting = self.new.waiting } }
+    {
+        if !self.waiting.is_idle() {
+            self.waiting.rests(&self.asker());
         }
     }
 
@@ -339,6 +348,8 @@ impl<'a, R: Wait + Log + Clock, W: Side, T: Side> Calls<'a, R, W, T> {
             alloc: self.alloc,
             hub: self.hub,
             desk: self.peer.desk,
+            owes_turns: self.commits > 0,
+            most: self.most,
         }
     }
 
@@ -388,6 +399,18 @@ impl<'a, R: Wait + Log + Clock, W: Side, T: Side> Calls<'a, R, W, T> {
             self.hub.running.broker.release_behind(self.rt, &mut room, 0);
         }
         self.tries(topics, room)
+    }
+
+    /// Room at these topics, where it is the first of a line: it stays so, if it is that of the first of these.
+    fn room_as_first(&mut self, topics: &[Topic]) -> Option<Reserved>
+        ensures { IfSome result (λ room. (room ≡ topics.now) ⊎ (room ≡ [])) }
+    {
+        self.waiting.comes(&self.asker(), topics);
+        if self.waiting.is_idle() {
+            return self.room_at(topics);
+        }
+        let none = self.hub.running.broker.no_room();
+        self.tries(topics, none)
     }
 
     /// Room at these topics, of which it has this at the first of them; or it waits.
@@ -586,7 +609,10 @@ impl<'a, R: Wait + Log + Clock, W: Side, T: Side> BrokerCalls for Calls<'a, R, W
         if self.commits == AT_ONCE && self.heard_little && self.few_sleep() {
             return None;
         }
-        self.room_at(topics)
+        if self.waiting.is_idle() {
+            return self.room_at(topics);
+        }
+        self.room_as_first(topics)
     }
 
     fn give_room_back(&mut self, room: Reserved) {

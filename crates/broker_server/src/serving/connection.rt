@@ -190,15 +190,18 @@ impl<'a, 'b, R: Wait + Log + Clock, W: Side, T: Side> Connection<'a, 'b, R, W, T
         }
     }
 
-    /// Goes on with the transaction that waits for room, if one does, as `tries` says, and says whom it waits for.
+    /// Goes on with the transaction that waits for room, if one does, as `tries` says, and says whom it waits for. All that
+    /// was read was done then, or waits.
     fn go_on(&mut self, desk: &mut Desk<'a, R, W, T>) -> Round
         ensures { result ≡ Idle → is_some desk.new.talk.held ≡ true → desk.new.calls.commits ≡ 0 }
     {
         if !desk.talk.is_held() {
+            desk.calls.rest();
             return Round::Idle;
         }
         let round = self.tries(desk);
         self.tell_wait(desk);
+        desk.calls.rest();
         round
     }
 

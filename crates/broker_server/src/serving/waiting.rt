@@ -28,12 +28,15 @@ pub(crate) enum Tried {
 }
 
 /// A connection's transaction that waits for room, if one does: where it stands, and what it keeps. What room it has is
-/// a value of its own, which is kept in the table of waiters while it sleeps.
+/// a value of its own, which is kept in the table of waiters while it sleeps. Who is the first of a line stays so for the
+/// next of its transactions that begin at that topic, as long as they were read already, and a number of times.
 #[derive(Drop)]
 pub(crate) struct Waiting {
     /// Whether one does.
     held: bool,
     stand: Stand,
+    /// How often it found room as the first of the line where it stands.
+    found: u64,
     /// At so many of its topics, the first, it has a place to keep the room that it has there.
     places: usize,
     /// The topic where it has a place, and no room yet.
@@ -57,6 +60,7 @@ impl Waiting {
         Waiting {
             held: false,
             stand: Stand::Nowhere,
+            found: 0,
             places: 0,
             ahead: None,
             refused: false,
@@ -72,6 +76,41 @@ impl Waiting {
         ensures { result ≡ self.now.held }
     {
         self.held
+    }
+
+    /// Whether none does, and it stands nowhere.
+    pub(crate) fn is_idle(&self) -> bool {
+        !self.held && matches!(self.stand, Stand::Nowhere)
+    }
+
+    /// Whether it is the first of this topic's line, and none waits.
+    fn is_first_at(&self, topic: Topic) -> bool {
+        match self.stand {
+            Stand::InLine(other) => !self.held && other.0 == topic.0,
+            _ => false,
+        }
+    }
+
+    /// One to these topics comes: where it stays the first of a line, that is the line of the first of these.
+    pub(crate) fn comes<R: Wait + Clock, W: Side, T: Side>(
+        &mut self,
+        asker: &Asker<'_, R, W, T>,
+        topics: &[Topic],
+    ) {
+        let stays = match topics.first() {
+            Some(topic) => self.is_first_at(*topic),
+            None => false,
+        };
+        if !stays {
+            self.rests(asker);
+        }
+    }
+
+    /// Where none waits, it leaves the line whose first it is, if it is one's.
+    pub(crate) fn rests<R: Wait + Clock, W: Side, T: Side>(&mut self, asker: &Asker<'_, R, W, T>) {
+        if !self.held {
+            self.leaves(asker);
+        }
     }
 
     /// One does from now on.
@@ -140,18 +179,27 @@ impl Waiting {
             room: room.topics().len(),
             places: self.places,
             is_refused: self.refused || is_awaited(asker, topics, room),
-            spot: self.spot(asker),
+            spot: self.spot(asker, topics, room),
         };
         facts.next_step()
     }
 
-    /// Where it stands.
-    fn spot<R: Wait, W: Side, T: Side>(&self, asker: &Asker<'_, R, W, T>) -> Spot {
+    /// Where it stands, as it asks for room at the next topic: at the line of another it is the first, and doesn't wait.
+    fn spot<R: Wait, W: Side, T: Side>(
+        &self,
+        asker: &Asker<'_, R, W, T>,
+        topics: &[Topic],
+        room: &Reserved,
+    ) -> Spot {
         let topic = match self.stand {
             Stand::Nowhere => return Spot::Nowhere,
             Stand::ForPlace(_) => return Spot::ForPlace,
             Stand::InLine(topic) => topic,
         };
+        match next_topic(topics, room) {
+            Some(next) if next.0 == topic.0 => {}
+            _ => return Spot::Nowhere,
+        }
         match asker.hub.seats(topic) {
             Some(seats) if seats.line().is_first(asker.rt, asker.desk) => Spot::First,
             _ => Spot::Behind,
@@ -191,8 +239,24 @@ impl Waiting {
         if self.ahead.take().is_some() {
             self.places = self.places.saturating_add(1);
         }
-        self.leaves(asker);
+        self.refused = false;
+        self.lacked = 0;
+        self.wait.end(asker.rt, asker.hub);
         Ok(())
+    }
+
+    /// As the first of this line it found room there: it stays the first, or leaves where it was that so often.
+    fn finds<R: Wait + Clock, W: Side, T: Side>(
+        &mut self,
+        asker: &Asker<'_, R, W, T>,
+        line: &Line,
+    ) {
+        self.found = self.found.saturating_add(1);
+        if self.found < asker.most {
+            line.set_mark(Mark::Rung);
+        } else {
+            self.leaves(asker);
+        }
     }
 
     /// It stands nowhere from now on, and waits for nothing there.
@@ -212,6 +276,7 @@ impl Waiting {
             }
         }
         self.stand = Stand::Nowhere;
+        self.found = 0;
         self.refused = false;
         self.lacked = 0;
         self.wait.end(rt, asker.hub);
@@ -242,12 +307,12 @@ impl Waiting {
             self.ahead = Some(topic);
             return None;
         }
+        self.leaves(asker);
         if keepers.take_or_join(rt, waiters, desk) {
             self.places = self.places.saturating_add(1);
             return None;
         }
         self.stand = Stand::ForPlace(topic);
-        self.refused = false;
         let freed = topics.get(self.places..room.topics().len());
         asker
             .hub
@@ -256,7 +321,7 @@ impl Waiting {
     }
 
     /// It stands in the next topic's line from now on.
-    fn joins<R: Wait, W: Side, T: Side>(
+    fn joins<R: Wait + Clock, W: Side, T: Side>(
         &mut self,
         asker: &Asker<'_, R, W, T>,
         topics: &[Topic],
@@ -266,6 +331,7 @@ impl Waiting {
         let Some(seats) = asker.hub.seats(topic) else {
             return Some(Tried::Waits);
         };
+        self.leaves(asker);
         seats
             .line()
             .join(asker.rt, asker.hub.waiters(), asker.desk);
@@ -273,8 +339,9 @@ impl Waiting {
         None
     }
 
-    /// As the first of the next topic's line it asks for room, says there for what it waits, where there is none, and
-    /// asks again: who made room before that may not have rung. Then it looks whom it waits for.
+    /// As the first of the next topic's line it asks for room. Where there is none, and it owes no turns, it says there
+    /// for what it waits, and asks again, since who made room before that may not have rung it; then it looks whom it
+    /// waits for.
     fn looks<R: Wait + Clock, W: Side, T: Side>(
         &mut self,
         asker: &Asker<'_, R, W, T>,
@@ -291,13 +358,22 @@ impl Waiting {
         let line = seats.line();
         line.set_mark(Mark::Anything);
         let sub = match self.asks_at(asker, topic, room) {
-            Ok(()) => return None,
+            Ok(()) => {
+                self.finds(asker, line);
+                return None;
+            }
             Err(NoRoom::Full { topic: _, sub }) => sub,
             Err(NoRoom::NoMemory) => return Some(Tried::NoMemory),
         };
+        if asker.owes_turns {
+            return Some(Tried::Waits);
+        }
         self.marks(line, sub);
         match self.asks_at(asker, topic, room) {
-            Ok(()) => return None,
+            Ok(()) => {
+                self.finds(asker, line);
+                return None;
+            }
             Err(NoRoom::Full { topic: _, sub: other }) if other == sub => {
                 self.looks_for_whom(asker, topic);
             }
