@@ -1,6 +1,7 @@
+use Rattle.std.proofs.Common.{arith}
 use Rattle.broker_locks.proofs.Hearing.{heard_then}
 use Rattle.broker_locks.proofs.Waiting.{all_asked, first_found, nobody_found, spare_more}
-use Rattle.broker_locks.proofs.room.least_spare.Goals as goal
+use Rattle.broker_locks.proofs.room.least_among.Goals as goal
 
 pub returns-in-None-clause-first : goal.returns-in-None-clause-first
 returns-in-None-clause-first g c =
@@ -11,6 +12,7 @@ loop-number-preserved g c =
     let more = spare_more c.args.due c.args.waited.now c.loop-number.number-index 0 c.loop-number.least c.in-Some.more c.loop-number.place c.spare_of.new.place c.spare_of.ensures.heard c.loop-number-test.true c.loop-number.invariant.asked c.in-Some.ensures.some in
     record {
       heard = heard_then c.args.place.now c.loop-number.place c.spare_of.new.place c.loop-number.invariant.heard c.spare_of.ensures.heard;
+      at_most = rw c.min-least.ensures (omega (arith, c.loop-number.invariant.at_most));
       asked = rw c.min-least.ensures more;
     }
 
