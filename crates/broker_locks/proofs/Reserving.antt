@@ -13,7 +13,7 @@ module _ {X : Type 0} where
       go (suc n) [] = refl
       go (suc n) (y ∷ ys) = go n ys
 
-  none_removed : (k : ℕ) → remove {X} [] k ≡ []
+  none_removed : (k : ℕ) → remove {X = X} [] k ≡ []
   none_removed zero = refl
   none_removed (suc k) = refl
 

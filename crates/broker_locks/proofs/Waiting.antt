@@ -261,6 +261,16 @@ spare_answers capacity start spare state g less some have =
     let many : nat_lt (due_at state g) capacity ≡ true = grind (arith, nat_tests) in
     rw (many, nobody) refl
 
+-- a reservation is refused by the first who lacks room
+pub first_refuses : (capacity start due number : ℕ) (state : RoomState) (g : GroupState) → due ≡ due_at state g → due < capacity → find (λ n. not (fits (due + 1) g n)) (asked_from start state.waited) ≡ Some number → Err (Some number) ≡ reserve_answer capacity start state g
+first_refuses capacity start due number state g is less found =
+    let here : find (λ n. not (fits (due_at state g + 1) g n)) (asked_from start state.waited) ≡ Some number = subst (λ (k : ℕ). find (λ n. not (fits (k + 1) g n)) (asked_from start state.waited) ≡ Some number) is found in
+    let many : nat_lt (due_at state g) capacity ≡ true = is_less (due_at state g) (subst (λ (k : ℕ). k < capacity) is less) in
+    rw (many, here) refl
+  where
+    is_less : (k : ℕ) → k < capacity → nat_lt k capacity ≡ true
+    is_less k h = grind (arith, nat_tests)
+
 -- where all have room, nobody is passed over
 pub spare_passes : (with_reserved : Bool) (state : RoomState) (g : GroupState) → (with_reserved && nat_lt 0 state.reserved) ≡ false → HaveSpare 0 state g → state ≡ room_after_enter with_reserved g state
 spare_passes with_reserved state g none have =
