@@ -41,7 +41,11 @@ static enum heard_kind kind_of(struct text command)
 static size_t read_heard(const char *at, size_t size, struct heard *heard)
 {
     struct frame frame;
-    size_t gap = frame_gap(at, size), taken = gap < size ? frame_read(at + gap, size - gap, &frame) : 0;
+    size_t gap = frame_gap(at, size), taken;
+    heard->kind = HEARD_NOTHING;
+    if (gap == size)
+        return gap;
+    taken = frame_read(at + gap, size - gap, &frame);
     if (taken == 0)
         return 0;
     heard->kind = kind_of(frame.command);
