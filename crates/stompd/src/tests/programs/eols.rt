@@ -6,7 +6,8 @@ use super::scripting::{Asked, writes};
 use std::alloc::Global;
 
 /// Two SENDs with EOLs between and behind them, and a frame that is refused.
-const STREAM: &[u8] = b"SEND\ndestination:A\n\none\0\nSEND\ndestination:A\n\ntwo\0\n\nACK\nid:1\n\n\0\n";
+const STREAM: &[u8] =
+    b"SEND\ndestination:A\n\none\0\nSEND\ndestination:A\n\ntwo\0\n\nACK\nid:1\n\n\0\n";
 
 /// What the relay writes of them.
 const RELAYED: &[u8] =

@@ -62,7 +62,10 @@ const UNDONE: &[(&str, &str)] = &[
         "BEGIN\ntransaction:y\nreceipt:r\n\n\0",
         "RECEIPT\nreceipt-id:r\n\n\0\n",
     ),
-    ("DISCONNECT\nreceipt:r\n\n\0", "RECEIPT\nreceipt-id:r\n\n\0\n"),
+    (
+        "DISCONNECT\nreceipt:r\n\n\0",
+        "RECEIPT\nreceipt-id:r\n\n\0\n",
+    ),
     (
         "COMMIT\ntransaction:y\nreceipt:r\n\n\0",
         "ERROR\nmessage:66 NoSuchTxn\nreceipt-id:r\ncontent-length:0\n\n\0\n",
