@@ -62,12 +62,7 @@ queue_without desk links queue = record {
   last = if is_desk desk queue.last then links.before else queue.last;
 }
 
--- What a transaction does next that waits for room.
-abbrev pub next_step : RoomFacts → RoomStep
-next_step facts =
-    if nat_lt facts.room facts.topics then step_at facts.spot facts else step.Done
-
--- the same where it hasn't room at all its topics
+-- what a transaction does next that waits for room, and hasn't it at all its topics
 abbrev pub step_at : Spot → RoomFacts → RoomStep
 step_at spot.First facts = step.Look
 step_at spot.Behind facts = step.Sleep
@@ -76,6 +71,11 @@ step_at spot.Nowhere facts =
     if facts.is_refused
     then (if nat_lt facts.places facts.room then step.TakePlace else step.Join)
     else step.Ask
+
+-- What a transaction does next that waits for room.
+abbrev pub next_step : RoomFacts → RoomStep
+next_step facts =
+    if nat_lt facts.room facts.topics then step_at facts.spot facts else step.Done
 
 -- Room is reserved at the first of these topics.
 abbrev pub IsRoomAt : List Topic → List Topic → Type 0

@@ -298,7 +298,8 @@ impl<'a, R: Wait + Log + Clock, W: Side, T: Side> Calls<'a, R, W, T> {
     pub(crate) fn take_news(&mut self) -> Option<WaitNews>
         ensures news { result ≡ self.old.waiting.wait.news }
         ensures none { self.new ≡ record self.old {
-            waiting = record self.old.waiting { wait = record self.old.waiting.wait { news = None } } } }
+          waiting = record self.old.waiting { wait = record self.old.waiting.wait { news = None } };
+        } }
     {
         self.waiting.wait.take_news()
     }
@@ -333,6 +334,7 @@ impl<'a, R: Wait + Log + Clock, W: Side, T: Side> Calls<'a, R, W, T> {
     }
 
     /// It goes on with nothing that was read: where it waits for no room, it isn't the first of a line any more.
+    #[inline(always)]
     pub(crate) fn rest(&mut self)
         ensures { self.new ≡ record self.old { waiting = self.new.waiting } }
     {
@@ -360,14 +362,12 @@ impl<'a, R: Wait + Log + Clock, W: Side, T: Side> Calls<'a, R, W, T> {
     }
 
     /// It keeps this room while it waits.
+    #[inline(never)]
     fn keep_room(&mut self, room: Reserved)
         ensures { self.new ≡ record self.old { waiting = record self.old.waiting { held = true } } }
     {
         self.waiting.begin();
-        let other = self
-            .hub
-            .waiters()
-            .swap_kept(self.rt, self.peer.desk, room);
+        let other = self.hub.waiters().swap_kept(self.rt, self.peer.desk, room);
         self.hub.release_room(self.rt, other);
     }
 
@@ -391,17 +391,22 @@ impl<'a, R: Wait + Log + Clock, W: Side, T: Side> Calls<'a, R, W, T> {
     }
 
     /// Room at these topics, for which it waits.
+    #[inline(never)]
     fn room_after_wait(&mut self, topics: &[Topic]) -> Option<Reserved>
         ensures { IfSome result (λ room. (room ≡ topics.now) ⊎ (room ≡ [])) }
     {
         let mut room = self.kept_room();
         if !topics.starts_with(room.topics()) {
-            self.hub.running.broker.release_behind(self.rt, &mut room, 0);
+            self.hub
+                .running
+                .broker
+                .release_behind(self.rt, &mut room, 0);
         }
         self.tries(topics, room)
     }
 
     /// Room at these topics, where it is the first of a line: it stays so, if it is that of the first of these.
+    #[inline(never)]
     fn room_as_first(&mut self, topics: &[Topic]) -> Option<Reserved>
         ensures { IfSome result (λ room. (room ≡ topics.now) ⊎ (room ≡ [])) }
     {
@@ -414,6 +419,7 @@ impl<'a, R: Wait + Log + Clock, W: Side, T: Side> Calls<'a, R, W, T> {
     }
 
     /// Room at these topics, of which it has this at the first of them; or it waits.
+    #[inline(never)]
     fn tries(&mut self, topics: &[Topic], room: Reserved) -> Option<Reserved>
         requires { IsRoomAt topics.now room }
         ensures { IfSome result (λ room. (room ≡ topics.now) ⊎ (room ≡ [])) }
@@ -432,6 +438,7 @@ impl<'a, R: Wait + Log + Clock, W: Side, T: Side> Calls<'a, R, W, T> {
     }
 
     /// Room at no topic, which takes no memory: this is given back.
+    #[inline(never)]
     fn without_room(&mut self, room: Reserved) -> Option<Reserved>
         ensures { result ≡ Some [] }
     {

@@ -39,7 +39,7 @@ pub(crate) struct Hub<R: Wait, W: Side, T: Side> {
     topics: Vec<TopicSeats>,
     /// What connections wait for room with.
     waiters: Waiters,
-    /// How many connections are behind.
+    /// How many connections are behind: of whose octets the system took less than there was, and hasn't taken all since.
     behind: AtomicU64,
     heads: Vec<Head>,
     /// The bell of each connection that is there.
@@ -233,13 +233,7 @@ impl<R: Wait, W: Side, T: Side> Hub<R, W, T> {
     }
 
     /// Gives back what is reserved behind the first so many topics, at these.
-    pub(crate) fn release_behind(
-        &self,
-        rt: &R,
-        room: &mut Reserved,
-        kept: usize,
-        topics: &[Topic],
-    )
+    pub(crate) fn release_behind(&self, rt: &R, room: &mut Reserved, kept: usize, topics: &[Topic])
         ensures { room.new ≡ take kept room.old }
     {
         self.running.broker.release_behind(rt, room, kept);

@@ -1,53 +1,8 @@
 //! Who keeps room at a topic while it waits at another.
 
-ghost use Rattle.std.specs.Prelude.{◌≡◌, ◌<◌, ◌+◌, ◌-◌, ◌&&◌, nat_lt, true, false, None};
-
-use crate::serving::queue::Queue;
+use crate::serving::second_line::SecondLine;
 use crate::serving::waiters::Waiters;
 use std::sync::{Mutex, Wait};
-
-/// The places of those who keep room at a topic while they wait at a later one: as many as half of what a queue holds.
-#[derive(Clone, Copy)]
-struct Places {
-    taken: u64,
-    most: u64,
-}
-
-impl Places {
-    /// Whether one is left.
-    fn is_left(&self) -> bool
-        ensures { result ≡ nat_lt self.now.taken self.now.most }
-    {
-        self.taken < self.most
-    }
-
-    /// Takes one, if one is left; whether it did.
-    fn take(&mut self) -> bool
-        ensures answer { result ≡ nat_lt self.old.taken self.old.most }
-        ensures taken { result ≡ true → self.new ≡ record self.old { taken = self.old.taken + 1 } }
-        ensures none { result ≡ false → self.new ≡ self.old }
-    {
-        if !self.is_left() {
-            return false;
-        }
-        self.taken += 1;
-        true
-    }
-
-    /// Gives one back.
-    fn give_back(&mut self)
-        ensures { self.new ≡ record self.old { taken = self.old.taken - 1 } }
-    {
-        self.taken = self.taken.saturating_sub(1);
-    }
-}
-
-/// The places, and who waits for one, in the order in which they came: the topic's second line.
-#[derive(Clone, Copy)]
-struct SecondLine {
-    places: Places,
-    queue: Queue,
-}
 
 /// Who keeps room at a topic while it waits at a later one, and who waits until it may.
 #[derive(Drop)]
@@ -59,10 +14,7 @@ impl Keepers {
     /// Nobody, where so many may be.
     pub(crate) fn new(most: u64) -> Keepers {
         Keepers {
-            line: Mutex::new(SecondLine {
-                places: Places { taken: 0, most },
-                queue: Queue::new(),
-            }),
+            line: Mutex::new(SecondLine::new(most)),
         }
     }
 

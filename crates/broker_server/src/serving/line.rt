@@ -1,6 +1,6 @@
 //! Those who wait for room at a topic.
 
-use crate::serving::mark::Mark;
+use crate::serving::mark::{Mark, NOBODY};
 use crate::serving::queue::Queue;
 use crate::serving::room_made::RoomMade;
 use crate::serving::waiters::Waiters;
@@ -22,7 +22,7 @@ impl Line {
     /// Nobody waits.
     pub(crate) fn new() -> Line {
         Line {
-            mark: AtomicU64::new(Mark::Nobody.code()),
+            mark: AtomicU64::new(NOBODY),
             queue: Mutex::new(Queue::new()),
         }
     }
@@ -38,13 +38,23 @@ impl Line {
     }
 
     /// Whether somebody waits.
+    #[inline(always)]
     pub(crate) fn is_awaited(&self) -> bool {
-        !matches!(self.mark(), Mark::Nobody)
+        self.mark.load(Ordering::SeqCst) != NOBODY
     }
 
     /// Room may have been made so: rings the first, if it may be what that waits for. Once it was rung it will look, and
     /// isn't rung again before that.
+    #[inline(always)]
     pub(crate) fn ring<R: Wait>(&self, rt: &R, waiters: &Waiters, made: RoomMade) {
+        if self.is_awaited() {
+            self.ring_by(rt, waiters, made);
+        }
+    }
+
+    /// The same, where somebody waits.
+    #[inline(never)]
+    fn ring_by<R: Wait>(&self, rt: &R, waiters: &Waiters, made: RoomMade) {
         if self.mark().is_rung_by(made) {
             let queue = self.queue.lock(rt);
             if self.mark().is_rung_by(made) {

@@ -1,9 +1,13 @@
 //! For what the first of a line waits.
 
-ghost use Rattle.std.specs.Prelude.{◌≡◌};
+ghost use Rattle.std.specs.Prelude.{◌≡◌, ◌⊎◌};
 ghost use Rattle.broker_server.specs.Lines.{code_of, mark_of, rings};
+ghost use Rattle.broker_server.specs.declared.serving.mark.Mark.TheVariants as mark;
 
 use crate::serving::room_made::RoomMade;
+
+/// The code of a line in which nobody stands.
+pub(crate) const NOBODY: u64 = 0;
 
 /// For what the first of a topic's line waits.
 #[derive(Clone, Copy)]
@@ -24,10 +28,11 @@ impl Mark {
     /// Its code: a number below 4, or the subscription's and 4. A subscription whose number has no code is one of which
     /// nothing is known.
     pub(crate) fn code(self) -> u64
-        ensures { result ≡ code_of self }
+        ensures code { result ≡ code_of self }
+        ensures back { (mark_of result ≡ self) ⊎ (mark_of result ≡ mark.Anything) }
     {
         match self {
-            Mark::Nobody => 0,
+            Mark::Nobody => NOBODY,
             Mark::Anything => 1,
             Mark::Rung => 2,
             Mark::Due => 3,

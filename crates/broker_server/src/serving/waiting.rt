@@ -79,6 +79,7 @@ impl Waiting {
     }
 
     /// Whether none does, and it stands nowhere.
+    #[inline(always)]
     pub(crate) fn is_idle(&self) -> bool {
         !self.held && matches!(self.stand, Stand::Nowhere)
     }
@@ -107,6 +108,7 @@ impl Waiting {
     }
 
     /// Where none waits, it leaves the line whose first it is, if it is one's.
+    #[inline(never)]
     pub(crate) fn rests<R: Wait + Clock, W: Side, T: Side>(&mut self, asker: &Asker<'_, R, W, T>) {
         if !self.held {
             self.leaves(asker);
@@ -332,16 +334,14 @@ impl Waiting {
             return Some(Tried::Waits);
         };
         self.leaves(asker);
-        seats
-            .line()
-            .join(asker.rt, asker.hub.waiters(), asker.desk);
+        seats.line().join(asker.rt, asker.hub.waiters(), asker.desk);
         self.stand = Stand::InLine(topic);
         None
     }
 
     /// As the first of the next topic's line it asks for room. Where there is none, and it owes no turns, it says there
-    /// for what it waits, and asks again, since who made room before that may not have rung it; then it looks whom it
-    /// waits for.
+    /// for what it waits, and looks whom it waits for. Who makes room behind that asking finds that it waits for
+    /// anything, which is said before it, or for that, and rings it.
     fn looks<R: Wait + Clock, W: Side, T: Side>(
         &mut self,
         asker: &Asker<'_, R, W, T>,
@@ -357,32 +357,20 @@ impl Waiting {
         };
         let line = seats.line();
         line.set_mark(Mark::Anything);
-        let sub = match self.asks_at(asker, topic, room) {
-            Ok(()) => {
-                self.finds(asker, line);
-                return None;
-            }
-            Err(NoRoom::Full { topic: _, sub }) => sub,
-            Err(NoRoom::NoMemory) => return Some(Tried::NoMemory),
-        };
-        if asker.owes_turns {
-            return Some(Tried::Waits);
-        }
-        self.marks(line, sub);
         match self.asks_at(asker, topic, room) {
             Ok(()) => {
                 self.finds(asker, line);
-                return None;
+                None
             }
-            Err(NoRoom::Full { topic: _, sub: other }) if other == sub => {
-                self.looks_for_whom(asker, topic);
+            Err(NoRoom::Full { topic: _, sub }) => {
+                if !asker.owes_turns {
+                    self.marks(line, sub);
+                    self.looks_for_whom(asker, topic);
+                }
+                Some(Tried::Waits)
             }
-            Err(NoRoom::Full { topic: _, sub: _ }) => {
-                asker.hub.waiters().ring(asker.rt, asker.desk);
-            }
-            Err(NoRoom::NoMemory) => return Some(Tried::NoMemory),
+            Err(NoRoom::NoMemory) => Some(Tried::NoMemory),
         }
-        Some(Tried::Waits)
     }
 
     /// It says at the line whose first it is for what it waits: for this subscription, or for what is due.
