@@ -18,6 +18,7 @@ mod desks;
 mod door;
 mod endings;
 mod figures;
+mod fund;
 mod head;
 mod hub;
 mod intake;

@@ -1,17 +1,19 @@
 //! What waiting for a connection costs.
 
 ghost use Rattle.std.specs.Prelude.{◌≡◌, ◌-◌, ◌*◌, ◌^◌, min};
-ghost use Rattle.broker_server.specs.Purses.{cheaper, dearer, is_below, is_free, rate};
+ghost use Rattle.broker_server.specs.Purses.{as_trusted, cheaper, dearer, is_below, is_free, is_trusted, rank, rate};
 
 use crate::serving::cost::Cost;
 use crate::serving::span::Span;
 
-/// What waiting for a connection costs: nothing, a sixtieth of the time, or all of it.
+/// What waiting for a connection costs: nothing, a sixtieth of the time, all of it, or all of it to what is there for the
+/// trusted.
 #[derive(Clone, Copy)]
 pub(crate) enum Price {
     Free,
     Sixtieth,
     Full,
+    Trusted,
 }
 
 impl Price {
@@ -21,7 +23,28 @@ impl Price {
     {
         match self {
             Price::Free => true,
-            Price::Sixtieth | Price::Full => false,
+            Price::Sixtieth | Price::Full | Price::Trusted => false,
+        }
+    }
+
+    /// Whether it is that of one that is trusted.
+    pub(crate) fn is_trusted(self) -> bool
+        ensures { result ≡ is_trusted self }
+    {
+        match self {
+            Price::Trusted => true,
+            Price::Free | Price::Sixtieth | Price::Full => false,
+        }
+    }
+
+    /// What one costs that is trusted, and would cost so much else.
+    pub(crate) fn as_trusted(self) -> Price
+        ensures { result ≡ as_trusted self }
+    {
+        if self.is_free() {
+            Price::Free
+        } else {
+            Price::Trusted
         }
     }
 
@@ -32,7 +55,19 @@ impl Price {
         match self {
             Price::Free => 0,
             Price::Sixtieth => 10,
-            Price::Full => 600,
+            Price::Full | Price::Trusted => 600,
+        }
+    }
+
+    /// Its place among the prices, the dearest last.
+    fn rank(self) -> u64
+        ensures { result ≡ rank self }
+    {
+        match self {
+            Price::Free => 0,
+            Price::Sixtieth => 1,
+            Price::Full => 2,
+            Price::Trusted => 3,
         }
     }
 
@@ -40,7 +75,7 @@ impl Price {
     pub(crate) fn is_below(self, other: Price) -> bool
         ensures { result ≡ is_below self other }
     {
-        self.rate() < other.rate()
+        self.rank() < other.rank()
     }
 
     /// The cheaper of the two.

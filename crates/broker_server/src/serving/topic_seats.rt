@@ -133,9 +133,13 @@ impl TopicSeats {
         let mut look = Look::new(alloc, lacking.len())?;
         let mut purse = self.purse.lock(rt);
         let purse = &mut *purse;
+        look.trusts = purse.trusts();
         let unpaid = purse.unpaid(now);
         self.find(rt, now, lacking, unpaid, !purse.is_awaited(), &mut look)?;
         look.may_wait = may_be_waited_for(purse, now, look.standing.price(), is_counted);
+        if !purse.may_trust() {
+            look.trusts_no_more()?;
+        }
         Ok(look)
     }
 
