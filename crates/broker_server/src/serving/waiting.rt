@@ -339,8 +339,8 @@ impl Waiting {
         None
     }
 
-    /// As the first of the next topic's line it asks for room. Where there is none, and it owes no turns, it says there
-    /// for what it waits, and looks whom it waits for. Who makes room behind that asking finds that it waits for
+    /// As the first of the next topic's line it asks for room. Where there is none, it says there for what it waits, and
+    /// looks whom it waits for; or, where it owes turns, that it will look again, as it does once it has turned. Who makes room behind that asking finds that it waits for
     /// anything, which is said before it, or for that, and rings it.
     fn looks<R: Wait + Clock, W: Side, T: Side>(
         &mut self,
@@ -363,7 +363,9 @@ impl Waiting {
                 None
             }
             Err(NoRoom::Full { topic: _, sub }) => {
-                if !asker.owes_turns {
+                if asker.owes_turns {
+                    line.set_mark(Mark::Rung);
+                } else {
                     self.marks(line, sub);
                     self.looks_for_whom(asker, topic);
                 }
