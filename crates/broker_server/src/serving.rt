@@ -39,6 +39,7 @@ mod seat_entry;
 mod seldom;
 mod shortened;
 mod socket;
+mod socket_option;
 mod span;
 mod standing;
 mod streak;

@@ -136,6 +136,7 @@ impl<'a, 'b, R: Wait + Log + Clock, W: Side, T: Side> Connection<'a, 'b, R, W, T
             match desk.read(self.outfit.room.as_mut_slice()) {
                 Came::Octets(n) => {
                     self.hear_read(desk, n);
+                    desk.note_heard(n);
                     self.go_on(desk);
                     round = Round::Busy;
                 }

@@ -4,6 +4,7 @@ ghost use Rattle.std.specs.Prelude.{◌≡◌, true, false};
 ghost use Rattle.broker_server.specs.declared.serving.socket.Came.TheVariants.{Nothing};
 
 use crate::conversation::{BrokerCalls, Conversation};
+use crate::serving::socket_option::SocketOption;
 use mio::net::TcpStream;
 use mio::{Events, Interest, Poll, Token};
 use std::io;
@@ -12,6 +13,15 @@ use std::net::Shutdown;
 
 /// The token of a socket's events.
 const SOCKET: Token = Token(0);
+
+/// What the system does where nothing comes from a peer: after so many seconds it asks whether the peer is there, then each
+/// so many seconds, and after so many questions without an answer it ends the connection (our choice).
+const KEEP_ALIVE: [(SocketOption, u32); 4] = [
+    (SocketOption::KeepAliveIdle, 60),
+    (SocketOption::KeepAliveInterval, 10),
+    (SocketOption::KeepAliveCount, 3),
+    (SocketOption::KeepAlive, 1),
+];
 
 /// The ERROR of a connection for which there was no memory.
 const NO_MEMORY: &[u8] = b"ERROR\nmessage:72 NoMemory\ncontent-length:0\n\n\0";
@@ -62,9 +72,18 @@ impl Socket {
         }
     }
 
+    /// The system is to send what is written at once, and to find a peer that is gone without a word.
+    fn set_options(&self) -> io::Result<()> {
+        self.stream.set_nodelay(true)?;
+        for (option, value) in KEEP_ALIVE {
+            option.set(&self.stream, value)?;
+        }
+        Ok(())
+    }
+
     /// The poll tells of its reads and its writes.
     pub(crate) fn register(&mut self, poll: &Poll) -> io::Result<()> {
-        self.stream.set_nodelay(true)?;
+        self.set_options()?;
         let both = Interest::READABLE | Interest::WRITABLE;
         poll.registry().register(&mut self.stream, SOCKET, both)
     }
@@ -171,6 +190,11 @@ impl Socket {
                 0
             }
         }
+    }
+
+    /// Has the system acknowledge at once what was read. That it may not do so harms nobody.
+    pub(crate) fn acknowledge(&self) {
+        let _ = SocketOption::QuickAck.set(&self.stream, 1);
     }
 
     /// Whether a write failed.
