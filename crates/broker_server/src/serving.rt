@@ -8,6 +8,7 @@ ghost use Rattle.broker_locks.specs.Gathering.{IsTraceLeft};
 mod accepting;
 mod account;
 mod activity;
+mod announcing;
 mod bell;
 mod calls;
 mod connection;
@@ -20,6 +21,7 @@ mod figures;
 mod head;
 mod hub;
 mod intake;
+mod line_rate;
 mod listening;
 mod look;
 mod minute;
@@ -53,6 +55,7 @@ mod waiters;
 mod why_left;
 
 use crate::serving::accepting::accept_all;
+use crate::serving::announcing::say_left_out;
 use crate::serving::desks::Desks;
 use crate::serving::door::Door;
 use crate::serving::head::Head;
@@ -104,6 +107,7 @@ where
     info!(rt; target: "serve",
         "serving {} topics to at most {MAX_CONNECTIONS} connections", hub.running.topics());
     let done = run(rt, alloc, &hub, &mut door, limit);
+    say_left_out(rt, hub.totals().take_left_out(rt));
     say_figures(rt, &hub.figures(rt));
     done?;
     match hub.into_running().into_trace() {

@@ -1,6 +1,7 @@
 //! A connection's socket.
 
-ghost use Rattle.std.specs.Prelude.{◌≡◌, true, false};
+ghost use Rattle.std.specs.Prelude.{◌≡◌, true, false, None};
+ghost use Rattle.std.specs.Option.{is_some};
 ghost use Rattle.broker_server.specs.declared.serving.socket.Came.TheVariants.{Nothing};
 
 use crate::conversation::{BrokerCalls, Conversation};
@@ -50,6 +51,8 @@ pub(crate) struct Socket {
     blocked: bool,
     /// A write failed: what waits for the peer is dropped. What it had sent can still be read.
     gone: bool,
+    /// The first octet that was read, if one was.
+    first: Option<u8>,
 }
 
 impl Socket {
@@ -61,6 +64,7 @@ impl Socket {
           hung_up = false;
           blocked = false;
           gone = false;
+          first = None;
         } }
     {
         Socket {
@@ -69,6 +73,7 @@ impl Socket {
             hung_up: false,
             blocked: false,
             gone: false,
+            first: None,
         }
     }
 
@@ -151,6 +156,7 @@ impl Socket {
                 if n < room.len() && !self.hung_up {
                     self.readable = false;
                 }
+                self.note_first(room);
                 Came::Octets(n)
             }
             Err(e) if e.kind() == ErrorKind::WouldBlock => {
@@ -160,6 +166,23 @@ impl Socket {
             Err(e) if e.kind() == ErrorKind::Interrupted => Came::Again,
             Err(_) => Came::End,
         }
+    }
+
+    /// Notes the first octet of this room, where it is the first that was read.
+    fn note_first(&mut self, room: &[u8])
+        ensures same { self.new ≡ record self.old { first = self.new.first } }
+        ensures kept { is_some self.old.first ≡ true → self.new.first ≡ self.old.first }
+    {
+        if self.first.is_none() {
+            self.first = room.first().copied();
+        }
+    }
+
+    /// The first octet that was read, if one was.
+    pub(crate) fn first(&self) -> Option<u8>
+        ensures { result ≡ self.now.first }
+    {
+        self.first
     }
 
     /// Writes what waits for the connection, as far as the system takes it; how many octets went out. Once a write has
