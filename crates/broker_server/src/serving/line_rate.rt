@@ -1,6 +1,6 @@
 //! Lines of which so many a second are written.
 
-ghost use Rattle.std.specs.Prelude.{◌≡◌, ◌+◌, ◌<◌, ◌↔◌, ⊥, IsTrue, IfSome, IsNone, IsSome};
+ghost use Rattle.std.specs.Prelude.{◌≡◌, ◌+◌, ◌<◌, ◌↔◌, IsTrue, IfSome, IsNone, IsSome};
 ghost use Rattle.broker_server.specs.LineRates.{admitted, begins, is_over, no_lines, written_with};
 ghost use Rattle.broker_server.specs.declared.serving.line_rate.Admitted.TheVariants.{Written};
 

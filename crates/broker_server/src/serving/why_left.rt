@@ -1,6 +1,7 @@
 //! Why a connection left.
 
-ghost use Rattle.std.specs.Prelude.{◌↔◌, IsTrue, Contains, codes};
+ghost use Rattle.std.specs.Prelude.{◌≡◌, ◌==◌, codes};
+ghost use Rattle.std.specs.List.{list_any};
 
 use crate::conversation::Exit;
 use crate::spelled::Spelled;
@@ -76,7 +77,7 @@ impl Display for WhyLeft {
 
 /// Whether a stream may begin with this octet: an end of line, or the first letter of a command.
 fn begins_stream(octet: u8) -> bool
-    ensures { IsTrue result ↔ Contains (codes "\r\nSUBCADNMRE") octet }
+    ensures { result ≡ list_any (λ first. first == octet) (codes "\r\nSUBCADNMRE") }
 {
     b"\r\nSUBCADNMRE".contains(&octet)
 }
