@@ -212,6 +212,13 @@ impl<C: BrokerCalls> Conversation<C> {
         self.cut
     }
 
+    /// Whether its sender is claimed: it is from its CONNECT to its end.
+    pub(crate) fn is_connected(&self) -> bool
+        ensures { result ≡ is_some self.now.gate }
+    {
+        self.gate.is_some()
+    }
+
     /// Whether a transaction waits for room: no frame behind it is taken before it was committed.
     pub fn is_held(&self) -> bool
         ensures { result ≡ is_some self.now.held }

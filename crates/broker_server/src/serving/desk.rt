@@ -25,6 +25,9 @@ fn untaken_time() -> Duration {
 /// choice).
 const WAITS: u32 = 10;
 
+/// A read of so many octets or more isn't acknowledged out of turn (our choice).
+const MUCH: usize = 4_096;
+
 /// What a connection's thread works at: what the connection says and is told, what it asks of the broker, and its
 /// socket. While that thread sleeps, another one may stand in for it here.
 #[derive(Drop)]
@@ -126,6 +129,18 @@ impl<'a, R: Wait + Log + Clock, W: Side, T: Side> Desk<'a, R, W, T> {
             self.octets_in = self.octets_in.saturating_add(n as u64);
         }
         came
+    }
+
+    /// So many octets were read and heard. Where they are few, and brought neither an answer nor a transaction that was committed
+    /// or waits, the system is to acknowledge them at once: a client's system may keep the rest of a transaction back until then.
+    pub(crate) fn note_heard(&mut self, n: usize)
+        ensures { self.new ≡ self.old }
+    {
+        let is_answered = !self.talk.wire().is_empty() || self.talk.is_leaving();
+        let is_committed = self.calls.commits() > 0 || self.talk.is_held();
+        if n < MUCH && !is_answered && !is_committed {
+            self.socket.acknowledge();
+        }
     }
 
     /// Whether a write has failed.
