@@ -38,6 +38,7 @@ mod seat;
 mod seat_entry;
 mod seldom;
 mod shortened;
+mod shown;
 mod socket;
 mod span;
 mod standing;

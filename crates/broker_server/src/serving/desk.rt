@@ -158,7 +158,7 @@ impl<'a, R: Wait + Log + Clock, W: Side, T: Side> Desk<'a, R, W, T> {
 
     /// Shows what the connection did, for the log's figures.
     pub(crate) fn show(&self) {
-        self.calls.bell().show(self.calls.rt(), self.activity());
+        self.calls.bell().show(&self.activity());
     }
 
     /// It is stuck where more is there than the system takes: it looks again once that takes some.
