@@ -354,6 +354,7 @@ impl<C: BrokerCalls> Conversation<C> {
     }
 
     /// Does what an accepted frame asks for, and answers it; a transaction that finds no room is held.
+    #[inline(always)]
     fn act(&mut self, calls: &mut C, step: Step)
         ensures { (asked : List BrokerRow) × AsksInOrder C.called calls.old asked calls.new
             × Acts step self.old asked self.new }
@@ -408,6 +409,7 @@ impl<C: BrokerCalls> Conversation<C> {
     }
 
     /// What follows an action: its answer, or the connection leaves by its fault.
+    #[inline(always)]
     fn conclude(
         &mut self,
         calls: &mut C,
@@ -426,6 +428,7 @@ impl<C: BrokerCalls> Conversation<C> {
 
     /// Sends the answer to a frame that was accepted. Where there is no memory for it, the connection ends; the RECEIPT
     /// of a DISCONNECT is then left out.
+    #[inline(always)]
     fn answer(&mut self, calls: &mut C, connects: bool, receipt: &Option<Octets>)
         ensures { (asked : List BrokerRow) × AsksInOrder C.called calls.old asked calls.new
             × Answers (replies connects receipt.now) self.old asked self.new }
@@ -440,6 +443,7 @@ impl<C: BrokerCalls> Conversation<C> {
     }
 
     /// Writes the answer to a frame: CONNECTED to a CONNECT, else the RECEIPT that it asks for.
+    #[inline(always)]
     fn write_answer(&mut self, connects: bool, receipt: &Option<Octets>) -> Result<(), NoMemory>
         ensures ok { OnOk result (PutsFrames (replies connects receipt.now) self.old self.new) }
         ensures err { OnErr result (self.new ≡ self.old) }
