@@ -1,6 +1,6 @@
 //! Room that is reserved at a topic, and who is waited for there.
 
-ghost use Rattle.std.specs.Prelude.{◌≡◌, ◌≤◌, ◌<◌, ◌+◌, ◌++◌, ◌==◌, ◌&&◌, nat_lt, ℕ, [], true, false, filter, not, Some, None, IfOk, IfErr, IfSome, IfNone, OnOk, OnErr};
+ghost use Rattle.std.specs.Prelude.{◌≡◌, ◌≤◌, ◌<◌, ◌+◌, ◌++◌, ◌==◌, ◌&&◌, nat_lt, ℕ, [], true, false, filter, not, Some, None, IfOk, IfErr, IfSome, IfNone, OnOk, OnErr, drop, take, length};
 ghost use Rattle.std.specs.List.{find, list_any};
 ghost use Rattle.mcast_txn.proofs.Rising.{Finds, IsGap};
 ghost use Rattle.mcast_txn.specs.Lists.{In, RisesBy};
@@ -97,7 +97,7 @@ impl Room {
             self.reserved += 1;
             return Ok(());
         }
-        match self.least_spare(rt, due + 1, start, place) {
+        match least_spare(rt, due + 1, start, &self.waited, place) {
             Ok(least) => {
                 *spare = least;
                 self.reserved += 1;
@@ -105,32 +105,6 @@ impl Room {
             }
             Err(number) => Err(Some(number)),
         }
-    }
-
-    /// How many items more than these each that is waited for takes at least; or the first that doesn't take these,
-    /// from the number `start` on and then of those below it.
-    fn least_spare<R: Wait>(
-        &self,
-        rt: &R,
-        due: u128,
-        start: u64,
-        place: &mut Place<R>,
-    ) -> Result<u64, u64>
-        ensures heard { HasHeard place.old place.new }
-        ensures each { IfOk result (λ least. (n : ℕ) → In n self.now.waited
-            → fits (due + least) place.new.cells.group n ≡ true) }
-        ensures none { OnOk result (find (λ n. not (fits due place.new.cells.group n)) (asked_from start self.now.waited)
-            ≡ None) }
-        ensures first { IfErr result (λ number.
-            find (λ n. not (fits due place.new.cells.group n)) (asked_from start self.now.waited) ≡ Some number) }
-    {
-        let index = match self.search(start) {
-            Ok(index) => index,
-            Err(index) => index,
-        };
-        let (below, from_start) = self.waited.split_at(index);
-        let least = least_among(rt, due, u64::MAX, from_start, place)?;
-        least_among(rt, due, least, below, place)
     }
 
     /// Gives back what was reserved for one part, where it is reserved.
@@ -344,6 +318,41 @@ fn takes<R: Wait>(rt: &R, due: u128, number: u64, place: &mut Place<R>) -> bool
     ensures answer { result ≡ fits due place.new.cells.group number }
 {
     spare_of(rt, due, number, place).is_some()
+}
+
+/// The index of the first of these subscriptions whose number is this one or above.
+fn first_from(waited: &[u64], start: u64) -> usize
+    requires { RisesBy waited_number waited.now }
+    ensures within { result ≤ length waited.now }
+    ensures parts { asked_from start waited.now ≡ drop result waited.now ++ take result waited.now }
+{
+    match waited.binary_search_by_key(&start, |other| *other) {
+        Ok(index) => index,
+        Err(index) => index,
+    }
+}
+
+/// How many items more than these each of these subscriptions takes at least; or the first that doesn't take these, from
+/// the number `start` on and then of those below it.
+fn least_spare<R: Wait>(
+    rt: &R,
+    due: u128,
+    start: u64,
+    waited: &[u64],
+    place: &mut Place<R>,
+) -> Result<u64, u64>
+    requires { RisesBy waited_number waited.now }
+    ensures heard { HasHeard place.old place.new }
+    ensures each { IfOk result (λ least. (n : ℕ) → In n waited.now
+        → fits (due + least) place.new.cells.group n ≡ true) }
+    ensures none { OnOk result
+        (find (λ n. not (fits due place.new.cells.group n)) (asked_from start waited.now) ≡ None) }
+    ensures first { IfErr result (λ number.
+        find (λ n. not (fits due place.new.cells.group n)) (asked_from start waited.now) ≡ Some number) }
+{
+    let (below, above) = waited.split_at(first_from(waited, start));
+    let least = least_among(rt, due, u64::MAX, above, place)?;
+    least_among(rt, due, least, below, place)
 }
 
 /// How many items more than these each of these subscriptions takes at least, or this number where it is less; or the
