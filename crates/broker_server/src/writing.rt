@@ -11,6 +11,7 @@ use mcast_txn::Released;
 use stomp_frame::{NoMemory, Octets, ServerFrame, write_server};
 
 /// Appends the frame and its EOL; after `NoMemory` perhaps the frame alone.
+#[inline(always)]
 fn put_with_eol(frame: &ServerFrame, out: &mut Octets) -> Result<(), NoMemory>
     ensures ok { OnOk result (out.new ≡ out.old ++ spelling_with_eol (raw_of_server frame.now)) }
     ensures err { OnErr result (Extends out.old out.new) }
