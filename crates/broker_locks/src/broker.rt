@@ -296,6 +296,7 @@ impl<R: Wait, W: Side, T: Side> Broker<R, W, T> {
     /// by number `start` and above, and then below it. Nobody is refused before those that are waited for were asked what
     /// was taken. A topic without a lock has room. Where it is refused nothing was taken; memory for the list is made
     /// before the lock.
+    #[inline(always)]
     pub fn reserve_at(
         &self,
         rt: &R,
@@ -329,12 +330,14 @@ impl<R: Wait, W: Side, T: Side> Broker<R, W, T> {
     }
 
     /// Gives all of it back.
+    #[inline(always)]
     pub fn release_room(&self, rt: &R, reserved: Reserved) {
         self.give_back_at(rt, reserved.topics());
         reserved.close();
     }
 
     /// Reserves room for one part at the topic. Refused as `NoRoom::Full` says.
+    #[inline(always)]
     fn one_reserved(&self, rt: &R, topic: Topic, start: u64) -> Result<(), Option<u64>>
         ensures { OnErr result (topic.0 < max_topics) }
     {

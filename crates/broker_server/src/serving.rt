@@ -51,6 +51,7 @@ mod seat_entry;
 mod second_line;
 mod seldom;
 mod shortened;
+mod shown;
 mod socket;
 mod socket_option;
 mod span;

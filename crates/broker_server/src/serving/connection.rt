@@ -81,8 +81,10 @@ enum Round {
     Idle,
     /// The connection leaves.
     Leaving,
-    /// It ends at once, and is told nothing more.
-    Ended(WhyLeft),
+    /// The server ends: it ends at once, and is told nothing more.
+    Closing,
+    /// A write has failed, and all that came was done: likewise.
+    Gone,
 }
 
 /// What wakes a thread.
@@ -118,7 +120,7 @@ impl<'a, 'b, R: Wait + Log + Clock, W: Side, T: Side> Connection<'a, 'b, R, W, T
     fn round(&mut self, desk: &mut Desk<'a, R, W, T>) -> Round {
         let told = self.outfit.bell.hears();
         if self.hub.is_closing() {
-            return Round::Ended(WhyLeft::Closing);
+            return Round::Closing;
         }
         let mut busy = false;
         if told || desk.talk.has_more() {
@@ -131,9 +133,7 @@ impl<'a, 'b, R: Wait + Log + Clock, W: Side, T: Side> Connection<'a, 'b, R, W, T
         }
         match self.hear(desk) {
             Round::Idle if busy || sent > 0 => Round::Busy,
-            Round::Idle if desk.is_gone() && !desk.talk.is_held() => Round::Ended(
-                WhyLeft::WriteFailed,
-            ),
+            Round::Idle if desk.is_gone() && !desk.talk.is_held() => Round::Gone,
             round => round,
         }
     }
@@ -203,6 +203,7 @@ impl<'a, 'b, R: Wait + Log + Clock, W: Side, T: Side> Connection<'a, 'b, R, W, T
 
     /// Goes on with the transaction that waits for room, if one does, as `tries` says, and says whom it waits for. All that
     /// was read was done then, or waits.
+    #[inline(always)]
     fn go_on(&mut self, desk: &mut Desk<'a, R, W, T>) -> Round
         ensures { result ≡ Idle → is_some desk.new.talk.held ≡ true → desk.new.calls.commits ≡ 0 }
     {
@@ -219,6 +220,7 @@ impl<'a, 'b, R: Wait + Log + Clock, W: Side, T: Side> Connection<'a, 'b, R, W, T
     /// Tries the transaction that waits for room, and what came behind it, until none waits, or there is no room though
     /// all that it sent was turned, or it is told of something. What is there for it is taken once none waits: a lag that
     /// was found meanwhile is told then.
+    #[inline(never)]
     fn tries(&mut self, desk: &mut Desk<'a, R, W, T>) -> Round
         ensures { result ≡ Idle → desk.new.calls.commits ≡ 0 }
     {
@@ -254,6 +256,7 @@ impl<'a, 'b, R: Wait + Log + Clock, W: Side, T: Side> Connection<'a, 'b, R, W, T
     }
 
     /// Says whom it waits for, if that is to be said.
+    #[inline(never)]
     fn tell_wait(&self, desk: &mut Desk<'a, R, W, T>)
         ensures talk { desk.new.talk ≡ desk.old.talk }
         ensures commits { desk.new.calls.commits ≡ desk.old.calls.commits }
@@ -345,7 +348,8 @@ impl<'a, 'b, R: Wait + Log + Clock, W: Side, T: Side> Connection<'a, 'b, R, W, T
                     }
                 }
                 Round::Leaving => return Ok(None),
-                Round::Ended(left) => return Err(left),
+                Round::Closing => return Err(WhyLeft::Closing),
+                Round::Gone => return Err(WhyLeft::WriteFailed),
                 Round::Idle if rounds.wrapping_sub(yielded_at) >= ROUNDS_TO_YIELD => {
                     yielded_at = rounds;
                     yield_now();
