@@ -14,7 +14,7 @@ use std::net::Shutdown;
 const SOCKET: Token = Token(0);
 
 /// The ERROR of a connection for which there was no memory.
-const NO_MEMORY: &[u8] = b"ERROR\nmessage:72 NoMemory\ncontent-length:0\n\n\0";
+const NO_MEMORY: &[u8] = b"ERROR\nmessage:72 NoMemory\ncontent-length:0\n\n\0\n";
 
 /// What a read gave.
 #[derive(Clone, Copy)]
