@@ -272,18 +272,6 @@ impl<R: Wait, W: Side, T: Side> Broker<R, W, T> {
         self.lock_of(topic)?.lock(rt).place.state(sub)
     }
 
-    /// Room for one part at each of these topics, or at none of them. It goes once nothing calls it.
-    pub fn reserve(&self, rt: &R, topics: &[Topic]) -> Result<Reserved, NoRoom> {
-        let mut reserved = self.no_room();
-        for &topic in topics {
-            if let Err(fault) = self.reserve_at(rt, topic, 0, &mut reserved) {
-                self.release_room(rt, reserved);
-                return Err(fault);
-            }
-        }
-        Ok(reserved)
-    }
-
     /// Room at no topic, to which `reserve_at` adds. It takes no lock and no memory.
     pub fn no_room(&self) -> Reserved
         ensures { result ≡ [] }
