@@ -363,18 +363,6 @@ impl<'a, R: Wait + Log + Clock, W: Side, T: Side> Calls<'a, R, W, T> {
         self.hub.waiters().swap_kept(self.rt, self.peer.desk, none)
     }
 
-    /// The room that it keeps at the first of these topics. Room at others is none of theirs, and is given back.
-    fn kept_at(&self, topics: &[Topic]) -> Reserved
-        ensures { IsRoomAt topics.now result }
-    {
-        let room = self.kept_room();
-        if is_at(topics, &room) {
-            return room;
-        }
-        self.hub.release_room(self.rt, room);
-        self.hub.running.broker.no_room()
-    }
-
     /// It keeps this room while it waits.
     #[inline(never)]
     fn keep_room(&mut self, room: Reserved)
@@ -405,12 +393,15 @@ impl<'a, R: Wait + Log + Clock, W: Side, T: Side> Calls<'a, R, W, T> {
         }
     }
 
-    /// Room at these topics, for which it waits.
+    /// Room at these topics, for which it waits. (What it keeps is at the first of them; else it is given up.)
     #[inline(never)]
     fn room_after_wait(&mut self, topics: &[Topic]) -> Option<Reserved>
         ensures { IfSome result (λ room. (room ≡ topics.now) ⊎ (room ≡ [])) }
     {
-        let room = self.kept_at(topics);
+        let room = self.kept_room();
+        if !is_at(topics, &room) {
+            return self.without_room(room);
+        }
         self.tries(topics, room)
     }
 

@@ -291,8 +291,9 @@ impl Waiting {
         self.wait.end(rt, asker.hub);
     }
 
-    /// Takes a place to keep room at the first topic where it has none. Where none is left there, it gives its room
-    /// there back, and at the topics behind it, and waits for one.
+    /// Takes a place to keep room at the first topic where it has none; it is the first of a line no longer, and asks
+    /// again at the next topic then. Where no place is left, it gives its room there back, and at the topics behind it,
+    /// and waits for one.
     #[tactic(auto, using(crate::proofs::LineLemmas::fewer))]
     fn takes_place<R: Wait + Clock, W: Side, T: Side>(
         &mut self,
