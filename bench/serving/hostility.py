@@ -73,10 +73,10 @@ def plain_use(trial, count=MOST_CONNECTIONS - 1):
     for at, it in enumerate(clients[: len(TOPICS)]):
         it.send(send_frame(TOPICS[at], b"to all"))
     for it in clients:
-        it.wait_for(b"to all\0", 30)
+        it.wait_for(b"to all\0\n", 30)
         it.send(b"DISCONNECT\nreceipt:bye\n\n\0")
     for it in clients:
-        it.wait_for(b"receipt-id:bye\n\n\0", 30)
+        it.wait_for(b"receipt-id:bye\n\n\0\n", 30)
     close_all(clients)
     return f"{len(clients)} came, were served and left"
 
@@ -170,7 +170,7 @@ def never_read(trial, seconds=20):
     wanted += subscribe(TOPICS[-1], MOST_OPEN - 1, b"receipt:s\n")
     stuck = trial.open(trial.part(MOST_CONNECTIONS - 2), wanted, receive_room=4096)
     for it in stuck:
-        it.wait_for(b"receipt-id:s\n\n\0", 30)
+        it.wait_for(b"receipt-id:s\n\n\0\n", 30)
     sent, during = flood(trial, seconds)
     with_them = rate_of_another(trial)
     memory = trial.server.memory()
@@ -244,7 +244,7 @@ def bursts(trial, count=20, sends=200):
         reader.ask(subscribe(TOPICS[0]))
         (reader if at % 2 else other).send(frames)
         try:
-            reader.wait_for(b"the last\0", 30)
+            reader.wait_for(b"the last\0\n", 30)
         except Ended:
             lagged[at % 2 == 1] += 1
         close_all([reader, other])
@@ -310,7 +310,7 @@ def every_limit(trial):
         it.connect(subscribe(TOPICS[0]))
         for _ in range(rounds):
             it.send(longest_send(body))
-            came = it.wait_for(b"content-length:%d\n" % MOST_BODY, 30) + it.wait_for(body + b"\0", 30)
+            came = it.wait_for(b"content-length:%d\n" % MOST_BODY, 30) + it.wait_for(body + b"\0\n", 30)
             frames += came.count(b"MESSAGE\n")
             trial.expect(came.count(b"v" * (MOST_LINE - 5)) == MOST_HEADERS - 2, "a header didn't come as it was sent")
     beyond = {
@@ -413,7 +413,7 @@ def named_topics(trial):
         it.connect()
         for name in names:
             it.send(send_frame(name, b"x", b"receipt:r\n"))
-            it.wait_for(b"receipt-id:r\n\n\0")
+            it.wait_for(b"receipt-id:r\n\n\0\n")
     memory, took = trial.server.memory() - before, time.monotonic() - begun
     if len(names) + len(NAMES) == MOST_TOPICS:
         expect_no_more_topics(trial)

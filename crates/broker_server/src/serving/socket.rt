@@ -25,7 +25,7 @@ const KEEP_ALIVE: [(SocketOption, u32); 4] = [
 ];
 
 /// The ERROR of a connection for which there was no memory.
-const NO_MEMORY: &[u8] = b"ERROR\nmessage:72 NoMemory\ncontent-length:0\n\n\0";
+const NO_MEMORY: &[u8] = b"ERROR\nmessage:72 NoMemory\ncontent-length:0\n\n\0\n";
 
 /// What a read gave.
 #[derive(Clone, Copy)]

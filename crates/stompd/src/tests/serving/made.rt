@@ -37,9 +37,9 @@ fn message_of(alloc: Global, name: u32, of_second: bool) -> Option<String> {
 }
 
 /// The RECEIPT of a SEND, and that of a SUBSCRIBE.
-const SENT: &str = "RECEIPT\nreceipt-id:r\n\n\0";
+const SENT: &str = "RECEIPT\nreceipt-id:r\n\n\0\n";
 
-const SUBSCRIBED: &str = "RECEIPT\nreceipt-id:s\n\n\0";
+const SUBSCRIBED: &str = "RECEIPT\nreceipt-id:s\n\n\0\n";
 
 /// An UNSUBSCRIBE, which asks for the receipt of a SEND.
 const UNSUBSCRIBE: &str = "UNSUBSCRIBE\nid:s\nreceipt:r\n\n\0";
@@ -149,15 +149,15 @@ fn sends_to_all(client: &mut Client, alloc: Global, names: u32) -> bool {
 const REFUSED: &[(&str, &str)] = &[
     (
         "SEND\ndestination:one.more\nreceipt:r\n\nhi\0",
-        "ERROR\nmessage:75 TooManyTopics\nreceipt-id:r\ncontent-length:0\n\n\0",
+        "ERROR\nmessage:75 TooManyTopics\nreceipt-id:r\ncontent-length:0\n\n\0\n",
     ),
     (
         "SUBSCRIBE\nid:s\ndestination:one.more\n\n\0",
-        "ERROR\nmessage:75 TooManyTopics\ncontent-length:0\n\n\0",
+        "ERROR\nmessage:75 TooManyTopics\ncontent-length:0\n\n\0\n",
     ),
     (
         "SEND\ndestination:two words\n\nhi\0",
-        "ERROR\nmessage:76 BadDestination\ncontent-length:0\n\n\0",
+        "ERROR\nmessage:76 BadDestination\ncontent-length:0\n\n\0\n",
     ),
 ];
 
