@@ -15,6 +15,7 @@ use crate::serving::desks::Desks;
 use crate::serving::hub::Hub;
 use crate::serving::moment::Moment;
 use crate::serving::outfit::Outfit;
+use crate::serving::peer::Peer;
 use crate::serving::seat::Seat;
 use crate::serving::socket::{Came, Socket};
 use crate::serving::span::Span;
@@ -80,8 +81,10 @@ enum Round {
     Idle,
     /// The connection leaves.
     Leaving,
-    /// It ends at once, and is told nothing more.
-    Ended(WhyLeft),
+    /// The server ends: it ends at once, and is told nothing more.
+    Closing,
+    /// A write has failed, and all that came was done: likewise.
+    Gone,
 }
 
 /// What wakes a thread.
@@ -117,7 +120,7 @@ impl<'a, 'b, R: Wait + Log + Clock, W: Side, T: Side> Connection<'a, 'b, R, W, T
     fn round(&mut self, desk: &mut Desk<'a, R, W, T>) -> Round {
         let told = self.outfit.bell.hears();
         if self.hub.is_closing() {
-            return Round::Ended(WhyLeft::Closing);
+            return Round::Closing;
         }
         let mut busy = false;
         if told || desk.talk.has_more() {
@@ -130,9 +133,7 @@ impl<'a, 'b, R: Wait + Log + Clock, W: Side, T: Side> Connection<'a, 'b, R, W, T
         }
         match self.hear(desk) {
             Round::Idle if busy || sent > 0 => Round::Busy,
-            Round::Idle if desk.is_gone() && !desk.talk.is_held() => Round::Ended(
-                WhyLeft::WriteFailed,
-            ),
+            Round::Idle if desk.is_gone() && !desk.talk.is_held() => Round::Gone,
             round => round,
         }
     }
@@ -200,21 +201,26 @@ impl<'a, 'b, R: Wait + Log + Clock, W: Side, T: Side> Connection<'a, 'b, R, W, T
         }
     }
 
-    /// Goes on with the transaction that waits for room, if one does, as `tries` says, and says whom it waits for.
+    /// Goes on with the transaction that waits for room, if one does, as `tries` says, and says whom it waits for. All that
+    /// was read was done then, or waits.
+    #[inline(always)]
     fn go_on(&mut self, desk: &mut Desk<'a, R, W, T>) -> Round
         ensures { result ≡ Idle → is_some desk.new.talk.held ≡ true → desk.new.calls.commits ≡ 0 }
     {
         if !desk.talk.is_held() {
+            desk.calls.rest();
             return Round::Idle;
         }
         let round = self.tries(desk);
         self.tell_wait(desk);
+        desk.calls.rest();
         round
     }
 
     /// Tries the transaction that waits for room, and what came behind it, until none waits, or there is no room though
     /// all that it sent was turned, or it is told of something. What is there for it is taken once none waits: a lag that
     /// was found meanwhile is told then.
+    #[inline(never)]
     fn tries(&mut self, desk: &mut Desk<'a, R, W, T>) -> Round
         ensures { result ≡ Idle → desk.new.calls.commits ≡ 0 }
     {
@@ -250,6 +256,7 @@ impl<'a, 'b, R: Wait + Log + Clock, W: Side, T: Side> Connection<'a, 'b, R, W, T
     }
 
     /// Says whom it waits for, if that is to be said.
+    #[inline(never)]
     fn tell_wait(&self, desk: &mut Desk<'a, R, W, T>)
         ensures talk { desk.new.talk ≡ desk.old.talk }
         ensures commits { desk.new.calls.commits ≡ desk.old.calls.commits }
@@ -328,6 +335,7 @@ impl<'a, 'b, R: Wait + Log + Clock, W: Side, T: Side> Connection<'a, 'b, R, W, T
             return Ok(None);
         };
         desk.socket.note_waited(&self.outfit.events);
+        desk.calls.set_timed(self.outfit.events.is_empty());
         let mut rounds = 0u32;
         let mut yielded_at = 0u32;
         for _ in rt.forever() {
@@ -340,7 +348,8 @@ impl<'a, 'b, R: Wait + Log + Clock, W: Side, T: Side> Connection<'a, 'b, R, W, T
                     }
                 }
                 Round::Leaving => return Ok(None),
-                Round::Ended(left) => return Err(left),
+                Round::Closing => return Err(WhyLeft::Closing),
+                Round::Gone => return Err(WhyLeft::WriteFailed),
                 Round::Idle if rounds.wrapping_sub(yielded_at) >= ROUNDS_TO_YIELD => {
                     yielded_at = rounds;
                     yield_now();
@@ -468,6 +477,7 @@ impl<'a, 'b, R: Wait + Log + Clock, W: Side, T: Side> Connection<'a, 'b, R, W, T
             return WhyLeft::Closing;
         };
         let left = self.leave(ended, &mut desk);
+        desk.calls.end_behind();
         desk.show();
         let (socket, calls) = Box::into_inner(desk).into_parts();
         drop(socket);
@@ -520,7 +530,11 @@ fn talk_over<'a, 'b, R: Wait + Log + Clock, W: Side, T: Side>(
     outfit: Outfit,
     socket: Socket,
 ) -> WhyLeft {
-    let number = outfit.peer.number;
+    let Peer {
+        number,
+        desk,
+        addr: _,
+    } = outfit.peer;
     let left = match desk_of(rt, alloc, hub, &outfit, socket) {
         Ok(desk) => {
             let mut connection = Connection {
@@ -539,6 +553,7 @@ fn talk_over<'a, 'b, R: Wait + Log + Clock, W: Side, T: Side>(
             WhyLeft::NoMemory
         }
     };
+    hub.waiters().set_bell(rt, desk, None);
     hub.leave(rt, number, &left);
     left
 }
@@ -554,9 +569,13 @@ fn desk_of<'a, R: Wait + Log + Clock, W: Side, T: Side>(
     let Ok(bell) = outfit.bell.clone() else {
         return Err(socket);
     };
+    let Ok(rung) = outfit.bell.clone() else {
+        return Err(socket);
+    };
     let Ok(worker) = hub.running.take_worker(rt) else {
         return Err(socket);
     };
+    hub.waiters().set_bell(rt, outfit.peer.desk, Some(rung));
     let calls = Calls::new(rt, alloc, hub, outfit.peer, bell, worker);
     let talk = Conversation::new(alloc, hub.running.capacity());
     match Box::new(alloc, Desk::new(socket, calls, talk)) {

@@ -82,8 +82,29 @@ impl<'a, R: Wait + Log + Clock, W: Side, T: Side> Desk<'a, R, W, T> {
         self.talk.deliver(&mut self.calls)
     }
 
-    /// Writes what waits, as far as the system takes it, and notes at what pace that is; how many octets went out.
+    /// Writes what waits, as far as the system takes it, and notes at what pace that is; how many octets went out. Where
+    /// nothing waits there is nothing to note, unless the system is behind.
+    #[inline(always)]
     pub(crate) fn write(&mut self) -> usize
+        ensures calls { self.new.calls ≡ self.old.calls }
+        ensures talk { self.new.talk ≡ record self.old.talk { wire = self.new.talk.wire } }
+    {
+        if self.is_written() {
+            return 0;
+        }
+        self.write_some()
+    }
+
+    /// Whether nothing waits to be written, and the system isn't behind.
+    fn is_written(&self) -> bool {
+        self.talk.wire().is_empty()
+            && !self.socket.is_blocked()
+            && !self.calls.bell().intake().is_behind()
+    }
+
+    /// Writes what waits, as far as the system takes it, and notes at what pace that is; how many octets went out.
+    #[inline(never)]
+    fn write_some(&mut self) -> usize
         ensures calls { self.new.calls ≡ self.old.calls }
         ensures talk { self.new.talk ≡ record self.old.talk { wire = self.new.talk.wire } }
     {
@@ -108,6 +129,7 @@ impl<'a, R: Wait + Log + Clock, W: Side, T: Side> Desk<'a, R, W, T> {
         if is_behind || was_behind {
             self.streak.ends();
             intake.note(rt, Moment::now(rt), sent as u64, is_behind);
+            self.calls.note_behind(was_behind, is_behind);
         } else if self.streak.adds(sent as u64) {
             intake.keep_up(rt);
         }
@@ -173,7 +195,7 @@ impl<'a, R: Wait + Log + Clock, W: Side, T: Side> Desk<'a, R, W, T> {
 
     /// Shows what the connection did, for the log's figures.
     pub(crate) fn show(&self) {
-        self.calls.bell().show(self.calls.rt(), self.activity());
+        self.calls.bell().show(&self.activity());
     }
 
     /// It is stuck where more is there than the system takes: it looks again once that takes some.

@@ -140,6 +140,7 @@ impl Socket {
 
     /// Reads once, into this room, unless nothing can be there. A failed read is the peer's end. Once a write has failed
     /// the poll isn't waited for.
+    #[inline(always)]
     pub(crate) fn read(&mut self, room: &mut [u8]) -> Came
         ensures idle { self.old.readable ≡ false → self.old.gone ≡ false
             → (result ≡ Nothing) × (self.new ≡ self.old) × (room.new ≡ room.old) }
