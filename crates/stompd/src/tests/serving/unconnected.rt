@@ -63,7 +63,7 @@ impl Peers for Unconnected {
                 all_are_closed(clients.as_mut_slice())
                     && connected.asks(
                         "ACK\n\n\0",
-                        "ERROR\nmessage:21 Unsupported\ncontent-length:0\n\n\0",
+                        "ERROR\nmessage:21 Unsupported\ncontent-length:0\n\n\0\n",
                     )
             }
             None => false,
