@@ -5,10 +5,10 @@ use super::lines::Lines;
 use super::served::{Peers, quiet, serves};
 use std::alloc::Global;
 
-/// A subscription `s` to B that asks for a receipt, and its RECEIPT.
+/// A CONNECT and a subscription `s` to B that asks for a receipt, and what is written first then.
 const TO_B: (&str, &str) = (
-    "SUBSCRIBE\nid:s\ndestination:B\nreceipt:s\n\n\0",
-    "RECEIPT\nreceipt-id:s\n\n\0\n",
+    "CONNECT\naccept-version:1.2\nhost:h\n\n\0SUBSCRIBE\nid:s\ndestination:B\nreceipt:s\n\n\0",
+    "CONNECTED\nversion:1.2\nheart-beat:0,0\n\n\0\nRECEIPT\nreceipt-id:s\n\n\0\n",
 );
 
 /// A SEND to B that asks for a receipt, and its RECEIPT.
@@ -18,16 +18,18 @@ const AT_B: (&str, &str) = (
 );
 
 /// The same at A.
-const AT_A: (&str, &str) = ("SEND\ndestination:A\nreceipt:r\n\nhi\0", AT_B.1);
+const AT_A: (&str, &str) = (
+    "SEND\ndestination:A\nreceipt:r\n\nhi\0",
+    "RECEIPT\nreceipt-id:r\n\n\0\n",
+);
 
-/// A transaction with a SEND to A and one to B, up to its COMMIT.
+/// A transaction with a SEND to A and one to B.
 const BOTH: &str = "BEGIN\ntransaction:x\n\n\0SEND\ndestination:A\ntransaction:x\n\np\0\
-    SEND\ndestination:B\ntransaction:x\n\np\0";
+    SEND\ndestination:B\ntransaction:x\n\np\0COMMIT\ntransaction:x\n\n\0";
 
-/// Its COMMIT, and the same that asks for a receipt.
-const COMMIT: &str = "COMMIT\ntransaction:x\n\n\0";
-
-const COMMIT_ASKED: &str = "COMMIT\ntransaction:x\nreceipt:r\n\n\0";
+/// The same, which asks for a receipt.
+const BOTH_ASKED: &str = "BEGIN\ntransaction:x\n\n\0SEND\ndestination:A\ntransaction:x\n\np\0\
+    SEND\ndestination:B\ntransaction:x\n\np\0COMMIT\ntransaction:x\nreceipt:r\n\n\0";
 
 /// How many octets each SEND has that fills what is on the way to one that doesn't read.
 const LARGE: usize = 40_000;
@@ -107,15 +109,28 @@ fn asks_often(client: &mut Client, asked: (&str, &str), count: usize) -> bool {
 const MANY: u64 = 70;
 
 /// How often one sends to A alone: in less time than that all of the others are heard.
-const ALONE: usize = 200;
+const ALONE: usize = 60;
+
+/// Whether what comes next are so many MESSAGEs whose body ends with this.
+fn hears_those(reader: &mut Client, last: u8, count: usize) -> bool {
+    for _ in 0..count {
+        match reader.frame() {
+            Some(frame) if frame.last() == Some(&last) => {}
+            _ => return false,
+        }
+    }
+    true
+}
 
 /// One subscribes to B and doesn't read; more connections than A has room for parts wait at B with a transaction to both;
-/// and one sends to A alone. Then the one at B is gone.
+/// and one sends to A alone. Then the one at B is gone. Another subscribes to A.
 #[derive(Drop)]
 struct KeptRoom;
 
 impl KeptRoom {
-    /// Whether the one that sends to A alone is answered while the others wait, and the others are once that at B is gone.
+    /// Whether the one that sends to A alone is answered while the others wait, and these are once that at B is gone: so the
+    /// reader hears first what that one sent. All of that is done within the second for which one is waited for that
+    /// doesn't read.
     fn goes_on(
         &self,
         alloc: Global,
@@ -125,23 +140,20 @@ impl KeptRoom {
         many: &mut [Client],
     ) -> bool {
         let are_waiting = fills(filling, alloc)
-            && all_send(many, BOTH)
-            && all_send(many, COMMIT_ASKED)
+            && all_send(many, BOTH_ASKED)
             && asks_often(alone, AT_A, ALONE);
         drop(stalled);
         are_waiting && all_hear(many, AT_B.1) && filling.asks(AT_B.0, AT_B.1)
     }
-}
 
-impl Peers for KeptRoom {
-    fn count(&self) -> u64 {
-        MANY.saturating_add(3)
-    }
-
-    fn meet(&self, alloc: Global, lines: &mut Lines) -> bool {
-        let Some(mut stalled) = Client::connected(alloc, lines) else {
-            return false;
-        };
+    /// Whether it is so with these, and new ones.
+    fn is_kept(
+        &self,
+        alloc: Global,
+        lines: &mut Lines,
+        stalled: Client,
+        reader: &mut Client,
+    ) -> bool {
         let Some(mut filling) = Client::connected(alloc, lines) else {
             return false;
         };
@@ -150,15 +162,31 @@ impl Peers for KeptRoom {
         };
         match clients(alloc, lines, MANY) {
             Some(mut many) => {
-                stalled.asks(TO_B.0, TO_B.1)
-                    && self.goes_on(
-                        alloc,
-                        stalled,
-                        &mut filling,
-                        &mut alone,
-                        many.as_mut_slice(),
-                    )
+                self.goes_on(
+                    alloc,
+                    stalled,
+                    &mut filling,
+                    &mut alone,
+                    many.as_mut_slice(),
+                ) && hears_those(reader, b'i', ALONE)
+                    && hears_those(reader, b'p', MANY as usize)
             }
+            None => false,
+        }
+    }
+}
+
+impl Peers for KeptRoom {
+    fn count(&self) -> u64 {
+        MANY.saturating_add(4)
+    }
+
+    fn meet(&self, alloc: Global, lines: &mut Lines) -> bool {
+        let Some(mut reader) = Client::subscribed(alloc, lines) else {
+            return false;
+        };
+        match Client::told(alloc, lines, TO_B.0, TO_B.1) {
+            Some(stalled) => self.is_kept(alloc, lines, stalled, &mut reader),
             None => false,
         }
     }
@@ -178,10 +206,7 @@ fn all_go(alloc: Global, lines: &mut Lines) -> bool {
     match clients(alloc, lines, GOING) {
         Some(mut going) => {
             let going = going.as_mut_slice();
-            all_send(going, BOTH)
-                && all_send(going, COMMIT)
-                && all_send(going, BOTH)
-                && all_send(going, COMMIT)
+            all_send(going, BOTH) && all_send(going, BOTH)
         }
         None => false,
     }
@@ -197,13 +222,11 @@ impl Peers for Gone {
     }
 
     fn meet(&self, alloc: Global, lines: &mut Lines) -> bool {
-        let Some(mut stalled) = Client::connected(alloc, lines) else {
+        let Some(_stalled) = Client::told(alloc, lines, TO_B.0, TO_B.1) else {
             return false;
         };
         match Client::connected(alloc, lines) {
-            Some(mut filling) => {
-                stalled.asks(TO_B.0, TO_B.1) && fills(&mut filling, alloc) && all_go(alloc, lines)
-            }
+            Some(mut filling) => fills(&mut filling, alloc) && all_go(alloc, lines),
             None => false,
         }
     }
@@ -234,7 +257,7 @@ const BEHIND_BODY: &str = "SEND\ndestination:B\ntransaction:x\n\ny\0COMMIT\ntran
 
 /// The letter of the sender of this index.
 fn letter_of(sender: usize) -> u8 {
-    b'a'.saturating_add(sender as u8)
+    b'a'.saturating_add(u8::try_from(sender).unwrap_or(0))
 }
 
 /// Whether a sender of this letter sends a transaction of this number to A and B.
