@@ -1,14 +1,14 @@
-/* Waiting for room: who waits is told once there is some; who takes tells what it took; who is passed over is waited
-   for again.
+/* Waiting for room: who waits stands in a line, and its first is told once there may be room; who waits at one topic
+   keeps room at those before it; who takes tells what it took; who is passed over is waited for again.
 
    Each step that another thread may see, or be seen by, is one step here, with its place in the code beside it. Sizes
    and mutants stand in runs.txt, what is left out in README.md. A call of a bell is one step, as is what is done behind
    a lock and seen by nobody who hasn't got it: bells.pml takes these apart. */
 
-#ifndef TOPICS                   /* 1 or 2 */
+#ifndef TOPICS                   /* 1 to 3 */
 #define TOPICS 2
 #endif
-#ifndef SUBS                     /* subscriptions; the first is at the last topic, and so on */
+#ifndef SUBS                     /* subscriptions, 0 to 2; the first is at the last topic, and so on */
 #define SUBS 2
 #endif
 #ifndef SENDERS                  /* connections that send */
@@ -29,6 +29,11 @@
 #ifndef WIRE                     /* items that may wait to be written */
 #define WIRE 1
 #endif
+#if SUBS == 0
+#define NUMBER 1
+#else
+#define NUMBER SUBS
+#endif
 #ifdef OWN                       /* sub s is of sender s */
 #define CONNS SENDERS
 #define TAKER(s) (s)
@@ -38,7 +43,11 @@
 #define TAKERS SUBS
 #endif
 #define CONNS (SENDERS + TAKERS)
+#if TAKERS == 0
+#define TAKER(s) 0
+#else
 #define TAKER(s) (SENDERS + (s) % TAKERS)
+#endif
 #define TAKES(c) ((c) >= SENDERS)
 #endif
 #ifndef FILLED                   /* of these, there at the beginning */
@@ -62,30 +71,77 @@
 #ifndef GIVEN_BACK               /* so many have no gate, once they have room */
 #define GIVEN_BACK 0
 #endif
+#ifndef WITHOUT                  /* so many are committed without room, for want of memory */
+#define WITHOUT 0
+#endif
 /* NEVER: the client of the first subscription never reads. CLOSES: the server ends, at some time. HEADS: a head turns
-   what was committed by who has committed more than one. Transactions are to either topic or both; BOTH: to both;
-   OTHER: the first sender's are to both, and the others' to those of these bits. SETTLES: a verdict is a step of its
-   own. ONCE: who reads a transaction that finds no room sleeps, where the code asks twice again before. */
+   what was committed by who has committed more than one. Transactions are to one topic or two; those of sender n are to
+   the topics whose bits are TO0, TO1, TO2; BOTH: to all; OTHER: the first sender's are to all, and the others' to those
+   of these bits. SETTLES: a verdict is a step of its own. ONCE: who reads a transaction that finds no room sleeps, where
+   the code asks again before. ENDLESS: all senders but the first send for ever. */
 #define TOPIC(s) (TOPICS - 1 - (s) % TOPICS)
 #define SENDS(c) ((c) < SENDERS)
 #define MAKES(c) ((c) == 0 -> COMMITS : OTHERS)
 #define BIT(n) (1 << (n))
-#if TOPICS == 1
-#define LEAST(want) 0
-#define NEXT(want, t) TOPICS
-#else
-#define LEAST(want) ((want) & 1 -> 0 : 1)
-#define NEXT(want, t) ((t) == 0 && ((want) & 2) -> 1 : TOPICS)
+#define ALL (BIT(TOPICS) - 1)
+#ifdef BOTH
+#define TO0 ALL
+#define TO1 ALL
+#define TO2 ALL
+#elif defined(OTHER)
+#define TO0 ALL
+#define TO1 OTHER
+#define TO2 OTHER
 #endif
+#ifndef TO0                      /* 0: to any */
+#define TO0 0
+#endif
+#ifndef TO1
+#define TO1 TO0
+#endif
+#ifndef TO2
+#define TO2 TO1
+#endif
+#define TO(c) ((c) == 0 -> TO0 : ((c) == 1 -> TO1 : TO2))
+/* From this topic on, the first of these. */
+#define FIRST_OF(bits) do :: t < TOPICS && !((bits) & BIT(t)) -> t++ :: else -> break od; skip
+/* So many may keep room at a topic and wait at another. */
+#if CAPACITY >= 4
+#define MOST (CAPACITY / 2)
+#else
+#define MOST 1
+#endif
+#ifndef BATCH                    /* so often who is first finds room, and stays the first, at most */
+#define BATCH MOST
+#endif
+#ifdef M_MORE_KEPT
+#define PLACES (MOST + 1)
+#else
+#define PLACES MOST
+#endif
+
+/* What a line's mark says: nobody stands there; or the first looks, was rung, or waits for what is due, or for the
+   subscription 0, or the next one. */
+#define Nobody 0
+#define Anything 1
+#define Rung 2
+#define Due 3
+#define Sub(n) (4 + (n))
+#define Any 9                    /* what is rung for: all of these */
+#define OF(mark) ((mark) > Due -> (mark) - 4 : 0)
 
 mtype:bell = { Awake, Told, Asleep };
 mtype:frame = { Nothing, Subscribe, Unsubscribe, End };
 mtype:take = { Other, Full, Item, Half, Last, None };
 
-/* A connection: its bell, its desk, its socket and client. */
+/* A connection: its bell, its desk, its socket and client; where it has room and places, and the line in which it
+   stands, 1 and the topic, or 1 and the number of topics more for a second line. */
 mtype:bell bell[CONNS] = Awake;
 bool woken[CONNS];               /* the bell's event, in the poll */
 byte held[CONNS];                /* the topics of the transaction that waits */
+byte room[CONNS];
+byte kept[CONNS];
+byte stands[CONNS];
 bool gone[CONNS];                /* its thread has ended */
 bool stuck[CONNS];
 bool desk[CONNS];                /* the desk's lock */
@@ -98,15 +154,18 @@ bool reads[CONNS] = true;        /* the client: the system takes what is written
 mtype:frame frame[CONNS] = Nothing;
 
 /* A topic: its lock, the parts that are pending there, those of them whose verdict isn't set, the room that is
-   reserved; its seats' lock; its waiters: their lock, their bells, whether it is awaited. */
+   reserved; its seats' lock; its line: the lock, the mark, who stands there; how many have a place to keep room there,
+   and the second line, for those. */
 bool topic[TOPICS];
 byte pending[TOPICS];
 byte undecided[TOPICS];
 byte reserved[TOPICS];
 bool seats[TOPICS];
-bool waiters[TOPICS];
-byte bells[TOPICS];
-bool awaited[TOPICS];
+bool locked[TOPICS];
+byte mark[TOPICS];
+chan line[TOPICS] = [SENDERS] of { byte };
+byte keepers[TOPICS];
+chan second[TOPICS] = [SENDERS] of { byte };
 #ifdef HEADS
 bool due[TOPICS];
 chan head_queue = [TOPICS] of { byte };
@@ -114,19 +173,23 @@ chan head_queue = [TOPICS] of { byte };
 
 /* A subscription: at its topic, in its queue, with its connection. Its source knows of no take but those that it was
    told, and heard. */
-bool seated[SUBS];
-bool open_[SUBS];
-bool waited[SUBS];
-bool lagged[SUBS];
-byte queue[SUBS];                  /* items in its queue */
-byte untold[SUBS];               /* taken, and not told */
-byte told[SUBS];                 /* told, and not heard */
-bool telling[SUBS];              /* just being told: nothing is heard */
-bool passed_over[SUBS];          /* the seat's, for who takes */
-bool has[SUBS];                  /* the connection has it */
+bool seated[NUMBER];
+bool open_[NUMBER];
+bool waited[NUMBER];
+bool lagged[NUMBER];
+byte queue[NUMBER];                  /* items in its queue */
+byte untold[NUMBER];               /* taken, and not told */
+byte told[NUMBER];                 /* told, and not heard */
+bool telling[NUMBER];              /* just being told: nothing is heard */
+bool passed_over[NUMBER];          /* the seat's, for who takes */
+bool has[NUMBER];                  /* the connection has it */
+bool forgotten[NUMBER];            /* passed over by who committed without room: its seat doesn't say so */
 
 bool closing;
-byte passes, refusals, given_back;
+byte passes, refusals, given_back, without;
+#ifdef ENDLESS
+bool served;                     /* the first sender's were entered */
+#endif
 
 #define RING(b) if :: bell[b] == Asleep -> woken[b] = true :: else fi; bell[b] = Told
 #define SEAT_RING(sub) if :: stuck[TAKER(sub)] -> skip :: else -> RING(TAKER(sub)) fi
@@ -145,69 +208,123 @@ byte passes, refusals, given_back;
 #define HAS_ROOM(t) (DUE(t) < CAPACITY && !IN_WAY(0, t))
 #elif SUBS == 2
 #define HAS_ROOM(t) (DUE(t) < CAPACITY && !IN_WAY(0, t) && !IN_WAY(1, t))
+#else
+#define HAS_ROOM(t) (DUE(t) < CAPACITY)
 #endif
 #define HEAR(sub) if :: telling[sub] -> skip :: else -> told[sub] = 0 fi
-#define HEAR_AT(t) for (u : 0 .. SUBS - 1) { if :: TOPIC(u) == t -> HEAR(u) :: else fi } u = 0
 
 /* What the inlines below use; each leaves its own as it found it: zero. */
-#define SCRATCH byte s, t, u, w, x, e, n, without, sleepers; bool mine, rings, some, done, sent, over; mtype:take got
+#define SCRATCH byte s, t, u, w, x, e, n, sleepers; bool mine, rings, some, done, sent, over; mtype:take got
 
-/* waiters.rt ring: a load, a swap where that was true, and where that was, too, the bells behind their lock */
-inline waiters_ring(at) {
-  d_step { rings = awaited[at]; awaited[at] = false };
-  do
-  :: d_step { rings && (mine || !waiters[at]) ->
-       do :: w < SENDERS && !(bells[at] & BIT(w)) -> w++ :: else -> break od;
-       if :: w < SENDERS -> bells[at] = bells[at] - BIT(w); RING(w) :: else fi;
-       mine = (bells[at] != 0); waiters[at] = mine; rings = mine; w = 0 }
-  :: !rings -> break
-  od;
-  w = 0
-}
-/* waiters.rt put */
-inline waiters_put(at, c) {
-#ifdef M_AWAITED_FIRST
-  awaited[at] = true;
-  d_step { !waiters[at] -> bells[at] = bells[at] | BIT(c) }
+/* Whether this mark asks for what may be there now. */
+#ifdef M_OTHER_TAKER
+#define ASKS_FOR(mark, what) (mark == Anything || mark > Due && what > Due && mark != what)
 #else
-  d_step { !waiters[at] -> bells[at] = bells[at] | BIT(c); awaited[at] = true }
+#define ASKS_FOR(mark, what) (mark == Anything || mark == what || mark >= Due && what == Any)
 #endif
-}
-
-/* broker.rt reserve: room.rt reserve behind each topic's lock, and broker.rt give_back_at where one has no room; then
-   hub.rt reserve rings where room was given back. without is the first topic without room, and one; or 0 */
-inline hub_reserve() {
-  t = LEAST(want);
-  do
-  :: d_step { t < TOPICS && without == 0 && !topic[t] ->
-       HEAR_AT(t);
-       if
-       :: HAS_ROOM(t) -> reserved[t]++; t = NEXT(want, t)
-       :: else -> without = t + 1
-       fi }
-  :: t >= TOPICS || without > 0 -> break
-  od;
-  t = 0;
-#if TOPICS > 1
+/* line.rt ring: a load; behind the lock, where it is so still, the mark, and then the first's bell */
+inline line_ring(at, what) {
   if
-  :: without == 2 && (want & 1) ->
-#ifndef M_RESERVE_KEEPS
-     d_step { !topic[0] -> reserved[0]-- };
-#endif
-#ifndef M_RESERVE_SILENT
-     waiters_ring(0)
+  :: ASKS_FOR(mark[at], (what)) ->
+     d_step { !locked[at] -> rings = ASKS_FOR(mark[at], (what)); locked[at] = rings };
+     if
+     :: rings ->
+#ifdef M_BELL_BEFORE_MARK
+        d_step { line[at] ? <w>; RING(w); w = 0 };
+        d_step { mark[at] = Rung; locked[at] = false; rings = false }
 #else
-     skip
+        mark[at] = Rung;
+        d_step { line[at] ? <w>; RING(w); w = 0; locked[at] = false; rings = false }
 #endif
+     :: !rings
+     fi
   :: else
   fi
+}
+/* line.rt leave: the next one is rung. Its bell is a step with the mark: nobody else sees it before. */
+inline line_leave(at, c) {
+  d_step { !locked[at] ->
+    line[at] ?? eval(c); stands[c] = 0;
+    if
+    :: len(line[at]) == 0 -> mark[at] = Nobody
+    :: else ->
+       mark[at] = Rung;
+#ifndef M_LEAVES_SILENT
+       line[at] ? <w>; RING(w); w = 0
+#endif
+    fi }
+}
+/* line.rt join: whether it is the first */
+inline line_join(at, c) {
+  d_step { !locked[at] ->
+    some = len(line[at]) == 0; line[at] ! c; stands[c] = 1 + at;
+    if :: some -> mark[at] = Anything :: else fi }
+}
+/* keepers.rt take_or_join: whether there was a place */
+inline take_or_join(at, c) {
+  d_step { some = (keepers[at] < PLACES && len(second[at]) == 0);
+    if
+    :: some -> keepers[at]++; kept[c] = kept[c] | BIT(at)
+    :: else -> second[at] ! c; stands[c] = 1 + TOPICS + at
+    fi }
+}
+/* keepers.rt give_back: the first of the second line is rung */
+inline give_place_back(at, c) {
+  d_step {
+#ifndef M_PLACE_LOST
+    keepers[at]--;
+#endif
+    kept[c] = kept[c] - BIT(at);
+#ifndef M_PLACE_SILENT
+    if :: len(second[at]) > 0 && keepers[at] < PLACES -> second[at] ? <w>; RING(w); w = 0 :: else fi
+#endif
+  }
+}
+/* Who finds room came where nobody stood in the line, or is its first. */
+#ifdef FAIR
+#define CAME_FIRST(at, c) skip
+#else
+#define CAME_FIRST(at, c) assert(!late && (len(line[at]) == 0 || stands[c] != 1 + at || line[at] ? [eval(c)]))
+#endif
+/* broker.rt reserve_at, room.rt reserve behind the topic's lock: 0, or for what it waits. Who is waited for is looked at
+   from this one on. */
+inline reserve_at(at, c, from) {
+  d_step { !topic[at] ->
+    why = 0;
+    if
+    :: DUE(at) >= CAPACITY -> why = Due
+    :: else ->
+       u = OF(from);
+       do
+       :: e < SUBS ->
+          if
+          :: TOPIC(u) == at && waited[u] -> HEAR(u); if :: !FITS(u, 1) -> why = Sub(u); break :: else fi
+          :: else
+          fi;
+          u = (u + 1) % NUMBER; e++
+       :: else -> break
+       od
+    fi;
+    u = 0; e = 0;
+    if
+    :: why == 0 ->
+       CAME_FIRST(at, c);
+       reserved[at]++; room[c] = room[c] | BIT(at)
+    :: else
+    fi }
+}
+/* broker.rt release_behind, then line.rt ring */
+inline give_room_back(at, c) {
+  d_step { !topic[at] -> reserved[at]--; room[c] = room[c] - BIT(at) };
+#ifndef M_GIVE_BACK_SILENT
+  line_ring(at, Any)
 #endif
 }
 /* calls.rt tell_taken: taker.rt tell, in place of what was told and isn't heard yet, and hub.rt ring_waiters */
 inline tell_taken(sub, is_rung) {
 #ifdef M_RINGS_BEFORE_TELL
   if
-  :: is_rung -> waiters_ring(TOPIC(sub))
+  :: is_rung -> line_ring(TOPIC(sub), Sub(sub))
   :: else
   fi;
 #endif
@@ -218,7 +335,7 @@ inline tell_taken(sub, is_rung) {
   fi;
 #ifndef M_RINGS_BEFORE_TELL
   if
-  :: is_rung -> waiters_ring(TOPIC(sub))
+  :: is_rung -> line_ring(TOPIC(sub), Sub(sub))
   :: else
   fi
 #endif
@@ -259,12 +376,12 @@ inline wait_again(sub) {
 /* calls.rt end: the seat, then the subscription, then who waits for room */
 inline sub_end(sub) {
 #ifdef M_RINGS_BEFORE_END
-  waiters_ring(TOPIC(sub));
+  line_ring(TOPIC(sub), Sub(sub));
 #endif
   d_step { !seats[TOPIC(sub)] -> seated[sub] = false };
   d_step { !topic[TOPIC(sub)] -> open_[sub] = false; waited[sub] = false };
 #if !defined(M_RINGS_BEFORE_END) && !defined(M_END_SILENT)
-  waiters_ring(TOPIC(sub))
+  line_ring(TOPIC(sub), Sub(sub))
 #endif
 }
 /* conversation.rt close: all that is open ends */
@@ -400,14 +517,14 @@ inline topic_turn(at) {
    which lists who sleeps */
 inline hub_turned(at, stands_in) {
 #ifdef M_RINGS_BEFORE_TURN
-  waiters_ring(at);
+  line_ring(at, Due);
 #endif
   topic_turn(at);
   if
   :: some ->
      some = false;
 #if !defined(M_RINGS_BEFORE_TURN) && !defined(M_TURN_SILENT)
-     waiters_ring(at);
+     line_ring(at, Due);
 #endif
      do
      :: d_step { mine || !seats[at] ->
@@ -434,8 +551,8 @@ inline hub_turned(at, stands_in) {
 /* connection.rt stands_in, or calls.rt turn_now or turn_topics: turns what it owes */
 inline turn_owed(may_tell) {
   if
-  :: FEW_SLEEP(0) && FEW_SLEEP(1) -> stands = true               /* hub.rt few_sleep, turn_for */
-  :: stands = false                                              /* hub.rt turn_those */
+  :: FEW_SLEEP(0) && FEW_SLEEP(1) -> stands_in = true            /* hub.rt few_sleep, turn_for */
+  :: stands_in = false                                           /* hub.rt turn_those */
 #ifdef HEADS
   :: may_tell && commits > 1 && !TAKES(c) ->                     /* hub.rt set_due, head.rt tell */
      do
@@ -453,11 +570,11 @@ inline turn_owed(may_tell) {
 #endif
   fi;
   do
-  :: t < TOPICS && (owes & BIT(t)) -> hub_turned(t, stands); owes = owes - BIT(t); t++
+  :: t < TOPICS && (owes & BIT(t)) -> hub_turned(t, stands_in); owes = owes - BIT(t); t++
   :: t < TOPICS && !(owes & BIT(t)) -> t++
   :: t >= TOPICS -> break
   od;
-  t = 0; commits = 0; stands = false;
+  t = 0; commits = 0; stands_in = false;
   do
   :: x < SUBS && (sleepers & BIT(x)) ->
      desks_stand_in(TAKER(x));
@@ -471,9 +588,9 @@ inline turn_owed(may_tell) {
   od;
   x = 0
 }
-/* room_wait.rt look: who lacks room at this topic may be passed over, room.rt pass_over behind its lock, and is told of
+/* waiting.rt looks_for_whom, room_wait.rt look: who lacks room at this topic may be passed over, room.rt pass_over behind its lock, and is told of
    it, topic_seats.rt pass_over; then who waits for room */
-inline look(at) {
+inline look_at_whom(at, c) {
 #if PASSES > 0
   do
   :: d_step { passes < PASSES && x < SUBS && TOPIC(x) == at && !topic[at] && !reads[TAKER(x)] && LACKS(x) ->
@@ -504,22 +621,80 @@ inline look(at) {
   od;
   x = 0;
   if
+  :: some ->
+     some = false;
 #ifndef M_PASS_SILENT
-  :: some -> some = false; waiters_ring(at)
+     d_step { RING(c) }
 #endif
-  :: else -> some = false
-  fi
+  :: !some
+  fi;
 #endif
   skip
 }
+#define PASS_OVER_FULL(t) for (u : 0 .. SUBS - 1) { \
+  if \
+  :: TOPIC(u) == t && waited[u] -> HEAR(u); if :: FITS(u, 0) -> skip :: else -> waited[u] = false; forgotten[u] = true fi \
+  :: else \
+  fi } u = 0
 #define SETTLE for (u : 0 .. TOPICS - 1) { if :: want & BIT(u) -> undecided[u]-- :: else fi } u = 0; want = 0
-#define MAY_BE_PASSED(sub) (sub < SUBS && (want & BIT(TOPIC(sub))) && LACKS(sub) && !reads[TAKER(sub)])
+#define MAY_BE_PASSED(sub) (sub < SUBS && stands[c] == 1 + TOPIC(sub) && line[TOPIC(sub)] ? [eval(c)] && \
+  LACKS(sub) && !reads[TAKER(sub)])
+/* waiting.rt gives_up: leaves its line, and gives all back */
+inline cancel(c) {
+  if
+  :: stands[c] > TOPICS ->
+     d_step { t = stands[c] - 1 - TOPICS; second[t] ?? eval(c); stands[c] = 0;
+#ifndef M_SECOND_LEAVES_SILENT
+       if :: len(second[t]) > 0 && keepers[t] < PLACES -> second[t] ? <w>; RING(w); w = 0 :: else fi;
+#endif
+       t = 0 }
+  :: stands[c] > 0 && stands[c] <= TOPICS -> rest(c)
+  :: stands[c] == 0
+  fi;
+  do
+  :: t < TOPICS && (room[c] & BIT(t)) -> give_room_back(t, c); t++
+  :: t < TOPICS && !(room[c] & BIT(t)) -> t++
+  :: t >= TOPICS -> break
+  od;
+  t = 0;
+  give_places_back(c)
+}
+/* calls.rt rest, waiting.rt leaves: the line whose first it stayed */
+inline rest(c) {
+  t = stands[c] - 1; line_leave(t, c); t = 0; found = 0
+}
+inline give_places_back(c) {
+  do
+  :: t < TOPICS && (kept[c] & BIT(t)) -> give_place_back(t, c); t++
+  :: t < TOPICS && !(kept[c] & BIT(t)) -> t++
+  :: t >= TOPICS -> break
+  od;
+  t = 0
+}
+
+/* Whether this is the first of its topics at which a transaction has no room. */
+#ifdef M_FALLING
+#define IS_NEXT(t) ((want & ~room[c] & BIT(t)) > 0)
+#define BEHIND_ALL(c) true
+#else
+#define IS_NEXT(t) ((want & ~room[c] & (BIT((t) + 1) - 1)) == BIT(t))
+#define BEHIND_ALL(c) (room[c] == 0 || room[c] < BIT((stands[c] - 1) % TOPICS))
+#endif
+/* Who sleeps and waits stands in a line, and keeps room at topics before that alone, and no more than half of it is kept
+   at a topic; who sleeps else has none, and stands nowhere. */
+#define RESTS_WELL(c) \
+    assert((want > 0) == (stands[c] > 0) && (want > 0 || kept[c] == 0) && (room[c] & ~kept[c]) == 0); \
+    assert(BEHIND_ALL(c)); \
+    for (u : 0 .. TOPICS - 1) { \
+      for (w : 0 .. SENDERS - 1) { if :: held[w] > 0 && (room[w] & BIT(u)) -> e++ :: else fi } \
+      assert(e <= MOST); e = 0 } \
+    u = 0; w = 0
 
 /* A connection: its thread. */
 proctype Connection(byte c) {
   SCRATCH;
-  byte made, want, commits, owes;
-  bool busy, may, stands, again;
+  byte made, want, commits, owes, why, last, found;
+  bool busy, may, stands_in, again, late, bare, tries, lacks;
   if
   :: SENDS(c) -> desk[c] = TAKES(c)
   :: !SENDS(c) -> goto sleeps                                    /* all is as it is at rest */
@@ -590,22 +765,32 @@ heard:
 hear:                                                            /* connection.rt hear: it may hear more, or turns */
   if
   :: made < MAKES(c) ->
-     made++; busy = true; again = false;
-     if                                                          /* conversation.rt send, of the next frame */
-#if TOPICS == 1
-     :: want = 1
-#elif defined(BOTH)
-     :: want = 3
-#elif defined(OTHER)
-     :: want = (c == 0 -> 3 : OTHER)
+#ifdef ENDLESS
+     made = (c == 0 -> made + 1 : made);
 #else
-     :: want = 1
-     :: want = 2
-     :: want = 3
+     made++;
+#endif
+     busy = true; again = false;
+     if                                                          /* conversation.rt send, of the next frame */
+     :: TO(c) > 0 -> want = TO(c)
+     :: TO(c) == 0 -> want = 1
+#if TOPICS > 1
+     :: TO(c) == 0 -> want = 2
+     :: TO(c) == 0 -> want = 3
 #endif
      fi;
      goto ask
+#ifdef M_SLEEPS_FIRST
   :: commits > 0 -> goto turn
+  :: made >= MAKES(c) && commits == 0 -> goto round
+#else
+  :: stands[c] > 0 -> rest(c); goto hear                         /* connection.rt go_on */
+  :: stands[c] == 0 && commits > 0 -> goto turn
+#if BATCH > 1
+  :: stands[c] > 0 && commits > 0 -> turn_owed(true); goto hear  /* calls.rt count_commit */
+#endif
+  :: made >= MAKES(c) && stands[c] == 0 && commits == 0 -> goto round
+#endif
   fi;
 turn:                                                            /* the end of connection.rt hear */
   turn_owed(true);
@@ -618,51 +803,186 @@ go_on:                                                           /* connection.r
   :: commits == 0
   fi;
 #endif
+  goto try;
 ask:                                                             /* calls.rt reserve */
   if
 #ifndef M_WAITS_OWING
   :: commits > 0 -> goto go_on                                   /* so many that it looks for who sleeps */
 #endif
-  :: true -> hub_reserve()
+#if WITHOUT > 0
+  :: d_step { without < WITHOUT -> without++; bare = true }; cancel(c); goto enter
+#endif
+  :: true
   fi;
   if
-  :: without == 0 -> goto enter
+  :: stands[c] == 0 -> goto on
+  :: stands[c] > 0                                               /* waiting.rt comes */
+  fi;
+try:                                                             /* waiting.rt tries, next_step */
+  tries = true;
+  if
+  :: stands[c] > 0 && stands[c] <= TOPICS && !IS_NEXT(stands[c] - 1) -> rest(c)
+  :: stands[c] == 0 || stands[c] > TOPICS || IS_NEXT(stands[c] - 1)
+  fi;
+  if
+  :: stands[c] == 0 -> goto on
+  :: stands[c] > TOPICS ->                                       /* keepers.rt take_as_first */
+     d_step { t = stands[c] - 1 - TOPICS;
+       some = (second[t] ? [eval(c)] && keepers[t] < PLACES);
+       if
+       :: some ->
+          second[t] ? _; keepers[t]++; kept[c] = kept[c] | BIT(t); stands[c] = 0;
+#ifndef M_TAKES_PLACE_SILENT
+          if :: len(second[t]) > 0 && keepers[t] < PLACES -> second[t] ? <w>; RING(w); w = 0 :: else fi
+#endif
+       :: else
+       fi;
+       t = 0 };
+     if
+     :: some -> some = false; goto on
+     :: !some -> goto refused
+     fi
+  :: stands[c] > 0 && stands[c] <= TOPICS ->                     /* line.rt is_first */
+     if
+     :: d_step { !locked[stands[c] - 1] && line[stands[c] - 1] ? [eval(c)] -> t = stands[c] - 1 }; goto look
+     :: d_step { !locked[stands[c] - 1] && !(line[stands[c] - 1] ? [eval(c)]) -> skip };
+#ifdef M_ASKS_BEHIND
+        t = stands[c] - 1; goto look
+#else
+        goto refused
+#endif
+     fi
+  fi;
+on:                                                              /* the next topic at which it has no room */
+  if
+#ifdef M_FALLING
+  :: d_step { true -> t = (c == SENDERS - 1 -> TOPICS - 1 : 0);
+       do
+       :: c == SENDERS - 1 && t > 0 && !(want & ~room[c] & BIT(t)) -> t--
+       :: c < SENDERS - 1 && t < TOPICS && !(want & ~room[c] & BIT(t)) -> t++
+       :: else -> break
+       od;
+       if :: want & ~room[c] -> skip :: else -> t = TOPICS fi }
+#else
+  :: d_step { true -> t = 0; FIRST_OF(want & ~room[c]) }
+#endif
+  fi;
+  if
+  :: t >= TOPICS -> t = 0; give_places_back(c); goto enter       /* waiting.rt finish */
+  :: t < TOPICS && !lacks && mark[t] == Nobody ->                /* line.rt is_awaited */
+     reserve_at(t, c, 0);
+     if
+     :: why == 0 -> goto on
+     :: why > 0 -> why = 0; lacks = tries
+     fi
+#ifdef M_NEWCOMER_ASKS
+  :: d_step { t < TOPICS && !lacks && mark[t] != Nobody -> late = len(line[t]) > 0 };
+     reserve_at(t, c, 0); late = false;
+     if
+     :: why == 0 -> goto on
+     :: why > 0 -> why = 0
+     fi
+#else
+  :: t < TOPICS && (lacks || mark[t] != Nobody)
+#endif
+  fi;
+  if                                                             /* calls.rt room_at */
+  :: tries -> skip
+#ifdef ONCE
+  :: !tries && commits == 0 -> tries = true
+#else
+  :: !tries && commits == 0 -> goto try
+#endif
 #ifndef M_WAITS_OWING
-  :: without > 0 && commits > 0 -> without = 0; goto go_on
-  :: without > 0 && commits == 0                                 /* calls.rt wait_at */
+  :: !tries && commits > 0 -> goto go_on
 #else
-  :: without > 0
+  :: !tries && commits > 0 -> tries = true
 #endif
   fi;
-#ifndef M_PUTS_AFTER
-  waiters_put(without - 1, c);
-#endif
-#ifdef M_WAITS_AT_ALL
+  if                                                             /* waiting.rt leaves: the line whose first it stayed */
+  :: stands[c] > 0 -> rest(c); lacks = false; d_step { t = 0; FIRST_OF(want & ~room[c]) }
+  :: stands[c] == 0
+  fi;
+  d_step { x = 0; do :: x < TOPICS && !(room[c] & ~kept[c] & BIT(x)) -> x++ :: else -> break od; skip };
   if
-  :: want == 3 -> waiters_put(2 - without, c)
-  :: want < 3
-  fi;
+  :: x < TOPICS ->                                               /* waiting.rt takes_place */
+     take_or_join(x, c);
+     if
+     :: some ->
+        some = false; x = 0;
+#ifndef ONCE
+        lacks = false;
 #endif
-#ifndef M_NO_SECOND_ASK
-  d_step { n = without; without = 0 };
-  hub_reserve();
+        goto on
+     :: !some ->
+        lacks = false; t = x; x = 0;
+        do
+        :: t < TOPICS && (room[c] & BIT(t)) -> give_room_back(t, c); t++
+        :: t < TOPICS && !(room[c] & BIT(t)) -> t++
+        :: t >= TOPICS -> break
+        od;
+        t = 0; goto refused
+     fi
+  :: x >= TOPICS -> x = 0; lacks = false
+  fi;
+  line_join(t, c);                                               /* waiting.rt joins */
   if
-  :: without == 0 -> n = 0; goto enter
-  :: without > 0 && without != n ->
-#ifndef M_OTHER_SLEEPS
-     d_step { RING(c); n = 0; without = 0 }
+#ifdef M_JOINS_UNASKED
+  :: some -> some = false; t = 0; goto refused
 #else
-     d_step { n = 0; without = 0 }
+  :: some -> some = false; goto looks
 #endif
-  :: without > 0 && without == n ->
-     n = 0;
-#ifdef M_PUTS_AFTER
-     waiters_put(without - 1, c);
-#endif
-     look(without - 1); without = 0
+  :: !some -> t = 0; goto refused
   fi;
+look:                                                            /* waiting.rt looks */
+#ifndef M_MARK_LATE
+  mark[t] = Anything;
+#endif
+looks:
+  reserve_at(t, c, last);
+  if
+  :: why == 0 -> goto finds
+#ifndef M_WAITS_OWING
+  :: why > 0 && commits > 0 -> why = 0; t = 0; goto refused
+  :: why > 0 && commits == 0
 #else
-  look(without - 1); without = 0;
+  :: why > 0
+#endif
+  fi;
+#ifdef M_ALWAYS_DUE
+  d_step { mark[t] = Due; last = why; why = 0 };                 /* waiting.rt marks */
+#else
+  d_step { mark[t] = why; last = why; why = 0 };                 /* waiting.rt marks */
+#endif
+  look_at_whom(t, c); t = 0;
+  goto refused;
+finds:                                                           /* waiting.rt finds */
+  last = 0;
+#ifndef M_STAYS_ALWAYS
+  found++;
+#endif
+  if
+  :: found < BATCH ->
+#ifndef M_FINDS_UNMARKED
+     mark[t] = Rung;
+#endif
+     t = 0
+  :: found >= BATCH -> t = 0; rest(c)
+  fi;
+  goto on;
+refused:
+  tries = false;
+#if WITHOUT > 0
+  if
+  :: d_step { without < WITHOUT -> without++; bare = true }; cancel(c); goto enter
+  :: true
+  fi;
+#endif
+#ifndef M_WAITS_OWING
+  if
+  :: commits > 0 -> goto go_on
+  :: commits == 0
+  fi;
 #endif
 #ifdef ONCE
   if
@@ -677,6 +997,7 @@ ask:                                                             /* calls.rt res
 #endif
   goto idle;
 enter:
+  tries = false; lacks = false;
 #if GIVEN_BACK > 0
   if
   :: d_step { given_back < GIVEN_BACK -> given_back++; some = true }
@@ -686,14 +1007,14 @@ enter:
   :: some ->                                                     /* calls.rt give_room_back: hub.rt release_room */
      some = false;
      do
-     :: d_step { t < TOPICS && (want & BIT(t)) && !topic[t] -> reserved[t]--; want = want - BIT(t); t++ }
-     :: t < TOPICS && !(want & BIT(t)) -> t++
+     :: d_step { t < TOPICS && (room[c] & BIT(t)) && !topic[t] -> reserved[t]--; room[c] = room[c] - BIT(t); t++ }
+     :: t < TOPICS && !(room[c] & BIT(t)) -> t++
      :: t >= TOPICS -> break
      od;
      t = 0;
-#ifndef M_GIVE_BACK_SILENT
+#ifndef M_UNUSED_SILENT
      do
-     :: t < TOPICS -> waiters_ring(t); t++
+     :: t < TOPICS -> line_ring(t, Any); t++
      :: t >= TOPICS -> break
      od;
      t = 0;
@@ -703,11 +1024,17 @@ enter:
   fi;
 #endif
   /* broker.rt commit_reserved, commit.rt propose_all: by rising topic, room.rt enter behind its lock */
-  t = LEAST(want);
+  if
+  :: d_step { true -> t = 0; FIRST_OF(want) }
+  fi;
   do
   :: d_step { t < TOPICS && !topic[t] ->
-       assert(reserved[t] > 0);
-       reserved[t]--; pending[t]++; undecided[t]++; owes = owes | BIT(t); t = NEXT(want, t);
+       pending[t]++; undecided[t]++; owes = owes | BIT(t);
+       if
+       :: bare -> PASS_OVER_FULL(t)                              /* room.rt pass_over_full */
+       :: else -> assert(reserved[t] > 0 && (room[c] & BIT(t))); reserved[t]--; room[c] = room[c] - BIT(t)
+       fi;
+       t++; FIRST_OF(want);
 #ifndef SETTLES
        if
        :: t >= TOPICS -> SETTLE; some = true
@@ -722,17 +1049,17 @@ enter:
      :: !some
      fi
 #if REFUSALS > 0
-  :: d_step { t < TOPICS && NEXT(want, t) >= TOPICS && !topic[t] && refusals < REFUSALS ->
+  :: d_step { t < TOPICS && want < BIT(t + 1) && !topic[t] && refusals < REFUSALS ->
        refusals++; owes = owes | BIT(t) };
      if                                                          /* commit.rt cancel_all */
      :: t == 1 && (want & 1) -> d_step { !topic[0] -> pending[0]--; undecided[0]-- }
      :: else
      fi;
-     d_step { !topic[t] -> reserved[t]-- };                      /* broker.rt release_room, of what is left */
+     d_step { !topic[t] -> reserved[t]--; room[c] = room[c] - BIT(t) };  /* broker.rt release_room, of what is left */
      want = 0; t = 0;
 #ifndef M_REFUSED_SILENT
      do                                                          /* calls.rt commit: hub.rt ring_all_waiters */
-     :: t < TOPICS -> waiters_ring(t); t++
+     :: t < TOPICS -> line_ring(t, Any); t++
      :: t >= TOPICS -> break
      od;
 #endif
@@ -745,6 +1072,23 @@ enter:
 #endif
   od;
   t = 0; commits++;
+#if WITHOUT > 0
+  if
+  :: bare ->
+     bare = false;
+#ifndef M_BARE_SILENT
+     do                                                          /* calls.rt commit: hub.rt ring_all_waiters */
+     :: t < TOPICS -> line_ring(t, Any); t++
+     :: t >= TOPICS -> break
+     od;
+     t = 0
+#endif
+  :: !bare
+  fi;
+#endif
+#ifdef ENDLESS
+  served = served || (c == 0 && made == MAKES(c));
+#endif
 entered:
   want = 0;
 #ifdef OWN
@@ -755,7 +1099,7 @@ entered:
 #endif
   busy = true; again = false;
   if
-  :: made < MAKES(c) || commits > 0 -> goto hear
+  :: made < MAKES(c) || commits > 0 || stands[c] > 0 -> goto hear
   :: else
   fi;
   goto round;
@@ -770,7 +1114,7 @@ idle:
 #else
     may = (bell[c] == Awake);
 #endif
-    if :: may -> bell[c] = Asleep; held[c] = want :: else fi };
+    if :: may -> bell[c] = Asleep; held[c] = want; RESTS_WELL(c) :: else fi };
   if
   :: !may -> goto round
   :: may -> may = false
@@ -790,7 +1134,10 @@ end:
     may = (bell[c] == Told || more[c]); bell[c] = Awake };
   goto heard;
 leave:
-  want = 0;
+#ifndef M_ENDS_STANDING
+  cancel(c);
+#endif
+  want = 0; last = 0;
   if
   :: TAKES(c) ->
      desk[c] = false;
@@ -851,35 +1198,48 @@ proctype Closer() {
 }
 #endif
 
-/* In each state in which nothing can run: who is held lacks room, who took all has told it and is waited for. */
+/* Whether all clients of who takes at this topic read. */
+#define READ(sub, t) (sub >= SUBS || TOPIC(sub) != (t) || reads[TAKER(sub)])
+/* In each state in which nothing can run: who is first in a line lacks room, and in a second line, a place; room is kept
+   by who stands in a line behind it; who took all has told it and is waited for. */
 proctype Monitor() {
-  byte i, t;
+  byte i, t, rooms, places;
   (timeout);
   for (i : 0 .. CONNS - 1) { assert(!desk[i]) }
   for (i : 0 .. SUBS - 1) { assert(!telling[i]); told[i] = 0 }   /* who asks hears what was told */
-  for (t : 0 .. TOPICS - 1) { assert(!topic[t] && !seats[t] && !waiters[t]);
-    assert(pending[t] == 0 && undecided[t] == 0 && reserved[t] == 0) }
   for (i : 0 .. SENDERS - 1) {
 #ifdef CLOSES
-    assert(gone[i]);
-#else
-    if
-    :: held[i] > 0 ->
-       t = 0;
-       for (t : 0 .. TOPICS - 1) { if :: (held[i] & BIT(t)) && !HAS_ROOM(t) -> break :: else fi }
-       assert(t < TOPICS)
-    :: else
-    fi
+    assert(gone[i] && stands[i] == 0);
 #endif
+    assert((stands[i] > 0) == (held[i] > 0));
+    assert(held[i] > 0 || room[i] == 0 && kept[i] == 0);
+    assert((room[i] & ~kept[i]) == 0)
+  }
+  for (t : 0 .. TOPICS - 1) {
+    assert(!topic[t] && !seats[t] && !locked[t] && pending[t] == 0 && undecided[t] == 0);
+    rooms = 0; places = 0;
+    for (i : 0 .. SENDERS - 1) {
+      if :: room[i] & BIT(t) -> rooms++ :: else fi;
+      if :: kept[i] & BIT(t) -> places++ :: else fi
+    }
+    assert(reserved[t] == rooms && keepers[t] == places);
+    assert((mark[t] == Nobody) == (len(line[t]) == 0));
+    assert(len(line[t]) == 0 || !HAS_ROOM(t));
+    assert(len(second[t]) == 0 || keepers[t] >= PLACES);
+    /* Where all that is there was taken, only room that is kept is waited for, and that is half of it. */
+    assert(len(line[t]) == 0 || !READ(0, t) || !READ(1, t) || reserved[t] >= CAPACITY)
   }
   for (i : 0 .. SUBS - 1) {
     if
     :: has[i] && !more[TAKER(i)] ->                              /* it found its queue empty */
        assert(queue[i] == 0 && untold[i] == 0);
-       assert(waited[i] && !lagged[i])
+       assert(forgotten[i] || waited[i] && !lagged[i])
     :: else
     fi
   }
+#ifndef NEVER
+  for (i : 0 .. SENDERS - 1) { assert(held[i] == 0) }            /* nobody waits for who waits for it */
+#endif
 }
 
 init {
@@ -925,5 +1285,9 @@ init {
 #ifdef FAIR
 /* Where each thread goes on as long as it can: in the end all sleep. */
 #define RESTS(c) (bell[c] == Asleep && !woken[c])
+#ifdef ENDLESS
+ltl delivers { <> served }
+#else
 ltl delivers { <> [] (RESTS(0) && RESTS(1) && RESTS(CONNS - 1)) }
+#endif
 #endif

@@ -129,6 +129,16 @@ class Server(Process):
     def is_running(self):
         return self.child.poll() is None
 
+    def log_size(self):
+        """How many octets the log has, also of servers before this one."""
+        return os.fstat(self.log.fileno()).st_size
+
+    def log_since(self, size):
+        """What the log has behind so many octets."""
+        with open(self.log.name, "rb") as log:
+            log.seek(size)
+            return log.read()
+
     def stop(self):
         self.child.terminate()
         try:

@@ -272,18 +272,6 @@ impl<R: Wait, W: Side, T: Side> Broker<R, W, T> {
         self.lock_of(topic)?.lock(rt).place.state(sub)
     }
 
-    /// Room for one part at each of these topics, or at none of them. It goes once nothing calls it.
-    pub fn reserve(&self, rt: &R, topics: &[Topic]) -> Result<Reserved, NoRoom> {
-        let mut reserved = self.no_room();
-        for &topic in topics {
-            if let Err(fault) = self.reserve_at(rt, topic, 0, &mut reserved) {
-                self.release_room(rt, reserved);
-                return Err(fault);
-            }
-        }
-        Ok(reserved)
-    }
-
     /// Room at no topic, to which `reserve_at` adds. It takes no lock and no memory.
     pub fn no_room(&self) -> Reserved
         ensures { result ≡ [] }
@@ -296,6 +284,7 @@ impl<R: Wait, W: Side, T: Side> Broker<R, W, T> {
     /// by number `start` and above, and then below it. Nobody is refused before those that are waited for were asked what
     /// was taken. A topic without a lock has room. Where it is refused nothing was taken; memory for the list is made
     /// before the lock.
+    #[inline(always)]
     pub fn reserve_at(
         &self,
         rt: &R,
@@ -329,12 +318,14 @@ impl<R: Wait, W: Side, T: Side> Broker<R, W, T> {
     }
 
     /// Gives all of it back.
+    #[inline(always)]
     pub fn release_room(&self, rt: &R, reserved: Reserved) {
         self.give_back_at(rt, reserved.topics());
         reserved.close();
     }
 
     /// Reserves room for one part at the topic. Refused as `NoRoom::Full` says.
+    #[inline(always)]
     fn one_reserved(&self, rt: &R, topic: Topic, start: u64) -> Result<(), Option<u64>>
         ensures { OnErr result (topic.0 < max_topics) }
     {

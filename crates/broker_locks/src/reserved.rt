@@ -80,6 +80,7 @@ impl Reserved {
     }
 
     /// What is reserved at the topic of this index is used up.
+    #[inline(always)]
     pub(crate) fn use_up(&mut self, index: usize)
         ensures { self.new ≡ remove self.old index }
     {

@@ -1,12 +1,12 @@
 -- All waiting costs what pays for it a second and a tenth at most, and what comes back to it in the time.
-use Rattle.std.proofs.Common.{◌≡◌, ℕ, zero, suc, ◌+◌, ◌-◌, ◌*◌, ◌<◌, ◌≤◌, min, max, Bool, true, false, List, [], ◌∷◌, ◌==◌, refl, arith, if◌then◌else◌}
+use Rattle.std.proofs.Common.{◌≡◌, ℕ, ◌+◌, ◌-◌, ◌*◌, ◌<◌, ◌≤◌, min, max, Bool, true, false, List, [], ◌∷◌, ◌==◌, refl, arith, if◌then◌else◌}
 use Rattle.std.proofs.Math.Nat.{mul-add}
 use Rattle.broker_server.specs.declared.serving.moment.Moment.{Moment}
 use Rattle.broker_server.specs.declared.serving.price.Price.{Price}
 use Rattle.broker_server.specs.declared.serving.price.Price.TheVariants.{Free, Sixtieth, Full, Trusted}
 use Rattle.broker_server.specs.declared.serving.fund.Fund.{Fund}
 use Rattle.broker_server.specs.declared.serving.purse.Purse.{Purse}
-use Rattle.broker_server.specs.Purses.{AreInTime, Begins, Ends, GoesOn, IsBounded, Pays, PurseCall, after_call, after_calls, after_time, change_by, common_back, common_pays, cost_of, full_fund, fund_after, fund_with, least_fund, moment_of, most_lacking, price_until, rate, tenth, trust_back, trust_pays, waited_cost}
+use Rattle.broker_server.specs.Purses.{AreInTime, Begins, Ends, GoesOn, IsBounded, Pays, PurseCall, after_call, after_calls, after_time, change_by, common_back, common_pays, full_fund, fund_after, fund_with, least_fund, moment_of, most_lacking, paid_rate, price_until, rate, tenth, trust_back, trust_pays, waited_cost}
 
 -- ---- one fund
 
@@ -21,23 +21,26 @@ with_in_order fund lacks = record { within = grind arith; holds = λ unspent. gr
 after_in_order : (fund : Fund) (cost back : ℕ) → InOrder (fund_after fund cost back)
 after_in_order fund cost back = with_in_order fund (if cost == 0 then fund.lacks - back else fund.lacks + cost)
 
+fund_step_by : (fund : Fund) (cost back : ℕ) (costs_nothing : Bool) → (cost == 0) ≡ costs_nothing → InOrder fund → cost ≤ least_fund → (0 < cost → fund.spent ≡ false)
+    → cost + fund.lacks ≤ min (if costs_nothing then fund.lacks - back else fund.lacks + cost) most_lacking + back
+fund_step_by fund cost back true same order small unspent =
+    let nothing : cost ≡ 0 = grind (arith, same) in
+    omega (arith, nothing, order.within)
+fund_step_by fund cost back false same order small unspent =
+    let some : 0 < cost = grind (arith, same) in
+    omega (arith, small, order.holds (unspent some))
+
 -- what is paid is lacking then, as long as it was a tenth of a second at most
 fund_step : (fund : Fund) (cost back : ℕ) → InOrder fund → cost ≤ least_fund → (0 < cost → fund.spent ≡ false)
     → cost + fund.lacks ≤ (fund_after fund cost back).lacks + back
-fund_step fund zero back order small unspent = omega (arith, order.within)
-fund_step fund (suc cost) back order small unspent = omega (arith, small, order.holds (unspent (omega arith)))
+fund_step fund cost back order small unspent = fund_step_by fund cost back (cost == 0) refl order small unspent
 
 -- a time that is paid for costs a tenth of a second at most, as long as it was one
-cost_within : (pays : Bool) (price : Price) (time : ℕ) → time ≤ tenth → cost_of pays price time ≤ least_fund
-cost_within false price time short = omega arith
-cost_within true Free time short = omega (arith, short)
-cost_within true Sixtieth time short = omega (arith, short)
-cost_within true Full time short = omega (arith, short)
-cost_within true Trusted time short = omega (arith, short)
-
-no_cost : (pays : Bool) (price : Price) (time : ℕ) → 0 < cost_of pays price time → pays ≡ true
-no_cost true price time costs = refl
-no_cost false price time costs = omega (arith, costs)
+rate_within : (price : Price) (time : ℕ) → time ≤ tenth → rate price * time ≤ least_fund
+rate_within Free time short = omega (arith, short)
+rate_within Sixtieth time short = omega (arith, short)
+rate_within Full time short = omega (arith, short)
+rate_within Trusted time short = omega (arith, short)
 
 -- ---- a purse
 
@@ -55,8 +58,8 @@ time_in_order : (purse : Purse) (now : Moment) (price : Price) → AreInOrder (a
 time_in_order purse now price =
     let time = now.0 - purse.at.0 in
     record {
-      common = after_in_order purse.common (cost_of (common_pays purse price) price time) (common_back * time);
-      trust = after_in_order purse.trust (cost_of (trust_pays purse price) price time) (trust_back * time);
+      common = after_in_order purse.common (paid_rate (common_pays purse price) price * time) (common_back * time);
+      trust = after_in_order purse.trust (paid_rate (trust_pays purse price) price * time) (trust_back * time);
     }
 
 call_in_order : (purse : Purse) (call : PurseCall) → AreInOrder (after_call purse call)
@@ -86,7 +89,7 @@ record IsFund (fund_of : Purse → Fund) (pays : Purse → Price → Bool) (back
   keeps : (purse : Purse) → AreInOrder purse → InOrder (fund_of purse)
   awaited : (purse : Purse) (price : Price) → pays purse price ≡ true → 0 < purse.waiting
   unspent : (purse : Purse) (price : Price) → pays purse price ≡ true → (fund_of purse).spent ≡ false
-  settled : (purse : Purse) (now : Moment) (price : Price) → fund_of (after_time purse now price) ≡ fund_after (fund_of purse) (cost_of (pays purse price) price (now.0 - purse.at.0)) (back * (now.0 - purse.at.0))
+  settled : (purse : Purse) (now : Moment) (price : Price) → fund_of (after_time purse now price) ≡ fund_after (fund_of purse) (paid_rate (pays purse price) price * (now.0 - purse.at.0)) (back * (now.0 - purse.at.0))
   no_less : (call : PurseCall) (purse : Purse) → AreInOrder purse → (fund_of purse).lacks ≤ (fund_of (change_by call purse)).lacks
 
 common_no_less : (call : PurseCall) (purse : Purse) → AreInOrder purse → purse.common.lacks ≤ (change_by call purse).common.lacks
@@ -119,34 +122,40 @@ trust_is_fund = record {
   no_less = trust_no_less;
 }
 
-by_cost : (fund_of : Purse → Fund) (pays : Purse → Price → Bool) (back : ℕ) → IsFund fund_of pays back
+-- what a time costs is small, and what pays it isn't spent
+small_by : (fund_of : Purse → Fund) (pays : Purse → Price → Bool) (back : ℕ) → IsFund fund_of pays back
     → (purse : Purse) (now : Moment) (price : Price) → (0 < purse.waiting → now.0 ≤ purse.at.0 + tenth)
-    → (paying : Bool) → pays purse price ≡ paying → cost_of paying price (now.0 - purse.at.0) ≤ least_fund
-by_cost fund_of pays back is purse now price in_time false same = omega arith
-by_cost fund_of pays back is purse now price in_time true same =
-    cost_within true price (now.0 - purse.at.0) (omega (arith, in_time (is.awaited purse price same)))
+    → (paying : Bool) → pays purse price ≡ paying → paid_rate paying price * (now.0 - purse.at.0) ≤ least_fund
+small_by fund_of pays back is purse now price in_time false same = omega arith
+small_by fund_of pays back is purse now price in_time true same =
+    rate_within price (now.0 - purse.at.0) (omega (arith, in_time (is.awaited purse price same)))
+
+unspent_by : (fund_of : Purse → Fund) (pays : Purse → Price → Bool) (back : ℕ) → IsFund fund_of pays back
+    → (purse : Purse) (price : Price) (time : ℕ) → (paying : Bool) → pays purse price ≡ paying
+    → 0 < paid_rate paying price * time → (fund_of purse).spent ≡ false
+unspent_by fund_of pays back is purse price time false same costs = absurd (omega (arith, costs))
+unspent_by fund_of pays back is purse price time true same costs = is.unspent purse price same
 
 -- the parts of a time have the parts of what comes back in it
 split : (back begun next ends : ℕ) → begun ≤ next → next ≤ ends → back * (ends - begun) ≡ back * (next - begun) + back * (ends - next)
-split back begun next ends first then =
-    let parts : ends - begun ≡ (next - begun) + (ends - next) = omega (arith, first, then) in
+split back begun next ends first second =
+    let parts : ends - begun ≡ (next - begun) + (ends - next) = omega (arith, first, second) in
     rw parts (mul-add back (next - begun) (ends - next))
 
 -- what a time costs is lacking after it, and no more than its part comes back
 time_step : (fund_of : Purse → Fund) (pays : Purse → Price → Bool) (back : ℕ) → IsFund fund_of pays back
     → (purse : Purse) (now : Moment) (price : Price) → AreInOrder purse → (0 < purse.waiting → now.0 ≤ purse.at.0 + tenth)
-    → cost_of (pays purse price) price (now.0 - purse.at.0) + (fund_of purse).lacks ≤ (fund_of (after_time purse now price)).lacks + back * (now.0 - purse.at.0)
+    → paid_rate (pays purse price) price * (now.0 - purse.at.0) + (fund_of purse).lacks ≤ (fund_of (after_time purse now price)).lacks + back * (now.0 - purse.at.0)
 time_step fund_of pays back is purse now price order in_time =
     let time = now.0 - purse.at.0 in
-    let cost = cost_of (pays purse price) price time in
-    let paid : 0 < cost → pays purse price ≡ true = λ costs. no_cost (pays purse price) price time costs in
-    let small : cost ≤ least_fund = by_cost fund_of pays back is purse now price in_time (pays purse price) refl in
-    rw (is.settled purse now price) (fund_step (fund_of purse) cost (back * time) (is.keeps purse order) small (λ costs. is.unspent purse price (paid costs)))
+    let small = small_by fund_of pays back is purse now price in_time (pays purse price) refl in
+    let unspent = unspent_by fund_of pays back is purse price time (pays purse price) refl in
+    rw (is.settled purse now price) (fund_step (fund_of purse) (paid_rate (pays purse price) price * time) (back * time) (is.keeps purse order) small unspent)
 
 -- the same of a call
 call_step : (fund_of : Purse → Fund) (pays : Purse → Price → Bool) (back : ℕ) → IsFund fund_of pays back
     → (purse : Purse) (call : PurseCall) → AreInOrder purse → (0 < purse.waiting → (moment_of call).0 ≤ purse.at.0 + tenth)
-    → cost_of (pays purse (price_until purse call)) (price_until purse call) ((moment_of call).0 - purse.at.0) + (fund_of purse).lacks
+    → paid_rate (pays purse (price_until purse call)) (price_until purse call) * ((moment_of call).0 - purse.at.0) + (fund_of purse).lacks
       ≤ (fund_of (after_call purse call)).lacks + back * ((after_call purse call).at.0 - purse.at.0)
 call_step fund_of pays back is purse call order in_time =
     let now = moment_of call in

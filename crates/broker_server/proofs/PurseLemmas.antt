@@ -1,15 +1,13 @@
--- The octets of the last tenths: how they are added up, and which tenth lies where. What a fund pays, where that is
--- more than a number may be.
-use Rattle.std.proofs.Common.{◌≡◌, ◌≢◌, ℕ, zero, suc, ◌+◌, ◌-◌, ◌^◌, min, ◌/◌, ◌%◌, ◌<◌, List, [], ◌∷◌, ◌++◌, length, get_or, slice_set, sum_by, ap, ◌∙◌, refl, arith}
+-- The octets of the last tenths: how they are added up, and which tenth lies where.
+use Rattle.std.proofs.Common.{◌≡◌, ◌≢◌, ℕ, zero, suc, ◌+◌, ◌/◌, ◌%◌, ◌<◌, List, [], ◌∷◌, ◌++◌, length, get_or, slice_set, sum_by, ap, ◌∙◌, refl, arith}
 use Rattle.std.specs.List.{range_with_len}
 use Rattle.std.proofs.Math.Nat.{div-add-mod}
 use Rattle.std.proofs.lemmas.List.{get_or-set_same, get_or-set_other}
 use Rattle.std.proofs.lemmas.List.Sums.{sum_by_push}
 use Rattle.broker_server.specs.declared.serving.moment.Moment.{Moment}
 use Rattle.broker_server.specs.declared.serving.tenths.Tenth.{Tenth}
-use Rattle.broker_server.specs.declared.serving.fund.Fund.{Fund}
 use Rattle.broker_server.specs.Counts.{plus}
-use Rattle.broker_server.specs.Purses.{fund_after, no_tenth, tenth, tenth_octets, tenths_after}
+use Rattle.broker_server.specs.Purses.{no_tenth, tenth, tenth_octets, tenths_after}
 
 range_more : (a n j : ℕ) → a + n ≡ j → range_with_len a (suc n) ≡ range_with_len a n ++ j ∷ []
 range_more a zero j e = let same : a ≡ j = omega arith in ap (λ k. k ∷ []) same
@@ -41,7 +39,3 @@ octets_of_another tenths now octets n below near =
     let more : Tenth = record { number = number; octets = plus (tenth_octets tenths number) octets } in
     let found : get_or (slice_set tenths (number % 11) more) (n % 11) no_tenth ≡ get_or tenths (n % 11) no_tenth = get_or-set_other tenths (number % 11) (n % 11) more no_tenth (apart n number below near) in
     rw found refl
-
--- a cost, and what comes back, of which the greatest u64 alone is known
-pub bounded_cost : (fund : Fund) (cost back : ℕ) → fund.lacks < 2 ^ 64 → fund_after fund (min cost (2 ^ 64 - 1)) (min back (2 ^ 64 - 1)) ≡ fund_after fund cost back
-bounded_cost fund cost back within = grind (arith, within)

@@ -1,6 +1,6 @@
 -- What a topic's senders wait for those who take slowly. Times are in nanoseconds, and what waiting costs
 -- is in six-hundredths of one, so that a sixtieth of a time and a six-hundredth of it are whole numbers.
-use Rattle.std.specs.Prelude.{ℕ, ◌<◌, ◌≤◌, [], ◌∷◌, ◌+◌, ◌-◌, ◌*◌, ◌/◌, ◌%◌, nat_lt, nat_le, min, max, Bool, false, not, ◌&&◌, ◌||◌, ◌==◌, List, sum_by, replicate, get_or, slice_set, Option, Some, None, is_some, if◌then◌else◌}
+use Rattle.std.specs.Prelude.{ℕ, ◌<◌, ◌≤◌, [], ◌∷◌, ◌+◌, ◌-◌, ◌*◌, ◌/◌, ◌%◌, nat_lt, nat_le, min, max, Bool, false, true, not, ◌&&◌, ◌||◌, ◌==◌, List, sum_by, replicate, get_or, slice_set, Option, Some, None, is_some, if◌then◌else◌}
 use Rattle.std.specs.List.{range_with_len}
 use Rattle.broker_server.specs.declared.serving.moment.Moment.{Moment}
 use Rattle.broker_server.specs.declared.serving.price.Price.{Price}
@@ -236,9 +236,9 @@ trust_pays purse price = nat_lt 0 purse.waiting && not purse.trust.spent && is_t
 abbrev pub common_pays : Purse → Price → Bool
 common_pays purse price = nat_lt 0 purse.waiting && not purse.common.spent && not (trust_pays purse price)
 
--- what a time at this price costs who pays
-abbrev pub cost_of : Bool → Price → ℕ → ℕ
-cost_of pays price time = if pays then rate price * time else 0
+-- what a nanosecond at this price costs who pays
+abbrev pub paid_rate : Bool → Price → ℕ
+paid_rate pays price = if pays then rate price else 0
 
 -- how much of a nanosecond that costs nothing comes back: a six-hundredth to what is common, a tenth to the other
 abbrev pub common_back : ℕ
@@ -253,8 +253,8 @@ after_time purse now price =
     let time = now.0 - purse.at.0 in
     record purse {
       at = later_moment purse.at now;
-      common = fund_after purse.common (cost_of (common_pays purse price) price time) (common_back * time);
-      trust = fund_after purse.trust (cost_of (trust_pays purse price) price time) (trust_back * time);
+      common = fund_after purse.common (paid_rate (common_pays purse price) price * time) (common_back * time);
+      trust = fund_after purse.trust (paid_rate (trust_pays purse price) price * time) (trust_back * time);
     }
 
 -- Those that lack room may be waited for, where they aren't trusted.
@@ -316,7 +316,7 @@ abbrev pub waited_cost : (Purse → Price → Bool) → Purse → List PurseCall
 waited_cost pays purse [] = 0
 waited_cost pays purse (call ∷ calls) =
     let price = price_until purse call in
-    cost_of (pays purse price) price ((moment_of call).0 - purse.at.0)
+    paid_rate (pays purse price) price * ((moment_of call).0 - purse.at.0)
     + waited_cost pays (after_call purse call) calls
 
 -- In any stretch of what happens at a topic all waiting costs what is common a second and a tenth at most, and a

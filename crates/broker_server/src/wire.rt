@@ -69,6 +69,7 @@ impl Wire {
     }
 
     /// Puts a frame with its EOL behind the octets that wait. After `NoMemory` nothing has changed.
+    #[inline(never)]
     pub fn put_frame(&mut self, frame: &ServerFrame) -> Result<(), NoMemory>
         ensures ok { OnOk result (self.new ≡ self.old ++ spelling_with_eol (raw_of_server frame.now)) }
         ensures err { OnErr result (self.new ≡ self.old) }

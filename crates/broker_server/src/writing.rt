@@ -11,6 +11,7 @@ use mcast_txn::Released;
 use stomp_frame::{NoMemory, Octets, ServerFrame, write_server};
 
 /// Appends the frame and its EOL; after `NoMemory` perhaps the frame alone.
+#[inline(always)]
 fn put_with_eol(frame: &ServerFrame, out: &mut Octets) -> Result<(), NoMemory>
     ensures ok { OnOk result (out.new ≡ out.old ++ spelling_with_eol (raw_of_server frame.now)) }
     ensures err { OnErr result (Extends out.old out.new) }
@@ -34,6 +35,7 @@ pub(crate) fn write_with_eol(frame: &ServerFrame, out: &mut Octets) -> Result<()
 
 /// Appends the MESSAGE of each SEND of the item's part, for the subscription of this id, with its EOL; after `NoMemory`
 /// perhaps only the first ones.
+#[inline(always)]
 fn put_item(id: &[u8], item: &Released, out: &mut Octets) -> Result<(), NoMemory>
     ensures ok { OnOk result
         (out.new ≡ out.old ++ flat_map spelling_with_eol (item_messages id.now item.now)) }
@@ -57,6 +59,7 @@ fn put_item(id: &[u8], item: &Released, out: &mut Octets) -> Result<(), NoMemory
 
 /// Appends the MESSAGE of each SEND of the item's part, for the subscription of this id, with its EOL: each octet is
 /// copied once. After `NoMemory` the octets are what they were.
+#[inline(always)]
 pub(crate) fn write_item(id: &[u8], item: &Released, out: &mut Octets) -> Result<(), NoMemory>
     ensures ok { OnOk result
         (out.new ≡ out.old ++ flat_map spelling_with_eol (item_messages id.now item.now)) }

@@ -8,14 +8,17 @@ ghost use Rattle.broker_server.specs.Hearing.{Hears};
 ghost use Rattle.broker_server.specs.declared.serving.connection.Round.TheVariants.{Idle};
 
 use crate::conversation::{Conversation, ConversationFault, Exit};
+use crate::serving::announcing::{say_came, say_left};
 use crate::serving::calls::Calls;
 use crate::serving::desk::Desk;
 use crate::serving::desks::Desks;
 use crate::serving::hub::Hub;
+use crate::serving::moment::Moment;
 use crate::serving::outfit::Outfit;
 use crate::serving::peer::Peer;
 use crate::serving::seat::Seat;
 use crate::serving::socket::{Came, Socket};
+use crate::serving::span::Span;
 use crate::serving::why_left::{LastWords, WhyLeft};
 use crate::spelled::Spelled;
 use broker_locks::Side;
@@ -66,6 +69,9 @@ fn is_over<R: Clock>(rt: &R, since: Option<Instant>) -> bool {
     }
 }
 
+/// So many nanoseconds a connection has for its CONNECT (our choice): ten seconds.
+const TO_CONNECT: u64 = 10_000_000_000;
+
 /// What one round of a connection's thread came to.
 #[derive(Clone, Copy)]
 enum Round {
@@ -75,8 +81,10 @@ enum Round {
     Idle,
     /// The connection leaves.
     Leaving,
-    /// It ends at once, and is told nothing more.
-    Ended(WhyLeft),
+    /// The server ends: it ends at once, and is told nothing more.
+    Closing,
+    /// A write has failed, and all that came was done: likewise.
+    Gone,
 }
 
 /// What wakes a thread.
@@ -86,6 +94,8 @@ enum Sleep {
     Told,
     /// The time, too, since it waits for room, or the system doesn't take what waits.
     Timed,
+    /// The end of the time for its CONNECT, too.
+    Until(Span),
 }
 
 /// A connection that is there, as its thread has it: it works at the connection's desk.
@@ -95,6 +105,8 @@ struct Connection<'a, 'b, R: Wait + Log + Clock, W: Side, T: Side> {
     hub: &'a Hub<R, W, T>,
     desks: &'b Desks<'a, R, W, T>,
     outfit: Outfit,
+    /// When it came.
+    came: Moment,
     /// How many octets it heard since its reads last left it topics to turn.
     heard: usize,
     /// The seats of those who sleep, for whom it stands in.
@@ -108,7 +120,7 @@ impl<'a, 'b, R: Wait + Log + Clock, W: Side, T: Side> Connection<'a, 'b, R, W, T
     fn round(&mut self, desk: &mut Desk<'a, R, W, T>) -> Round {
         let told = self.outfit.bell.hears();
         if self.hub.is_closing() {
-            return Round::Ended(WhyLeft::Closing);
+            return Round::Closing;
         }
         let mut busy = false;
         if told || desk.talk.has_more() {
@@ -121,9 +133,7 @@ impl<'a, 'b, R: Wait + Log + Clock, W: Side, T: Side> Connection<'a, 'b, R, W, T
         }
         match self.hear(desk) {
             Round::Idle if busy || sent > 0 => Round::Busy,
-            Round::Idle if desk.is_gone() && !desk.talk.is_held() => Round::Ended(
-                WhyLeft::WriteFailed,
-            ),
+            Round::Idle if desk.is_gone() && !desk.talk.is_held() => Round::Gone,
             round => round,
         }
     }
@@ -137,6 +147,7 @@ impl<'a, 'b, R: Wait + Log + Clock, W: Side, T: Side> Connection<'a, 'b, R, W, T
             match desk.read(self.outfit.room.as_mut_slice()) {
                 Came::Octets(n) => {
                     self.hear_read(desk, n);
+                    desk.note_heard(n);
                     self.go_on(desk);
                     round = Round::Busy;
                 }
@@ -192,6 +203,7 @@ impl<'a, 'b, R: Wait + Log + Clock, W: Side, T: Side> Connection<'a, 'b, R, W, T
 
     /// Goes on with the transaction that waits for room, if one does, as `tries` says, and says whom it waits for. All that
     /// was read was done then, or waits.
+    #[inline(always)]
     fn go_on(&mut self, desk: &mut Desk<'a, R, W, T>) -> Round
         ensures { result ≡ Idle → is_some desk.new.talk.held ≡ true → desk.new.calls.commits ≡ 0 }
     {
@@ -208,6 +220,7 @@ impl<'a, 'b, R: Wait + Log + Clock, W: Side, T: Side> Connection<'a, 'b, R, W, T
     /// Tries the transaction that waits for room, and what came behind it, until none waits, or there is no room though
     /// all that it sent was turned, or it is told of something. What is there for it is taken once none waits: a lag that
     /// was found meanwhile is told then.
+    #[inline(never)]
     fn tries(&mut self, desk: &mut Desk<'a, R, W, T>) -> Round
         ensures { result ≡ Idle → desk.new.calls.commits ≡ 0 }
     {
@@ -243,6 +256,7 @@ impl<'a, 'b, R: Wait + Log + Clock, W: Side, T: Side> Connection<'a, 'b, R, W, T
     }
 
     /// Says whom it waits for, if that is to be said.
+    #[inline(never)]
     fn tell_wait(&self, desk: &mut Desk<'a, R, W, T>)
         ensures talk { desk.new.talk ≡ desk.old.talk }
         ensures commits { desk.new.calls.commits ≡ desk.old.calls.commits }
@@ -277,7 +291,19 @@ impl<'a, 'b, R: Wait + Log + Clock, W: Side, T: Side> Connection<'a, 'b, R, W, T
     fn look(&mut self, desk: &mut Desk<'a, R, W, T>) -> Result<(), WhyLeft> {
         self.wait(Some(Duration::from_millis(0)))?;
         desk.socket.note(&self.outfit.events);
+        if !desk.talk.is_connected() {
+            self.time_to_connect(desk)?;
+        }
         Ok(())
+    }
+
+    /// What is left of the time for its CONNECT. Refused where that is over.
+    fn time_to_connect(&self, desk: &Desk<'a, R, W, T>) -> Result<Span, WhyLeft> {
+        let passed = Moment::now(self.rt).since(self.came).0;
+        if passed >= TO_CONNECT {
+            return Err(WhyLeft::Unconnected(desk.socket.first()));
+        }
+        Ok(Span(TO_CONNECT - passed))
     }
 
     /// Talks with the peer until the connection leaves; refused where it ends at once. While it sleeps, another thread
@@ -288,6 +314,7 @@ impl<'a, 'b, R: Wait + Log + Clock, W: Side, T: Side> Connection<'a, 'b, R, W, T
             let time = match self.work()? {
                 Some(Sleep::Told) => None,
                 Some(Sleep::Timed) => poll_time(),
+                Some(Sleep::Until(rest)) => Some(Duration::from_nanos(rest.0)),
                 None => return Ok(()),
             };
             self.wait(time)?;
@@ -321,7 +348,8 @@ impl<'a, 'b, R: Wait + Log + Clock, W: Side, T: Side> Connection<'a, 'b, R, W, T
                     }
                 }
                 Round::Leaving => return Ok(None),
-                Round::Ended(left) => return Err(left),
+                Round::Closing => return Err(WhyLeft::Closing),
+                Round::Gone => return Err(WhyLeft::WriteFailed),
                 Round::Idle if rounds.wrapping_sub(yielded_at) >= ROUNDS_TO_YIELD => {
                     yielded_at = rounds;
                     yield_now();
@@ -345,9 +373,12 @@ impl<'a, 'b, R: Wait + Log + Clock, W: Side, T: Side> Connection<'a, 'b, R, W, T
         self.hub.stir();
     }
 
-    /// By what it is woken, as there is nothing to do. Refused where the connection would be told of a lag behind what
-    /// the system hasn't taken for a minute, and nothing waits for room.
+    /// By what it is woken, as there is nothing to do. Refused where its CONNECT didn't come in time, and where the
+    /// connection would be told of a lag behind what the system hasn't taken for a minute, and nothing waits for room.
     fn sleep_of(&mut self, desk: &mut Desk<'a, R, W, T>) -> Result<Option<Sleep>, WhyLeft> {
+        if !desk.talk.is_connected() {
+            return Ok(Some(Sleep::Until(self.time_to_connect(desk)?)));
+        }
         let is_held = desk.talk.is_held();
         if !desk.socket.is_blocked() {
             let sleep = if is_held { Sleep::Timed } else { Sleep::Told };
@@ -484,12 +515,9 @@ pub(crate) fn attend<'a, 'b, R: Wait + Log + Clock, W: Side, T: Side>(
     socket: Socket,
 ) {
     let peer = outfit.peer;
-    info!(rt; target: "serve", "{peer} came");
+    say_came(rt, hub, peer);
     let left = talk_over(rt, alloc, hub, desks, outfit, socket);
-    match left {
-        WhyLeft::Untaken => warn!(rt; target: "serve", "{peer} left: {left}"),
-        _ => info!(rt; target: "serve", "{peer} left: {left}"),
-    }
+    say_left(rt, hub, peer, &left);
     desks.free_number(rt, peer.desk);
 }
 
@@ -514,6 +542,7 @@ fn talk_over<'a, 'b, R: Wait + Log + Clock, W: Side, T: Side>(
                 hub,
                 desks,
                 outfit,
+                came: Moment::now(rt),
                 heard: 0,
                 asleep: Vec::new(alloc),
             };

@@ -1,9 +1,10 @@
 //! What there is to pay waiting with.
 
-ghost use Rattle.std.specs.Prelude.{◌≡◌, ◌+◌, false};
+ghost use Rattle.std.specs.Prelude.{◌≡◌, ◌+◌, ◌*◌, false};
 ghost use Rattle.broker_server.specs.Purses.{fund_after, fund_with};
 
 use crate::serving::cost::Cost;
+use crate::serving::span::Span;
 
 /// What one holds: a second, in six-hundredths of a nanosecond (our choice).
 pub(crate) const FULL_FUND: u64 = 600_000_000_000;
@@ -56,14 +57,16 @@ impl Fund {
         self.lack(self.lacks.saturating_add(cost.0));
     }
 
-    /// It pays what a time cost, or where that cost nothing has so much back.
-    pub(crate) fn settles(&mut self, cost: Cost, back: Cost)
-        ensures { self.new ≡ fund_after self.old cost.0 back.0 }
+    /// It pays so much for each nanosecond of this time, or where that is nothing has so much of each back.
+    pub(crate) fn settles(&mut self, rate: u64, back: u64, time: Span)
+        ensures { self.new ≡ fund_after self.old (rate * time.0) (back * time.0) }
     {
-        if cost.0 == 0 {
-            self.lack(self.lacks.saturating_sub(back.0));
+        let cost = rate.saturating_mul(time.0);
+        if cost == 0 {
+            let back = back.saturating_mul(time.0);
+            self.lack(self.lacks.saturating_sub(back));
         } else {
-            self.pays(cost);
+            self.lack(self.lacks.saturating_add(cost));
         }
     }
 }

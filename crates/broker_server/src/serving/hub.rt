@@ -328,7 +328,7 @@ impl<R: Wait, W: Side, T: Side> Hub<R, W, T> {
             && at < connections.len()
         {
             let (_, bell) = connections.swap_remove(at);
-            self.totals.leaves(rt, bell.activity(rt), left);
+            self.totals.leaves(rt, bell.activity(), left);
         }
         self.stir();
     }
@@ -339,7 +339,7 @@ impl<R: Wait, W: Side, T: Side> Hub<R, W, T> {
         let connections = self.connections.lock(rt);
         let mut figures = self.totals.past(rt);
         for (_, bell) in connections.iter() {
-            figures.activity.add(bell.activity(rt));
+            figures.activity.add(bell.activity());
         }
         figures.connections = connections.len() as u64;
         figures.topics = topics;

@@ -49,7 +49,7 @@ impl Price {
     }
 
     /// What a nanosecond costs, in six-hundredths of one.
-    fn rate(self) -> u64
+    pub(crate) fn rate(self) -> u64
         ensures { result ≡ rate self }
     {
         match self {
@@ -92,14 +92,7 @@ impl Price {
         if self.is_below(other) { other } else { self }
     }
 
-    /// What waiting for so long costs.
-    pub(crate) fn cost(self, time: Span) -> Cost
-        ensures { result.0 ≡ min (rate self * time.0) (2 ^ 64 - 1) }
-    {
-        Cost(self.rate().saturating_mul(time.0))
-    }
-
-    /// What it would cost beside that at the full price.
+    /// What waiting for so long would cost at the full price, beside what it costs.
     pub(crate) fn spared(self, time: Span) -> Cost
         ensures { result.0 ≡ min ((600 - rate self) * time.0) (2 ^ 64 - 1) }
     {

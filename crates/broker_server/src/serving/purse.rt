@@ -1,6 +1,6 @@
 //! What a topic's senders wait for those who take slowly.
 
-ghost use Rattle.std.specs.Prelude.{◌≡◌, ◌-◌, ◌^◌, not, min, false, nat_lt, if◌then◌else◌};
+ghost use Rattle.std.specs.Prelude.{◌≡◌, ◌-◌, not, false, nat_lt, if◌then◌else◌};
 ghost use Rattle.broker_server.specs.Purses.{
   Begins,
   Ends,
@@ -10,9 +10,9 @@ ghost use Rattle.broker_server.specs.Purses.{
   after_call,
   after_time,
   common_pays,
-  cost_of,
   may_trust,
   may_wait,
+  paid_rate,
   trust_pays,
 };
 
@@ -22,7 +22,10 @@ use crate::serving::moment::Moment;
 use crate::serving::price::Price;
 use crate::serving::span::Span;
 
-/// What the trusted have back of a nanosecond that costs them nothing: a tenth of it, in six-hundredths (our choice).
+/// What is common has back of a nanosecond that costs it nothing: a six-hundredth (our choice).
+const COMMON_BACK: u64 = 1;
+
+/// And what there is for the trusted: a tenth, in six-hundredths (our choice).
 const TRUST_BACK: u64 = 60;
 
 /// What a topic's senders may wait for those who take slowly. It pays for the time in which somebody waits there. What
@@ -95,43 +98,39 @@ impl Purse {
         !self.trust.is_spent() || !self.common.is_spent()
     }
 
-    /// What a time at this price costs the trusted's.
-    fn trust_cost(&self, price: Price, time: Span) -> Cost
-        ensures { result.0 ≡ min (cost_of (trust_pays self.now price) price time.0) (2 ^ 64 - 1) }
+    /// What a nanosecond at this price costs what there is for the trusted.
+    fn trust_rate(&self, price: Price) -> u64
+        ensures { result ≡ paid_rate (trust_pays self.now price) price }
     {
         if self.waiting == 0 || self.trust.is_spent() || !price.is_trusted() {
-            Cost(0)
+            0
         } else {
-            price.cost(time)
+            price.rate()
         }
     }
 
-    /// What a time at this price costs what is common: nothing where the trusted's pays.
-    fn common_cost(&self, price: Price, time: Span) -> Cost
-        ensures { result.0 ≡ min (cost_of (common_pays self.now price) price time.0) (2 ^ 64 - 1) }
+    /// And what it costs what is common: nothing where that pays.
+    fn common_rate(&self, price: Price) -> u64
+        ensures { result ≡ paid_rate (common_pays self.now price) price }
     {
-        if self.waiting == 0
-            || self.common.is_spent()
-            || (price.is_trusted() && !self.trust.is_spent())
-        {
-            Cost(0)
+        let trust_pays = price.is_trusted() && !self.trust.is_spent();
+        if self.waiting == 0 || self.common.is_spent() || trust_pays {
+            0
         } else {
-            price.cost(time)
+            price.rate()
         }
     }
 
     /// Pays until this moment, at this price, or has something back.
-    #[tactic(auto, using(crate::proofs::PurseLemmas::bounded_cost))]
     fn settle(&mut self, now: Moment, price: Price)
         ensures { self.new ≡ after_time self.old now price }
     {
         let time = now.since(self.at);
-        let common = self.common_cost(price, time);
-        let trust = self.trust_cost(price, time);
+        let common = self.common_rate(price);
+        let trust = self.trust_rate(price);
         self.at = self.at.later(now);
-        self.common.settles(common, Cost(time.0));
-        self.trust
-            .settles(trust, Cost(time.0.saturating_mul(TRUST_BACK)));
+        self.common.settles(common, COMMON_BACK, time);
+        self.trust.settles(trust, TRUST_BACK, time);
     }
 
     /// Somebody finds no room at this moment. Whether those that lack it, of whom the dearest has this price, may be

@@ -17,4 +17,5 @@ mod queued;
 mod served;
 mod sizes;
 mod slow;
+mod unconnected;
 mod waiting;

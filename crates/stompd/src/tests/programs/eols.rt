@@ -44,7 +44,7 @@ fed
 error 21 Unsupported
 commit 0 1 1.0 0
 log 0 0 1 1.0 0
-span 0 0 0.0 1.0
+span 0 0 0.0 -
 queue 0 0 1 1.0
 handed 0 0 1 1.0
 out 0 CONNECTED\nversion:1.2\nheart-beat:0,0\n\n\0RECEIPT\nreceipt-id:r\n\n\0MESSAGE\nsubscription:s\nmessage-id:1.0.0\ndestination:A\ncontent-length:2\n\nhi\0ERROR\nmessage:21 Unsupported\ncontent-length:0\n\n\0

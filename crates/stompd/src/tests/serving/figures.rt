@@ -122,8 +122,8 @@ fn figures(alloc: Global) -> Result<String, AllocError> {
     let (came, went) = (octets_in(), octets_out());
     format!(in alloc;
         "[INFO  serve] figures connections=0 came=3 refused=0 ended_disconnect=1 ended_error=1 \
-         ended_closed=1 ended_lag=0 ended_write_failed=0 ended_other=0 topics=3 sends=4 \
-         transactions=2 messages=4 octets_in={came} octets_out={went} lagged=0 passed_over=0 \
+         ended_closed=1 ended_lag=0 ended_write_failed=0 ended_unconnected=0 ended_other=0 topics=3 \
+         sends=4 transactions=2 messages=4 octets_in={came} octets_out={went} lagged=0 passed_over=0 \
          subscriptions=0 waiting_senders=0 behind=0"
     )
 }

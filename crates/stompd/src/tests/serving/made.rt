@@ -161,18 +161,19 @@ const REFUSED: &[(&str, &str)] = &[
     ),
 ];
 
-/// Whether a new client that sends this is told that, and nothing more.
-fn is_refused(alloc: Global, lines: &mut Lines, text: &str, told: &str) -> bool {
-    match Client::connected(alloc, lines) {
-        Some(mut client) => client.ends_with(text, told),
-        None => false,
+/// As many clients that were told CONNECTED.
+fn refused_clients(alloc: Global, lines: &mut Lines) -> Option<Vec<Client>> {
+    let mut clients = Vec::new(alloc);
+    for _ in REFUSED {
+        clients.push(Client::connected(alloc, lines)?).ok()?;
     }
+    Some(clients)
 }
 
-/// Whether a new client is refused each of these.
-fn all_are_refused(alloc: Global, lines: &mut Lines) -> bool {
-    for &(text, told) in REFUSED {
-        if !is_refused(alloc, lines, text, told) {
+/// Whether each of these clients is refused one of them, and told nothing more.
+fn all_are_refused(clients: &mut [Client]) -> bool {
+    for (client, &(text, told)) in clients.iter_mut().zip(REFUSED) {
+        if !client.ends_with(text, told) {
             return false;
         }
     }
@@ -192,9 +193,12 @@ impl Peers for Full {
         let Some(mut client) = Client::connected(alloc, lines) else {
             return false;
         };
+        let Some(mut refused) = refused_clients(alloc, lines) else {
+            return false;
+        };
         let names = MOST.saturating_sub(OPENING);
         sends_to_all(&mut client, alloc, names)
-            && all_are_refused(alloc, lines)
+            && all_are_refused(refused.as_mut_slice())
             && sends_to_all(&mut client, alloc, names)
     }
 }

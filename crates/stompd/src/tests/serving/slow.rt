@@ -69,16 +69,11 @@ const REFUSED: (&str, &str) = (
     "ERROR\nmessage:21 Unsupported\ncontent-length:0\n\n\0\n",
 );
 
-/// Whether the server answers one that asks for as long as it hears out another, which was refused a frame and says a
+/// Whether the server answers one that asks for as long as it hears out another, which is refused a frame and says a
 /// little now and then: by its own clock one second to ten. It takes no longer to end what has lagged, and waits a minute
 /// for one that lagged to read on.
-fn pauses(client: &mut Client, alloc: Global, lines: &mut Lines) -> bool {
-    match Client::connected(alloc, lines) {
-        Some(mut refused) => {
-            refused.asks(REFUSED.0, REFUSED.1) && is_given_up(&mut refused, client)
-        }
-        None => false,
-    }
+fn pauses(client: &mut Client, refused: &mut Client) -> bool {
+    refused.asks(REFUSED.0, REFUSED.1) && is_given_up(refused, client)
 }
 
 /// The last words to one that lagged.
@@ -96,10 +91,13 @@ fn ends_lagged(client: &mut Client) -> bool {
 
 /// Whether the one of these lags and the other reads what a new client sends.
 fn one_lags(alloc: Global, lines: &mut Lines, slow: &mut Client, reader: &mut Client) -> bool {
+    let Some(mut sender) = Client::connected(alloc, lines) else {
+        return false;
+    };
     match Client::connected(alloc, lines) {
-        Some(mut sender) => {
+        Some(mut refused) => {
             goes_on(&mut sender, reader, alloc)
-                && pauses(&mut sender, alloc, lines)
+                && pauses(&mut sender, &mut refused)
                 && ends_lagged(slow)
         }
         None => false,
@@ -280,8 +278,11 @@ impl Peers for NeverReads {
         let Some(_never) = Client::subscribed(alloc, lines) else {
             return false;
         };
+        let Some(mut sender) = Client::connected(alloc, lines) else {
+            return false;
+        };
         match Client::connected(alloc, lines) {
-            Some(mut sender) => bursts(&mut sender, alloc) && pauses(&mut sender, alloc, lines),
+            Some(mut refused) => bursts(&mut sender, alloc) && pauses(&mut sender, &mut refused),
             None => false,
         }
     }
