@@ -350,7 +350,7 @@ impl Fuzz {
 fn told_when_free(address: SocketAddr, pieces: &[&[u8]], way: Way) -> io::Result<Told> {
     let until = Instant::now() + talking::PATIENCE;
     loop {
-        let told = Told::of(&talk(address, pieces, way)?);
+        let told = Told::of(&talk(address, pieces, way)?, talking::OF_SERVER);
         if !told.is_error("77") || Instant::now() > until {
             return Ok(told);
         }

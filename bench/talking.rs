@@ -11,6 +11,10 @@ use std::time::{Duration, Instant};
 /// How long an answer may take.
 pub const PATIENCE: Duration = Duration::from_secs(15);
 
+/// What stands behind each frame of a server, and what behind those of the core.
+pub const OF_SERVER: &[u8] = b"\n";
+const OF_CORE: &[u8] = b"";
+
 /// How many items may wait for a subscription.
 const CAPACITY: usize = 64;
 
@@ -30,26 +34,28 @@ fn find(text: &[u8], word: &[u8]) -> Option<usize> {
     text.windows(word.len()).position(|part| part == word)
 }
 
-/// The length of the frame that the text begins with, once all of it is there.
-fn frame_length(text: &[u8]) -> Option<usize> {
+/// The length of the frame that the text begins with, once all of it is there, and this behind it.
+fn frame_length(text: &[u8], behind: &[u8]) -> Option<usize> {
     let head = find(text, b"\n\n")? + 2;
     let counted = find(&text[..head], b"\ncontent-length:").map_or(0, |at| {
         let digits = text[at + 16..].iter().take_while(|octet| octet.is_ascii_digit());
         digits.fold(0, |number, octet| number * 10 + usize::from(octet - b'0'))
     });
-    (text.len() > head + counted).then_some(head + counted + 1)
+    let length = head + counted + 1;
+    text.get(length..)?.starts_with(behind).then_some(length)
 }
 
 impl Told {
-    pub fn of(text: &[u8]) -> Told {
+    /// What these frames told, behind each of which this stands.
+    pub fn of(text: &[u8], behind: &[u8]) -> Told {
         let (mut told, mut at) = (Told::default(), 0);
-        while let Some(length) = frame_length(&text[at..]) {
+        while let Some(length) = frame_length(&text[at..], behind) {
             let frame = &text[at..at + length];
             match frame.starts_with(b"MESSAGE\n") {
                 true => told.put_message(frame),
                 false => told.replies.push(frame.to_vec()),
             }
-            at += length;
+            at += length + behind.len();
         }
         told.rest = text.len() - at;
         told.text = text.to_vec();
@@ -179,7 +185,7 @@ pub fn wanted(text: &[u8], topics: &[(Vec<u8>, u64)]) -> Wanted {
     let mut sent: BTreeMap<Vec<u8>, Vec<Vec<u8>>> = BTreeMap::new();
     for list in others
         .iter()
-        .flat_map(|it| Told::of(&it.out).messages.into_values())
+        .flat_map(|it| Told::of(&it.out, OF_CORE).messages.into_values())
     {
         list.into_iter().for_each(|message| {
             sent.entry(destination_of(&message).to_vec())
@@ -194,7 +200,7 @@ pub fn wanted(text: &[u8], topics: &[(Vec<u8>, u64)]) -> Wanted {
         .iter()
         .map(|queue| (queue.id.clone(), names[queue.topic].to_vec()));
     Wanted {
-        told: Told::of(&first.out),
+        told: Told::of(&first.out, OF_CORE),
         ends,
         sent,
         subscriptions: subscriptions.collect(),
@@ -291,7 +297,8 @@ fn read_all(mut socket: TcpStream, way: Way, tell: &mpsc::Sender<()>) -> io::Res
     socket.set_read_timeout(Some(2 * PATIENCE))?;
     let (mut came, mut piece) = (Vec::new(), vec![0; 1 << 16]);
     loop {
-        if matches!(way, Way::Waits(wanted) if !wanted.ends && wanted.is_all_of(&Told::of(&came))) {
+        let is_all = |wanted: &Wanted| wanted.is_all_of(&Told::of(&came, OF_SERVER));
+        if matches!(way, Way::Waits(wanted) if !wanted.ends && is_all(wanted)) {
             let _ = tell.send(());
         }
         match socket.read(&mut piece) {
@@ -379,13 +386,15 @@ impl Served {
         }
     }
 
-    /// The next frame.
+    /// The next frame, without what stands behind it.
     pub fn frame(&mut self) -> io::Result<Vec<u8>> {
         let until = Instant::now() + PATIENCE;
         let mut piece = [0; 4096];
         loop {
-            if let Some(length) = frame_length(&self.came) {
-                return Ok(self.came.drain(..length).collect());
+            if let Some(length) = frame_length(&self.came, OF_SERVER) {
+                let behind = self.came.split_off(length + OF_SERVER.len());
+                self.came.truncate(length);
+                return Ok(std::mem::replace(&mut self.came, behind));
             }
             match self.socket.read(&mut piece)? {
                 0 => return Err(io::Error::other("the server closed a client's connection")),

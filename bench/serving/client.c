@@ -13,9 +13,6 @@
 /* Octets read at once; seconds that a client waits for an answer. */
 enum { READ_SIZE = 1 << 18, WAIT = 20 };
 
-/* RabbitMQ wants a login and its virtual host; the others take no notice. */
-#define CONNECT "CONNECT\naccept-version:1.2\nhost:/\nlogin:guest\npasscode:guest\nheart-beat:0,0\n\n"
-
 char client_trouble[200];
 
 void client_fail(const char *what, struct text why)
@@ -34,50 +31,64 @@ static void fail(const char *what)
     client_fail(what, (struct text){NULL, 0});
 }
 
-/* Waits for a frame of this command; false where another comes, or none. */
-static bool wait_for(struct client *client, const char *command)
+bool client_hear(struct client *client, struct heard *heard)
 {
     struct octets *in = &client->in;
-    struct frame frame;
+    size_t size = octets_size(in) > 0 ? client->wire->read(in->start + in->from, octets_size(in), heard) : 0;
+    in->from += size;
+    return size > 0;
+}
+
+/* Whether this may come before what was asked for is answered: of another run at once, messages. */
+static bool may_precede(const struct plan *plan, enum heard_kind kind)
+{
+    return kind == HEARD_NOTHING || (plan->beside && kind == HEARD_MESSAGE);
+}
+
+/* Waits until what was asked for is answered; false where something else comes, or nothing. */
+static bool wait_for_answer(struct client *client, const struct plan *plan)
+{
+    struct heard heard;
     for (;;) {
-        in->from += frame_gap(in->start + in->from, octets_size(in));
-        size_t size = octets_size(in) > 0 ? frame_read(in->start + in->from, octets_size(in), &frame) : 0;
-        if (size > 0) {
-            in->from += size;
-            if (text_is(frame.command, command, strlen(command)))
+        while (client_hear(client, &heard)) {
+            if (heard.kind == HEARD_ANSWER)
                 return true;
-            client_fail("it answered ", TEXT_IS(frame.command, "ERROR") ? frame.message : frame.command);
-            return false;
+            if (!may_precede(plan, heard.kind)) {
+                client_fail("it answered ", heard.says);
+                return false;
+            }
         }
-        ssize_t count = recv(client->socket, octets_room(in, READ_SIZE), READ_SIZE, 0);
+        ssize_t count = recv(client->socket, octets_room(&client->in, READ_SIZE), READ_SIZE, 0);
         if (count <= 0) {
             fail(count == 0 ? "it closed the connection" : "it didn't answer in time");
             return false;
         }
-        in->to += (size_t)count;
+        client->in.to += (size_t)count;
     }
 }
 
-static bool write_whole(struct client *client, const char *text, size_t size)
+/* Writes what was put, and waits until it is answered. */
+static bool ask(struct client *client, const struct plan *plan)
 {
-    while (size > 0) {
-        ssize_t count = send(client->socket, text, size, MSG_NOSIGNAL);
+    struct octets *out = &client->out;
+    while (octets_size(out) > 0) {
+        ssize_t count = send(client->socket, out->start + out->from, octets_size(out), MSG_NOSIGNAL);
         if (count <= 0) {
             fail("it took no octets");
             return false;
         }
-        text += count;
-        size -= (size_t)count;
+        out->from += (size_t)count;
     }
-    return true;
+    return wait_for_answer(client, plan);
 }
 
-bool client_connect(struct client *client, int port)
+bool client_connect(struct client *client, const struct plan *plan)
 {
     struct sockaddr_in at = {
-        .sin_family = AF_INET, .sin_port = htons((uint16_t)port), .sin_addr.s_addr = htonl(INADDR_LOOPBACK)};
+        .sin_family = AF_INET, .sin_port = htons((uint16_t)plan->port), .sin_addr.s_addr = htonl(INADDR_LOOPBACK)};
     struct timeval wait = {.tv_sec = WAIT};
     int one = 1;
+    client->wire = plan->wire;
     client->socket = socket(AF_INET, SOCK_STREAM | SOCK_CLOEXEC, 0);
     client->publisher = -1;
     setsockopt(client->socket, SOL_SOCKET, SO_RCVTIMEO, &wait, sizeof wait);
@@ -87,15 +98,16 @@ bool client_connect(struct client *client, int port)
         fail("it can't be connected to");
         return false;
     }
-    return write_whole(client, CONNECT, sizeof CONNECT) && wait_for(client, "CONNECTED");
+    client->wire->put_hello(&client->out);
+    return ask(client, plan);
 }
 
 bool client_subscribe(struct client *client, const struct plan *plan, int index, int topic)
 {
-    char text[400];
-    int size = snprintf(text, sizeof text, "SUBSCRIBE\nid:%d\ndestination:/topic/%s%d\nack:auto\nreceipt:s%d\n\n", index,
-                        plan->prefix, topic, index);
-    return write_whole(client, text, (size_t)size + 1) && wait_for(client, "RECEIPT");
+    char name[MOST_NAME];
+    plan_name(plan, topic, name);
+    client->wire->put_subscribe(&client->out, index, name);
+    return ask(client, plan);
 }
 
 void client_free_run(struct client *client)
@@ -131,12 +143,15 @@ void client_write(struct client *client)
 
 void client_leave(struct client *client)
 {
-    static const char words[] = "DISCONNECT\nreceipt:bye\n\n";
+    struct octets *out = &client->out;
+    bool is_idle = octets_size(out) == 0;
     char last[4096];
     struct timeval wait = {.tv_sec = 2};
     fcntl(client->socket, F_SETFL, 0);
     setsockopt(client->socket, SOL_SOCKET, SO_RCVTIMEO, &wait, sizeof wait);
-    if (octets_size(&client->out) == 0 && send(client->socket, words, sizeof words, MSG_NOSIGNAL) > 0
+    if (is_idle)
+        client->wire->put_goodbye(out);
+    if (is_idle && send(client->socket, out->start + out->from, octets_size(out), MSG_NOSIGNAL) > 0
         && recv(client->socket, last, sizeof last, 0) > 0)
         shutdown(client->socket, SHUT_WR);
     close(client->socket);

@@ -2,11 +2,12 @@
 #ifndef CLIENT_H
 #define CLIENT_H
 
-#include "frame.h"
 #include "octets.h"
 #include "plan.h"
+#include "wire.h"
 
 struct client {
+    const struct wire *wire;
     int socket;
     bool may_write;
     struct octets in, out;
@@ -18,14 +19,17 @@ struct client {
 extern char client_trouble[200];
 void client_fail(const char *what, struct text why);
 
-/* Connects to a server on 127.0.0.1 and waits for its CONNECTED; false where that fails. */
-bool client_connect(struct client *client, int port);
+/* Connects to the plan's server on 127.0.0.1 and waits until it answers; false where that fails. */
+bool client_connect(struct client *client, const struct plan *plan);
 
 /* Subscribes to this topic, and waits until the server says that it did; false where that fails. */
 bool client_subscribe(struct client *client, const struct plan *plan, int index, int topic);
 
 /* From here on no call waits. */
 void client_free_run(struct client *client);
+
+/* Takes the next whole thing that came; false where there is none. It lies where it came until the next read. */
+bool client_hear(struct client *client, struct heard *heard);
 
 /* Reads once; false where nothing more is there now, or the connection has ended. */
 bool client_read(struct client *client);

@@ -60,14 +60,14 @@ class Client:
         """CONNECT, with these frames behind it, and its CONNECTED."""
         self.send(CONNECT + more)
         self.wait_for(b"CONNECTED\n")
-        self.wait_for(b"\0")
+        self.wait_for(b"\n\n\0\n")
         return self
 
     def ask(self, frames, receipt=b"ask", seconds=10.0):
         """Sends frames, and one more that asks for a receipt, and waits for it: the server has then done what they ask for."""
         self.send(frames + b"BEGIN\ntransaction:" + receipt + b"\nreceipt:" + receipt + b"\n\n\0")
         self.send(b"ABORT\ntransaction:" + receipt + b"\n\n\0")
-        self.wait_for(b"receipt-id:" + receipt + b"\n\n\0", seconds)
+        self.wait_for(b"receipt-id:" + receipt + b"\n\n\0\n", seconds)
 
     def close(self):
         self.socket.close()
@@ -103,7 +103,7 @@ def exchange(address, topic):
     begun = time.monotonic()
     with Client(address) as it:
         it.connect(subscribe(topic) + send_frame(topic, b"hello"))
-        it.wait_for(b"hello\0")
+        it.wait_for(b"hello\0\n")
         it.send(b"DISCONNECT\nreceipt:bye\n\n\0")
-        it.wait_for(b"receipt-id:bye\n\n\0")
+        it.wait_for(b"receipt-id:bye\n\n\0\n")
     return 1000 * (time.monotonic() - begun)

@@ -73,18 +73,72 @@ def plain_use(trial, count=MOST_CONNECTIONS - 1):
     for at, it in enumerate(clients[: len(TOPICS)]):
         it.send(send_frame(TOPICS[at], b"to all"))
     for it in clients:
-        it.wait_for(b"to all\0", 30)
+        it.wait_for(b"to all\0\n", 30)
         it.send(b"DISCONNECT\nreceipt:bye\n\n\0")
     for it in clients:
-        it.wait_for(b"receipt-id:bye\n\n\0", 30)
+        it.wait_for(b"receipt-id:bye\n\n\0\n", 30)
     close_all(clients)
     return f"{len(clients)} came, were served and left"
 
 
+def silent(trial, seconds=10):
+    """255 connections that never say CONNECT: some say nothing, some one octet a second, some what TLS says first."""
+    texts = [b"", b"CONNECT\n" + b"h" * 2 * seconds, b"\x16\x03\x01\x02" + b"\0" * 2 * seconds]
+    begun, said = time.monotonic(), trial.server.log_size()
+    clients = [Client(trial.address) for _ in range(trial.part(MOST_CONNECTIONS - 1))]
+    longest = exchange(trial.address, MINE)
+    for second in range(seconds - 1):
+        for at, it in enumerate(clients):
+            it.send(texts[at % 3][second : second + 1])
+        time.sleep(max(0.0, begun + second + 1 - time.monotonic()))
+    for it in clients:
+        trial.expect(it.read_to_end(2 * seconds) == b"", "a silent connection was told something")
+    passed = time.monotonic() - begun
+    close_all(clients)
+    logged = trial.server.log_since(said)
+    trial.expect(longest < trial.at_once, f"another client waited {longest:.0f} ms")
+    trial.expect(seconds - 1 < passed < 2 * seconds, f"they were closed after {passed:.1f} s")
+    trial.expect(b"left: no CONNECT within ten seconds, not STOMP: TLS?\n" in logged, "the log has no word of TLS")
+    return f"{len(clients)} were closed after {passed:.1f} s; another client was served within {longest:.0f} ms"
+
+
+def small_writes(trial, count=200, most=2.0):
+    """A client whose system keeps small writes back sends each frame of a transaction by a write of its own, and waits for its receipt."""
+    times = []
+    with Client(trial.address) as it:
+        it.connect()
+        for at in range(trial.part(count)):
+            begun = time.monotonic()
+            it.send(b"BEGIN\ntransaction:x\n\n\0")
+            for topic in TOPICS[:2]:
+                it.send(send_frame(topic, b"small", b"transaction:x\n"))
+            it.send(b"COMMIT\ntransaction:x\nreceipt:r%d\n\n\0" % at)
+            it.wait_for(b"receipt-id:r%d\n\n\0" % at)
+            times.append(1e3 * (time.monotonic() - begun))
+    median = statistics.median(times)
+    trial.expect(median <= most, f"half of the transactions took more than {median:.1f} ms")
+    return f"a transaction took {median:.2f} ms, the slowest {max(times):.1f} ms"
+
+
+def comes_and_goes(trial, count=10000, most=100):
+    """One that connects and goes, over and over: the log has 100 lines of it a second, and says how many more there were."""
+    begun, said = time.monotonic(), trial.server.log_size()
+    for _ in range(trial.part(count)):
+        Client(trial.address).close()
+    time.sleep(2.5)
+    passed, lines = time.monotonic() - begun, trial.server.log_since(said).splitlines()
+    told = sum(it.endswith((b" came", b" left: its peer closed it")) for it in lines)
+    left_out = sum(int(it.split()[2]) for it in lines if it.endswith(b" lines of who came or left were left out"))
+    due = 2 * (trial.part(count) - sum(int(it.split()[3]) for it in lines if it.endswith(b" are there")))
+    trial.expect(told <= most * (passed + 1), f"{told} lines in {passed:.1f} s")
+    trial.expect(told + left_out == due, f"{told} lines and {left_out} left out aren't {due}")
+    return f"{told} lines of {due}, {left_out} left out"
+
+
 def one_octet_a_second(trial, seconds=20):
-    """255 connections that send one octet a second."""
-    text = b"CONNECT\naccept-version:1.2\nhost:" + b"h" * seconds
-    slow = [Client(trial.address) for _ in range(trial.part(MOST_CONNECTIONS - 1))]
+    """255 connections that send one octet a second of a frame."""
+    text = b"SEND\ndestination:" + b"h" * seconds
+    slow = trial.open(trial.part(MOST_CONNECTIONS - 1))
     taken, longest = trial.server.time(), 0.0
     for second in range(seconds):
         begun = time.monotonic()
@@ -116,7 +170,7 @@ def never_read(trial, seconds=20):
     wanted += subscribe(TOPICS[-1], MOST_OPEN - 1, b"receipt:s\n")
     stuck = trial.open(trial.part(MOST_CONNECTIONS - 2), wanted, receive_room=4096)
     for it in stuck:
-        it.wait_for(b"receipt-id:s\n\n\0", 30)
+        it.wait_for(b"receipt-id:s\n\n\0\n", 30)
     sent, during = flood(trial, seconds)
     with_them = rate_of_another(trial)
     memory = trial.server.memory()
@@ -190,7 +244,7 @@ def bursts(trial, count=20, sends=200):
         reader.ask(subscribe(TOPICS[0]))
         (reader if at % 2 else other).send(frames)
         try:
-            reader.wait_for(b"the last\0", 30)
+            reader.wait_for(b"the last\0\n", 30)
         except Ended:
             lagged[at % 2 == 1] += 1
         close_all([reader, other])
@@ -256,7 +310,7 @@ def every_limit(trial):
         it.connect(subscribe(TOPICS[0]))
         for _ in range(rounds):
             it.send(longest_send(body))
-            came = it.wait_for(b"content-length:%d\n" % MOST_BODY, 30) + it.wait_for(body + b"\0", 30)
+            came = it.wait_for(b"content-length:%d\n" % MOST_BODY, 30) + it.wait_for(body + b"\0\n", 30)
             frames += came.count(b"MESSAGE\n")
             trial.expect(came.count(b"v" * (MOST_LINE - 5)) == MOST_HEADERS - 2, "a header didn't come as it was sent")
     beyond = {
@@ -359,7 +413,7 @@ def named_topics(trial):
         it.connect()
         for name in names:
             it.send(send_frame(name, b"x", b"receipt:r\n"))
-            it.wait_for(b"receipt-id:r\n\n\0")
+            it.wait_for(b"receipt-id:r\n\n\0\n")
     memory, took = trial.server.memory() - before, time.monotonic() - begun
     if len(names) + len(NAMES) == MOST_TOPICS:
         expect_no_more_topics(trial)
@@ -382,5 +436,5 @@ def expect_no_more_topics(trial):
 
 # The rows that one server has, one after another, behind plain use; and those that have one of their own: how many descriptors it may
 # have, and whether what they leave stays.
-ROWS = [one_octet_a_second, bursts, never_read, slow_and_talking, opened_and_reset, begins, every_limit, half_closed]
+ROWS = [silent, small_writes, comes_and_goes, one_octet_a_second, bursts, never_read, slow_and_talking, opened_and_reset, begins, every_limit, half_closed]
 OF_THEIR_OWN = [(few_descriptors, 64, False), (named_topics, None, True), (claimed_ids, None, True)]

@@ -46,7 +46,7 @@ static bool connect_all(void)
     int count = plan.own ? plan.publishers : plan.publishers + plan.readers;
     clients = room_of((size_t)count, sizeof *clients);
     while (count_of_clients < count)
-        if (!client_connect(&clients[count_of_clients++], plan.port))
+        if (!client_connect(&clients[count_of_clients++], &plan))
             return false;
     for (int at = 0; at < plan.publishers; at++) {
         clients[at].publisher = at;
@@ -87,10 +87,12 @@ static void start(void)
     measured_begin(&plan, begun);
 }
 
-/* The index of a MESSAGE's subscription at its client; -1 where that is none. */
+/* The index of a message's subscription at its client; -1 where that is none. */
 static int index_of(struct text id)
 {
     int index = 0;
+    if (!plan.wire->has_ids)
+        return 0;
     if (id.size == 0 || id.size > 3)
         return -1;
     for (size_t at = 0; at < id.size; at++)
@@ -98,34 +100,49 @@ static int index_of(struct text id)
     return index >= 0 && index < plan.each ? index : -1;
 }
 
-/* A MESSAGE came at a client. */
-static void hear_message(struct client *client, const struct frame *frame, int64_t now)
+/* A message came at a client. */
+static void hear_message(struct client *client, const struct heard *heard, int64_t now)
 {
-    int index = index_of(frame->subscription), publisher;
+    int index = index_of(heard->id), publisher;
     int64_t k;
-    if (index < 0 || !publishers_read(&plan, frame->body, &publisher, &k))
+    enum whose whose = index < 0 ? WHOSE_NONE : publishers_read(&plan, heard->body, &publisher, &k);
+    if (whose == WHOSE_NONE)
         faults.changed++;
+    else if (whose == WHOSE_ANOTHER)
+        measured_hear(now, now);
     else if (streams_hear(&plan, client->first_stream + index, publisher, k))
         measured_hear(publishers_hear(&plan, publisher, k), now);
 }
 
-static void hear_frames(struct client *client, int64_t now)
+static void hear(struct client *client, const struct heard *heard, int64_t now)
 {
-    struct octets *in = &client->in;
-    struct frame frame;
-    for (;;) {
-        in->from += frame_gap(in->start + in->from, octets_size(in));
-        size_t size = octets_size(in) > 0 ? frame_read(in->start + in->from, octets_size(in), &frame) : 0;
-        if (size == 0)
-            return;
-        if (TEXT_IS(frame.command, "MESSAGE"))
-            hear_message(client, &frame, now);
-        else if (plan.receipts && client->publisher >= 0 && TEXT_IS(frame.command, "RECEIPT"))
+    switch (heard->kind) {
+    case HEARD_MESSAGE:
+        hear_message(client, heard, now);
+        break;
+    case HEARD_PING:
+        plan.wire->put_pong(&client->out);
+        client_write(client);
+        break;
+    case HEARD_NOTHING:
+        break;
+    case HEARD_ANSWER:
+        if (plan.receipts && client->publisher >= 0) {
             publishers[client->publisher].receipts++;
-        else
-            client_fail("it answered ", TEXT_IS(frame.command, "ERROR") ? frame.message : frame.command);
-        in->from += size;
+            break;
+        }
+        /* Nothing was asked for. */
+        /* Falls through. */
+    default:
+        client_fail("it answered ", heard->says);
     }
+}
+
+static void hear_all(struct client *client, int64_t now)
+{
+    struct heard heard;
+    while (client_hear(client, &heard))
+        hear(client, &heard, now);
 }
 
 /* By the clock some messages are due. */
@@ -147,7 +164,7 @@ static void attend(struct client *client, uint32_t events)
         client_write(client);
     }
     while (events & ~(uint32_t)EPOLLOUT && client_read(client))
-        hear_frames(client, clock_now());
+        hear_all(client, clock_now());
 }
 
 /* Waits for what comes; the time then. */

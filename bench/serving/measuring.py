@@ -28,11 +28,12 @@ def share_stolen(begun):
     return stolen / passed if passed else 0.0
 
 
-def load(server, row, prefix, words):
-    """The load generator's report of one run; one with a trouble where it gave none."""
-    plan = [f"port={server.address[1]}", f"process={server.number}", f"prefix={prefix}", *row.words.split(), *words]
+def load(server, row, prefix, words, before=()):
+    """The load generator's report of one run, with these words before its own; one with a trouble where it gave none."""
+    plan = [f"port={server.address[1]}", f"process={server.number}", f"protocol={server.protocol}", f"prefix={prefix}"]
+    plan += [*row.words.split(), *words]
     try:
-        done = subprocess.run([os.path.join(OUT, "load"), *plan], stdout=subprocess.PIPE, timeout=180, check=False)
+        done = subprocess.run([*before, os.path.join(OUT, "load"), *plan], stdout=subprocess.PIPE, timeout=180, check=False)
     except subprocess.TimeoutExpired:
         return {"trouble": "the load generator didn't end"}
     if done.returncode != 0:

@@ -58,5 +58,6 @@ char *message_spell(char *at, const struct frame *send, uint64_t number)
     *at++ = '\n';
     at = put(at, send->body.at, send->body.size);
     *at++ = 0;
+    *at++ = '\n';
     return at;
 }

@@ -1,5 +1,6 @@
-"""Brokers that are measured beside ours, where Debian's packages of them are installed: RabbitMQ with its STOMP plugin, and
-ActiveMQ. Each is started on ports that the system chose, on 127.0.0.1, with a directory of its own, and stopped at the end."""
+"""Brokers that are measured beside ours, where Debian's packages of them are installed: RabbitMQ with its STOMP plugin and ActiveMQ; and
+NATS, mosquitto and Redis, which have protocols of their own. Each is started on ports that the system chose, on 127.0.0.1, with a directory
+of its own, and stopped at the end."""
 
 import os
 import shutil
@@ -20,6 +21,23 @@ ACTIVEMQ_JAR = f"{ACTIVEMQ}/bin/activemq.jar"
 # Those of Debian's /usr/share/activemq/activemq-options.
 ACTIVEMQ_OPTIONS = ["-Xms512M", "-Xmx512M", "-Dorg.apache.activemq.UseDedicatedTaskRunner=true"]
 
+# Those with protocols of their own, with nothing on disk: each one's protocol, and what starts it.
+PLAIN = {
+    "NATS": ("nats", ["/usr/sbin/nats-server", "-a", "127.0.0.1", "-p", "{port}"]),
+    "mosquitto": ("mqtt", ["/usr/sbin/mosquitto", "-c", "{folder}/mosquitto.conf"]),
+    "Redis": ("redis", ["/usr/bin/redis-server", *"--bind 127.0.0.1 --port {port} --dir {folder} --appendonly no --save".split(), ""]),
+}
+# Sent at once, as the others do of themselves.
+MOSQUITTO_CONF = "listener {port} 127.0.0.1\nallow_anonymous true\npersistence false\nset_tcp_nodelay true\nlog_type error\n"
+
+PACKAGES = {
+    "RabbitMQ": "rabbitmq-server",
+    "ActiveMQ": "activemq",
+    "NATS": "nats-server",
+    "mosquitto": "mosquitto",
+    "Redis": "redis-server",
+}
+
 
 def free_ports(count):
     """Ports that nobody uses now."""
@@ -38,8 +56,8 @@ def version_of(package):
 class Peer(Process):
     """A broker that is running: what it is started by, after what it needs, each in a session of its own. Both end with it."""
 
-    def __init__(self, name, needs, words, environment, program, port):
-        self.name, self.address, self.children = name, ("127.0.0.1", port), []
+    def __init__(self, name, needs, words, environment, program, port, protocol="stomp"):
+        self.name, self.address, self.children, self.protocol = name, ("127.0.0.1", port), [], protocol
         self.folder = environment["HOME"]
         try:
             for each in (*needs, words):
@@ -51,7 +69,8 @@ class Peer(Process):
             raise
 
     def wait(self):
-        """Waits until it answers a CONNECT."""
+        """Waits until it answers a CONNECT; one with a protocol of its own, until it takes a connection."""
+        answers = says_connected if self.protocol == "stomp" else takes
         until = time.monotonic() + START_SECONDS
         while time.monotonic() < until and self.children[-1].poll() is None:
             if answers(self.address):
@@ -89,7 +108,15 @@ def end(child):
             pass
 
 
-def answers(address):
+def takes(address):
+    try:
+        socket.create_connection(address, 2).close()
+        return True
+    except OSError:
+        return False
+
+
+def says_connected(address):
     try:
         with socket.create_connection(address, 2) as it:
             it.sendall(b"CONNECT\naccept-version:1.2\nhost:/\nlogin:guest\npasscode:guest\n\n\0")
@@ -144,15 +171,31 @@ def start_activemq():
     return Peer("ActiveMQ", [], [*words, "-jar", ACTIVEMQ_JAR, "start", broker], {"HOME": folder}, "java", port)
 
 
+def start_plain(name, protocol, words, before=()):
+    """A broker with a protocol of its own, by these words, in which {port} and {folder} stand for its port and its directory."""
+    folder = tempfile.mkdtemp(prefix=f"bench_{protocol}_")
+    (port,) = free_ports(1)
+    with open(os.path.join(folder, "mosquitto.conf"), "w", encoding="ascii") as it:
+        it.write(MOSQUITTO_CONF.format(port=port))
+    started = [*before, *(it.format(port=port, folder=folder) for it in words)]
+    return Peer(name, [], started, {"HOME": folder}, os.path.basename(words[0]), port, protocol)
+
+
 def installed():
-    """The brokers that are installed: their names, and what starts each."""
+    """The brokers of STOMP that are installed: their names, and what starts each."""
     if os.access(RABBITMQ, os.X_OK) and shutil.which("epmd"):
         yield "RabbitMQ", start_rabbitmq
     if os.path.exists(ACTIVEMQ_JAR) and shutil.which("java"):
         yield "ActiveMQ", start_activemq
 
 
-def versions():
-    """The versions of those that are installed."""
-    packages = {"RabbitMQ": "rabbitmq-server", "ActiveMQ": "activemq"}
-    return [f"{name} {version_of(packages[name])}" for name, _ in installed()]
+def installed_plain():
+    """Those with protocols of their own that are installed: their names, protocols, and words."""
+    for name, (protocol, words) in PLAIN.items():
+        if os.access(words[0], os.X_OK):
+            yield name, protocol, words
+
+
+def versions(names):
+    """The versions of these."""
+    return [f"{name} {version_of(PACKAGES[name])}" for name in names]

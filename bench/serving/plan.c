@@ -27,6 +27,7 @@ static const struct number NUMBERS[] = {
     {"readers", 1, 256, PLACE(readers)},
     {"each", 1, 64, PLACE(each)},
     {"topics", 1, 1024, PLACE(topics)},
+    {"first", 0, 1 << 15, PLACE(first)},
     {"size", 16, 1 << 20, PLACE(size)},
     {"window", 1, 1 << 20, PLACE(window)},
     {"sends", 1, 64, PLACE(sends)},
@@ -66,8 +67,12 @@ static void keep(struct plan *plan, const char *word)
         plan->burst = true;
     else if (strcmp(word, "unpaced") == 0)
         plan->unpaced = true;
+    else if (strcmp(word, "beside") == 0)
+        plan->beside = true;
     else if (strcmp(word, "receipts") == 0)
         plan->receipts = true;
+    else if (equals != NULL && strncmp(word, "protocol=", 9) == 0)
+        plan->wire = wire_find(equals + 1);
     else if (equals != NULL && strncmp(word, "prefix=", 7) == 0)
         plan->prefix = equals + 1;
     else if (equals != NULL && strncmp(word, "most=", 5) == 0)
@@ -79,7 +84,7 @@ static void keep(struct plan *plan, const char *word)
 struct plan plan_read(char **words)
 {
     struct plan plan = {
-        .publishers = 1, .readers = 1, .each = 1, .topics = 1, .size = 16, .window = 32, .sends = 1,
+        .wire = &WIRE_STOMP, .publishers = 1, .readers = 1, .each = 1, .topics = 1, .size = 16, .window = 32, .sends = 1,
         .warm = 100, .measured = 500, .patience = 20000, .most = 1 << 24, .prefix = "T",
     };
     for (; *words != NULL; words++)
@@ -88,16 +93,25 @@ struct plan plan_read(char **words)
         stop("no port or no process");
     if (plan.most < plan.sends || plan.most > 1 << 24)
         stop("most");
-    if (plan.own && (plan.publishers != plan.readers || plan.publishers != plan.topics || plan.each != 1))
+    if (plan.own && (plan.publishers != plan.readers || plan.publishers * plan.each != plan.topics))
         stop("own");
+    if (plan.wire == NULL || (plan.each > 1 && !plan.wire->has_ids))
+        stop("protocol");
+    if ((plan.sends > 1 || plan.receipts) && !plan.wire->has_transactions)
+        stop("a protocol without transactions");
     if (plan.window < plan.sends)
         stop("a window below a transaction");
     return plan;
 }
 
+void plan_name(const struct plan *plan, int topic, char *name)
+{
+    snprintf(name, MOST_NAME, "/topic/%s%d", plan->prefix, topic);
+}
+
 int plan_topic(const struct plan *plan, int publisher, int64_t k)
 {
-    return plan->own ? publisher : (int)((publisher + k) % plan->topics);
+    return plan->own ? publisher * plan->each + (int)(k % plan->each) : (int)((publisher + k) % plan->topics);
 }
 
 int plan_subscribed(const struct plan *plan, int reader, int index)

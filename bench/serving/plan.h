@@ -2,18 +2,25 @@
 #ifndef PLAN_H
 #define PLAN_H
 
+#include "wire.h"
+
 #include <stdbool.h>
 #include <stdint.h>
 #include <sys/types.h>
 
-/* The k-th message of publisher p, both from 0, goes to topic (p + k) mod `topics`; with `own` to topic p. Subscription e of
- * reader r is of topic (r * each + e) mod `topics`. */
+/* The k-th message of publisher p, both from 0, goes to topic (p + k) mod `topics`; with `own` to topic p * each +
+ * k mod `each`. Subscription e of reader r is of topic (r * each + e) mod `topics`. */
 struct plan {
+    const struct wire *wire;
     int port;
     /* The processes whose time is taken, the first of them the server's. */
     pid_t process;
     int publishers, readers, each, topics;
-    /* Whether publisher i and reader i are one connection, and each publisher has a topic of its own. */
+    /* What is added to a publisher's number where it is written: another run at once, at the same topics, adds something else. */
+    int first;
+    /* Whether there is such another run: then what its publishers sent is counted, and not looked at. */
+    bool beside;
+    /* Whether publisher i and reader i are one connection, which has `each` topics of its own. */
     bool own;
     /* Octets of a body, at least 16. */
     int size;
@@ -42,6 +49,9 @@ struct plan {
 
 /* Reads words of the form NAME=VALUE. Ends the program where one is unknown or out of range. */
 struct plan plan_read(char **words);
+
+/* Writes a topic's name into MOST_NAME octets. */
+void plan_name(const struct plan *plan, int topic, char *name);
 
 /* The topic of the k-th message of a publisher, and of a reader's subscription. */
 int plan_topic(const struct plan *plan, int publisher, int64_t k);

@@ -24,16 +24,15 @@ static const char HEX[] = "0123456789abcdef";
 
 static void make_fronts(const struct plan *plan)
 {
-    char text[200];
+    char name[MOST_NAME];
     fronts = room_of((size_t)plan->topics, sizeof *fronts);
     subscribers = room_of((size_t)plan->topics, sizeof *subscribers);
     for (int topic = 0; topic < plan->topics; topic++) {
-        int size = snprintf(text, sizeof text, "SEND\ndestination:/topic/%s%d\n", plan->prefix, topic);
-        octets_put(&fronts[topic], text, (size_t)size);
+        plan_name(plan, topic, name);
+        plan->wire->put_front(&fronts[topic], name, plan->size);
         subscribers[topic] = streams_of(topic);
     }
-    int size = snprintf(text, sizeof text, "content-length:%d\n\n", plan->size);
-    octets_put(&length_line, text, (size_t)size);
+    plan->wire->put_length(&length_line, plan->size);
     for (int at = DIGITS; at < plan->size; at++)
         octets_put(&filler, &"abcdefghijklmnopqrstuvwxyz"[at % 26], 1);
 }
@@ -78,11 +77,11 @@ static void put_message(const struct plan *plan, int number, int64_t k)
     if (plan->receipts && plan->sends == 1)
         OCTETS_PUT(out, RECEIPT);
     octets_put(out, length_line.start, octets_size(&length_line));
-    put_hex(digits, (uint64_t)number, OF_PUBLISHER);
+    put_hex(digits, (uint64_t)(plan->first + number), OF_PUBLISHER);
     put_hex(digits + OF_PUBLISHER, (uint64_t)k, DIGITS - OF_PUBLISHER);
     octets_put(out, digits, DIGITS);
     octets_put(out, filler.start, octets_size(&filler));
-    octets_put(out, "", 1);
+    octets_put(out, plan->wire->behind.at, plan->wire->behind.size);
 }
 
 /* Puts a BEGIN or a COMMIT, with a header line. */
@@ -151,18 +150,27 @@ static bool is_filler(const struct plan *plan, const char *at)
     return plan->whole ? memcmp(at, filler.start, size) == 0 : at[size - 1] == filler.start[size - 1];
 }
 
-bool publishers_read(const struct plan *plan, struct text body, int *number, int64_t *k)
+/* Whether a publisher of this run has this number as it is written, and has sent this message. */
+static bool has_sent(const struct plan *plan, uint64_t publisher, uint64_t message)
 {
-    uint64_t publisher, message;
+    uint64_t first = (uint64_t)plan->first, number = publisher - first;
+    return publisher >= first && number < (uint64_t)plan->publishers && message < (uint64_t)publishers[number].sent;
+}
+
+enum whose publishers_read(const struct plan *plan, struct text body, int *number, int64_t *k)
+{
+    uint64_t publisher, message, first = (uint64_t)plan->first;
     if (body.size != (size_t)plan->size || !is_filler(plan, body.at + DIGITS))
-        return false;
+        return WHOSE_NONE;
     if (!read_hex(body.at, OF_PUBLISHER, &publisher) || !read_hex(body.at + OF_PUBLISHER, DIGITS - OF_PUBLISHER, &message))
-        return false;
-    if (publisher >= (uint64_t)plan->publishers || message >= (uint64_t)publishers[publisher].sent)
-        return false;
-    *number = (int)publisher;
+        return WHOSE_NONE;
+    if (plan->beside && (publisher < first || publisher >= first + (uint64_t)plan->publishers))
+        return WHOSE_ANOTHER;
+    if (!has_sent(plan, publisher, message))
+        return WHOSE_NONE;
+    *number = (int)(publisher - first);
     *k = (int64_t)message;
-    return true;
+    return WHOSE_OURS;
 }
 
 int64_t publishers_hear(const struct plan *plan, int number, int64_t k)

@@ -4,7 +4,6 @@
 #define PUBLISHERS_H
 
 #include "client.h"
-#include "frame.h"
 #include "plan.h"
 
 struct publisher {
@@ -31,8 +30,10 @@ void publishers_tick(const struct plan *plan, int64_t due);
 /* Puts all that a publisher may send now to what its client writes; whether that was anything. */
 bool publishers_fill(const struct plan *plan, int number, int64_t now);
 
-/* Whether a body is one that a publisher sent; whose, and which. */
-bool publishers_read(const struct plan *plan, struct text body, int *number, int64_t *k);
+enum whose { WHOSE_NONE, WHOSE_ANOTHER, WHOSE_OURS };
+
+/* Whether a body is one that a publisher of this run sent, and then which one's, and which; or one of another run beside it. */
+enum whose publishers_read(const struct plan *plan, struct text body, int *number, int64_t *k);
 
 /* A message came at one of those who are to get it; when it was sent. */
 int64_t publishers_hear(const struct plan *plan, int number, int64_t k);

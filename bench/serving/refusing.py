@@ -61,12 +61,12 @@ class Worker:
     def ask(self, frame, receipt):
         """Sends a frame, and waits for its receipt; MESSAGEs may come before it."""
         self.client.send(frame)
-        self.came += self.client.wait_for(b"RECEIPT\nreceipt-id:" + receipt + b"\n\n\0", PATIENCE)
+        self.came += self.client.wait_for(b"RECEIPT\nreceipt-id:" + receipt + b"\n\n\0\n", PATIENCE)
 
     def begin(self):
         self.client = Client(self.address, PATIENCE)
         self.client.send(b"CONNECT\naccept-version:1.2\nhost:h\nclient-id:" + self.name.encode() + b"\n\n\0")
-        self.client.wait_for(b"CONNECTED\nversion:1.2\nheart-beat:0,0\n\n\0", PATIENCE)
+        self.client.wait_for(b"CONNECTED\nversion:1.2\nheart-beat:0,0\n\n\0\n", PATIENCE)
         for number, topic in enumerate([*TOPICS, self.topic]):
             self.ask(b"SUBSCRIBE\nid:%d\ndestination:%s\nreceipt:s\n\n\0" % (number, topic.encode()), b"s")
 
@@ -90,7 +90,7 @@ class Worker:
 
     def read_until(self, word):
         """What came of the topic A, up to this body."""
-        self.came += self.client.wait_for(word + b"\0", PATIENCE)
+        self.came += self.client.wait_for(word + b"\0\n", PATIENCE)
 
     def bodies(self):
         """The bodies of the MESSAGEs to its subscription of A, in their order."""

@@ -16,11 +16,12 @@ START_SECONDS = 30
 STOP_SECONDS = 10
 
 COMMON = ["talk.c", "transactions.c", "frame.c", "message.c", "names.c", "octets.c", "listening.c", "room.c"]
+WIRES = ["wire.c", "wire_stomp.c", "wire_nats.c", "wire_mqtt.c", "wire_redis.c", "frame.c"]
 PROGRAMS = {
     "floor": ["floor.c", "floor_topics.c", "plain.c", *COMMON],
     "wrong": ["floor.c", "floor_topics.c", "wrong.c", *COMMON],
     "shape": ["shape.c", "shape_topics.c", "shape_connection.c", "bell.c", *COMMON],
-    "load": [*"load.c measured.c agree.c streams.c publishers.c client.c plan.c clock.c frame.c octets.c room.c".split()],
+    "load": [*"load.c measured.c agree.c streams.c publishers.c client.c plan.c clock.c octets.c room.c".split(), *WIRES],
 }
 FLAGS = "-std=gnu11 -O2 -Wall -Wextra -Werror -Wshadow -Wconversion -pthread".split()
 
@@ -49,7 +50,9 @@ def find_stompd(path):
 
 
 class Process:
-    """What a process takes, by its number."""
+    """What a process takes, by its number, and the protocol that it speaks."""
+
+    protocol = "stomp"
 
     def __init__(self, number):
         self.number = number
@@ -125,6 +128,16 @@ class Server(Process):
 
     def is_running(self):
         return self.child.poll() is None
+
+    def log_size(self):
+        """How many octets the log has, also of servers before this one."""
+        return os.fstat(self.log.fileno()).st_size
+
+    def log_since(self, size):
+        """What the log has behind so many octets."""
+        with open(self.log.name, "rb") as log:
+            log.seek(size)
+            return log.read()
 
     def stop(self):
         self.child.terminate()

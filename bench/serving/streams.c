@@ -18,14 +18,14 @@ static int count_of_missing;
 /* From one message of a publisher to its next one of the same topic. */
 static int64_t step(const struct plan *plan)
 {
-    return plan->own ? 1 : plan->topics;
+    return plan->own ? plan->each : plan->topics;
 }
 
 /* A publisher's first message of a topic; one that never comes where it sends nothing there. */
 static int64_t first_of(const struct plan *plan, int publisher, int topic)
 {
     if (plan->own)
-        return publisher == topic ? 0 : INT64_MAX;
+        return publisher == topic / plan->each ? topic % plan->each : INT64_MAX;
     return (topic + plan->topics - publisher % plan->topics) % plan->topics;
 }
 

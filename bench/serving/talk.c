@@ -4,7 +4,7 @@
 
 #include <stddef.h>
 
-#define CONNECTED "CONNECTED\nversion:1.2\nheart-beat:0,0\n\n"
+#define CONNECTED "CONNECTED\nversion:1.2\nheart-beat:0,0\n\n\0\n"
 
 /* Gives the SENDs of a transaction to the broker, and lets go of it. */
 static void commit(struct talk *talk, struct transaction *it)
@@ -65,7 +65,7 @@ static void hear_other(struct talk *talk, const struct frame *frame)
     } else if (TEXT_IS(frame->command, "UNSUBSCRIBE")) {
         broker_unsubscribe(talk, frame->id);
     } else if (TEXT_IS(frame->command, "CONNECT") || TEXT_IS(frame->command, "STOMP")) {
-        octets_put(&talk->out, CONNECTED, sizeof CONNECTED);
+        OCTETS_PUT(&talk->out, CONNECTED);
     } else {
         talk->is_leaving = true;
     }
@@ -82,7 +82,7 @@ static void hear_frame(struct talk *talk, const struct frame *frame, const char 
     if (frame->receipt.at != NULL) {
         OCTETS_PUT(&talk->out, "RECEIPT\nreceipt-id:");
         octets_put(&talk->out, frame->receipt.at, frame->receipt.size);
-        octets_put(&talk->out, "\n\n", 3);
+        OCTETS_PUT(&talk->out, "\n\n\0\n");
     }
 }
 

@@ -151,7 +151,7 @@ def read_after_the_last(trial, count=1000):
         it.ask(subscribe(topic))
     for at in range(count):
         sender.send(send_frame(topic, b"%s%010d" % (body, at)))
-        came += reader.wait_for(b"%010d\0" % at, 30).count(b"MESSAGE\n")
+        came += reader.wait_for(b"%010d\0\n" % at, 30).count(b"MESSAGE\n")
     took, text = time.monotonic() - begun, late.read_to_end(60)
     close_all([late, reader, sender])
     lately, number = text.count(b"MESSAGE\n"), error_of(text)

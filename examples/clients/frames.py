@@ -36,10 +36,17 @@ class Connection:
         counted = 'content-length:%d\n' % len(body) if command == 'SEND' else ''
         self.socket.sendall(('%s\n%s%s\n' % (command, head, counted)).encode() + body + b'\0')
 
+    def command(self):
+        """The next line that has something; at the end of the stream nothing. A frame may have EOLs behind its NULL."""
+        line = self.file.readline()
+        while line == b'\n':
+            line = self.file.readline()
+        return line.decode().rstrip('\n')
+
     def receive(self):
         """The next frame: its command, its headers, its body. At the end of the stream all are empty."""
         try:
-            command = self.file.readline().decode().rstrip('\n')
+            command = self.command()
             headers = {}
             for line in iter(self.file.readline, b'\n'):
                 if not line:

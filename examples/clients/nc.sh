@@ -1,7 +1,8 @@
 #!/bin/sh
 # nc (Debian: netcat-openbsd or netcat-traditional), against `stompd serve 127.0.0.1:61613 A B`.
-# What it needs: nothing. A frame ends with the octet 0, which printf writes as \0 and this shows as ^@. As long as its input
-# is open nc stays, so the sleeps leave the server time to answer; after a DISCONNECT, or an ERROR, the server closes.
+# What it needs: nothing. A frame ends with the octet 0, which printf writes as \0 and this shows as ^@; the server writes LF
+# behind it. As long as its input is open nc stays, so the sleeps leave the server time to answer; after a DISCONNECT, or an
+# ERROR, the server closes.
 port=${1:-61613}
 to=$(mktemp -d)
 trap 'rm -rf "$to"' EXIT
@@ -34,5 +35,4 @@ wait $a $b
 for who in sender A B; do
     echo "== $who"
     cat -v "$to/$who"
-    echo
 done

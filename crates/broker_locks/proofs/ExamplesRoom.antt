@@ -1,5 +1,5 @@
 -- Worked examples of what is said of room, computed.
-use Rattle.std.proofs.Common.{◌≡◌, ℕ, true, false, [], ◌∷◌, Some, None, Ok, Err, refl, sym, subst, inl, inr, arith}
+use Rattle.std.proofs.Common.{◌≡◌, ℕ, true, false, [], ◌∷◌, Some, None, Ok, Err, refl, sym, ap, subst, inl, inr, arith}
 use Rattle.std.proofs.lemmas.Bool.{true≢false}
 use Rattle.mcast_txn.specs.declared.id.Topic.{Topic}
 use Rattle.mcast_txn.specs.declared.id.TxnId.{TxnId}
@@ -10,7 +10,7 @@ use Rattle.sub_queue.specs.Shown.{Gauge}
 use Rattle.mcast_group.specs.Group.{GroupState, group_told, shows}
 use Rattle.mcast_group.specs.Machine.{Entry, Pending, new_topic}
 use Rattle.broker_locks.specs.Place.{PlaceState, new_place}
-use Rattle.broker_locks.specs.Room.{BeginsWith, HasHeard, HasRoom, IsFirstOfLacking, IsRefusedAt, KeepsRoom, RoomState, due_at, fits, group_cancelled, group_entered, is_waited_for, lacking_room}
+use Rattle.broker_locks.specs.Room.{BeginsWith, HasHeard, HasRoom, IsFirstOfLacking, IsRefusedAt, KeepsRoom, RoomState, asked_from, due_at, fits, group_cancelled, group_entered, is_waited_for, lacking_room}
 use Rattle.broker_locks.specs.Room.{more_reserved, one_given_back, one_reserved, passing_over, reserve_answer, room_after_enter, takes_more, waiting_for, waiting_without}
 use Rattle.broker_locks.specs.declared.no_room.NoRoom.TheVariants as no_room
 use Rattle.broker_locks.proofs.Hearing.{heard_told}
@@ -115,15 +115,33 @@ one_less = refl
 none_less : one_given_back (room 0) ≡ room 0
 none_less = refl
 
-is_answered : reserve_answer 4 (room 0) group ≡ Ok tt
+is_answered : reserve_answer 4 0 (room 0) group ≡ Ok tt
 is_answered = refl
 
 -- the first has no room for a third
-first_is_answered : reserve_answer 4 (room 1) group ≡ Err (Some 0)
+first_is_answered : reserve_answer 4 0 (room 1) group ≡ Err (Some 0)
 first_is_answered = refl
 
+-- from 1 on 1,024 is asked first, and then 0
+asked_second_first : asked_from 1 (0 ∷ 1024 ∷ []) ≡ 1024 ∷ 0 ∷ []
+asked_second_first = refl
+
+asked_all : asked_from 0 (0 ∷ 1024 ∷ []) ≡ 0 ∷ 1024 ∷ []
+asked_all = refl
+
+asked_none_above : asked_from 1025 (0 ∷ 1024 ∷ []) ≡ 0 ∷ 1024 ∷ []
+asked_none_above = refl
+
+-- the second has room for a third, so the first is answered all the same
+first_is_answered_then : reserve_answer 4 1 (room 1) group ≡ Err (Some 0)
+first_is_answered_then = refl
+
+-- where both lack room for one more, the second is answered
+second_is_answered : reserve_answer 4 1 (room 2) group ≡ Err (Some 1024)
+second_is_answered = refl
+
 -- a topic with room for two has none
-nobody_is_answered : reserve_answer 2 (room 1) group ≡ Err None
+nobody_is_answered : reserve_answer 2 0 (room 1) group ≡ Err None
 nobody_is_answered = refl
 
 first_lacks : lacking_room 4 group (room 1) ≡ 0 ∷ []
@@ -176,12 +194,12 @@ none_added = ([], 0 ∷ [], refl, refl)
 
 -- ---- a broker's answer
 
-refused_there : IsRefusedAt (at_topic 3 ∷ at_topic 5 ∷ []) (no_room.Full (at_topic 5) (Some 5))
-refused_there = (inr (inl refl), omega arith)
+refused_there : IsRefusedAt (at_topic 5) (no_room.Full (at_topic 5) (Some 5))
+refused_there = (refl, omega arith)
 
--- not at a topic that wasn't named
-refused_nowhere : IsRefusedAt [] (no_room.Full (at_topic 5) None) → Prim.⊥
-refused_nowhere h = h.0
+-- not at another topic
+refused_elsewhere : IsRefusedAt (at_topic 3) (no_room.Full (at_topic 5) None) → Prim.⊥
+refused_elsewhere h = (let is : 5 ≡ 3 = ap (λ (t : Topic). t.0) h.0 in omega (arith, is))
 
 -- ---- what keeps room
 

@@ -18,5 +18,6 @@ pub mod Hearing
 pub mod Waiting
 pub mod Roomy
 pub mod RoomKept
+pub mod Reserving
 mod Examples
 mod ExamplesRoom

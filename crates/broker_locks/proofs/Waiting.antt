@@ -1,22 +1,23 @@
 -- Whoever is waited for: numbers that rise, of which each is asked in its turn.
-use Rattle.std.proofs.Common.{◌≡◌, ◌≢◌, ℕ, zero, suc, ◌+◌, ◌<◌, ◌≤◌, ◌==◌, nat_lt, not, ◌&&◌, Bool, true, false, cond, inl, inr, ◌⊎◌, List, [], ◌∷◌, ◌++◌, length, take, drop, get_or, Option, Some, None, refl, sym, ap, subst, ◌∙◌, append-nil, append_assoc, min, IfSome, IfNone, Result, Ok, Err, OnErr, ◌||◌, arith}
+use Rattle.std.proofs.Common.{◌≡◌, ◌≢◌, ℕ, zero, suc, ◌+◌, ◌<◌, ◌≤◌, ◌==◌, nat_lt, not, ◌&&◌, Bool, true, false, cond, inl, inr, ◌⊎◌, List, [], ◌∷◌, ◌++◌, length, take, drop, get_or, Option, Some, None, refl, sym, ap, subst, ◌∙◌, append-nil, append_assoc, min, IfSome, IfNone, Result, Ok, Err, IfOk, IfErr, OnOk, OnErr, ◌||◌, arith}
 use Rattle.std.specs.List.{AllByRecursion, filter, find, list_any}
 use Rattle.std.proofs.lemmas.Bool.{eq-eqb, eqb-true, ne_eqb, true≢false}
 use Rattle.std.proofs.lemmas.Bool.Decides.{nat_tests}
 use Rattle.std.proofs.lemmas.List.{get_or-drop, take-append-drop, take_all}
 use Rattle.std.proofs.lemmas.List.Elements.{filter-append, filter_more}
 use Rattle.std.proofs.lemmas.List.Filters.{FiltersInPlace}
+use Rattle.std.proofs.lemmas.List.Folds.{find-append}
 use Rattle.std.specs.List.{insert}
-use Rattle.std.specs.Option.{is_some, option_map_or}
+use Rattle.std.specs.Option.{is_some, option_map_or, option_or}
 use Rattle.std.specs.Result.{is_ok}
 use Rattle.sub_queue.specs.Shown.{Shown}
 use Rattle.mcast_txn.specs.Lists.{In, RisesBy}
 use Rattle.mcast_txn.proofs.Inserting.{puts_in_gap, rises_inserted}
-use Rattle.mcast_txn.proofs.Members.{In-get_or, any_found, any_from, filter_all, filter_same}
-use Rattle.mcast_txn.proofs.Rising.{Finds, IsAt, IsGap, none_in_gap}
+use Rattle.mcast_txn.proofs.Members.{In-filter_cases, In-get_or, any_found, any_from, filter_all, filter_same}
+use Rattle.mcast_txn.proofs.Rising.{Finds, IsAt, IsGap, below_later, none_in_gap}
 use Rattle.mcast_group.specs.Group.{GroupState, IsTold}
 use Rattle.broker_locks.specs.Place.{PlaceState}
-use Rattle.broker_locks.specs.Room.{HasHeard, IsPushed, RoomState, due_at, fits, is_waited_for, lacking_room, reserve_answer, room_after_enter, takes_more, waiting_for}
+use Rattle.broker_locks.specs.Room.{HasHeard, IsPushed, RoomState, asked_from, due_at, fits, is_waited_for, lacking_room, reserve_answer, room_after_enter, takes_more, waiting_for}
 use Rattle.broker_locks.specs.Inner.Waited.{HaveSpare, waited_number}
 use Rattle.broker_locks.proofs.Hearing.{fits_less, fits_more}
 use Rattle.broker_locks.proofs.Lookups.{shown_beside}
@@ -145,13 +146,130 @@ pub spare_says : (due n : ℕ) (g : GroupState) (o : Option ℕ) → IfSome o (�
 spare_says due n g None some none = sym none
 spare_says due n g (Some more) some none = let fewer : due ≤ due + more = omega arith in sym (fits_less due (due + more) g n fewer some)
 
+-- ---- the order in which they are asked
+
+-- what is in two lists is in the one or in the other
+in_both : (n : ℕ) (xs ys : List ℕ) → In n (xs ++ ys) → In n xs ⊎ In n ys
+in_both n [] ys m = inr m
+in_both n (x ∷ xs) ys (inl e) = inl (inl e)
+in_both n (x ∷ xs) ys (inr m) = elim (in_both n xs ys m) [ inl k ↦ inl (inr k) | inr k ↦ inr k ]
+
+-- who is asked is waited for
+asked_waited : (start : ℕ) (xs : List ℕ) (n : ℕ) → In n (asked_from start xs) → In n xs
+asked_waited start xs n m =
+    elim (in_both n (filter (λ k. not (nat_lt k start)) xs) (filter (λ k. nat_lt k start) xs) m) [
+      | inl k ↦ (In-filter_cases (λ k. not (nat_lt k start)) n xs k).stands
+      | inr k ↦ (In-filter_cases (λ k. nat_lt k start) n xs k).stands
+    ]
+
+-- those from this number on, and those below it
+pub record AskedParts (start : ℕ) (xs : List ℕ) (i : ℕ) : Type 0 where
+  pub above : filter (λ n. not (nat_lt n start)) xs ≡ drop i xs
+  pub below : filter (λ n. nat_lt n start) xs ≡ take i xs
+
+asked_parts : (start : ℕ) (xs : List ℕ) (i : ℕ) → ((j d : ℕ) → j < i → j < length xs → get_or xs j d < start) → ((j d : ℕ) → i ≤ j → j < length xs → start ≤ get_or xs j d) → AskedParts start xs i
+asked_parts start [] zero low high = record { above = refl; below = refl }
+asked_parts start [] (suc i) low high = record { above = refl; below = refl }
+asked_parts start (x ∷ xs) zero low high =
+    let is : nat_lt x start ≡ false = not_below x start (high 0 x (omega arith) (omega arith)) in
+    let ih = asked_parts start xs zero (λ j d h l. absurd (omega (arith, h))) (λ j d h l. high (suc j) d (omega arith) (omega (arith, l))) in
+    record { above = rw (is, ih.above) refl; below = rw (is, ih.below) refl }
+  where
+    not_below : (a b : ℕ) → b ≤ a → nat_lt a b ≡ false
+    not_below a b le = grind (arith, nat_tests)
+asked_parts start (x ∷ xs) (suc i) low high =
+    let is : nat_lt x start ≡ true = is_below x start (low 0 x (omega arith) (omega arith)) in
+    let ih = asked_parts start xs i (λ j d h l. low (suc j) d (omega (arith, h)) (omega (arith, l))) (λ j d h l. high (suc j) d (omega (arith, h)) (omega (arith, l))) in
+    record { above = rw (is, ih.above) refl; below = rw (is, ih.below) refl }
+  where
+    is_below : (a b : ℕ) → a < b → nat_lt a b ≡ true
+    is_below a b less = grind (arith, nat_tests)
+
+asked_of : (start : ℕ) (xs : List ℕ) (i : ℕ) → AskedParts start xs i → asked_from start xs ≡ drop i xs ++ take i xs
+asked_of start xs i parts = rw (parts.above, parts.below) refl
+
+-- where the number is waited for
+pub asked_at : (start : ℕ) (xs : List ℕ) (i : ℕ) → RisesBy waited_number xs → IsAt waited_number xs start i → asked_from start xs ≡ drop i xs ++ take i xs
+asked_at start xs i rises at =
+    asked_of start xs i (asked_parts start xs i
+    (λ j d h l. subst (λ (k : ℕ). get_or xs j d < k) (at.has_key d) (below_later waited_number xs j i d rises h at.in_range))
+    (λ j d h l. elim (nat_cases i j h) [
+      | inl e ↦ subst (λ (q : ℕ). start ≤ get_or xs q d) e (subst (λ (k : ℕ). start ≤ k) (sym (at.has_key d)) (omega arith))
+      | inr less ↦ (let later = below_later waited_number xs i j d rises less l in
+          let here : get_or xs i d ≡ start = at.has_key d in omega (arith, later, here))
+    ]))
+  where
+    nat_cases : (a b : ℕ) → a ≤ b → (a ≡ b) ⊎ (a < b)
+    nat_cases zero zero le = inl refl
+    nat_cases zero (suc b) le = inr (omega arith)
+    nat_cases (suc a) zero le = absurd (omega (arith, le))
+    nat_cases (suc a) (suc b) le = elim (nat_cases a b (omega (arith, le))) [ inl e ↦ inl (ap suc e) | inr less ↦ inr (omega (arith, less)) ]
+
+-- where it isn't
+pub asked_gap : (start : ℕ) (xs : List ℕ) (i : ℕ) → IsGap waited_number xs start i → asked_from start xs ≡ drop i xs ++ take i xs
+asked_gap start xs i gap =
+    asked_of start xs i (asked_parts start xs i (λ j d h l. gap.below j d h) (λ j d h l. (let up = gap.above j d h l in omega (arith, up))))
+
+-- two parts were asked, one after the other
+module _ (due start i least : ℕ) (xs : List ℕ) (mid new : PlaceState) (heard : HasHeard mid new) (is : asked_from start xs ≡ drop i xs ++ take i xs) (first : (n : ℕ) → In n (drop i xs) → fits (due + least) mid.cells.group n ≡ true) where
+  still : (less : ℕ) → less ≤ least → (n : ℕ) → In n (drop i xs) → fits (due + less) new.cells.group n ≡ true
+  still less le n m =
+      let fewer : due + less ≤ due + least = omega (arith, le) in
+      fits_more (due + less) n mid.cells.group new.cells.group (heard.each n) (fits_less (due + less) (due + least) mid.cells.group n fewer (first n m))
+
+  -- each has the least spare
+  pub both_asked : (less : ℕ) → less ≤ least → ((n : ℕ) → In n (take i xs) → fits (due + less) new.cells.group n ≡ true) → (n : ℕ) → In n xs → fits (due + less) new.cells.group n ≡ true
+  both_asked less le then n m =
+      elim (in_both n (take i xs) (drop i xs) (subst (In n) (sym (take-append-drop i xs)) m)) [ inl k ↦ then n k | inr k ↦ still less le n k ]
+
+  -- nobody lacks room
+  pub both_none : (less : ℕ) → less ≤ least → ((n : ℕ) → In n (take i xs) → fits (due + less) new.cells.group n ≡ true) → find (λ n. not (fits due new.cells.group n)) (asked_from start xs) ≡ None
+  both_none less le then =
+      let fewer : due ≤ due + less = omega arith in
+      found_none (λ n. not (fits due new.cells.group n)) (asked_from start xs) (λ n m. ap not (fits_less due (due + less) new.cells.group n fewer (both_asked less le then n (asked_waited start xs n m))))
+
+  -- the first who lacks it is one of those below
+  pub below_first : (o : Option ℕ) → find (λ n. not (fits due new.cells.group n)) (take i xs) ≡ o → find (λ n. not (fits due new.cells.group n)) (asked_from start xs) ≡ o
+  below_first o found =
+      let fewer : due ≤ due + 0 = omega arith in
+      let none : find (λ n. not (fits due new.cells.group n)) (drop i xs) ≡ None = found_none (λ n. not (fits due new.cells.group n)) (drop i xs) (λ n m. ap not (fits_less due (due + 0) new.cells.group n fewer (still 0 (omega arith) n m))) in
+      ap (find (λ n. not (fits due new.cells.group n))) is ∙ (find-append (λ n. not (fits due new.cells.group n)) (drop i xs) (take i xs) ∙ (ap (λ (f : Option ℕ). option_or f (find (λ n. not (fits due new.cells.group n)) (take i xs))) none ∙ found))
+
+-- the first who lacks it is one of those from the number on
+pub above_first : (p : ℕ → Bool) (start i number : ℕ) (xs : List ℕ) → asked_from start xs ≡ drop i xs ++ take i xs → find p (drop i xs) ≡ Some number → find p (asked_from start xs) ≡ Some number
+above_first p start i number xs is found =
+    ap (find p) is ∙ (find-append p (drop i xs) (take i xs) ∙ ap (λ (f : Option ℕ). option_or f (find p (take i xs))) found)
+
+-- what follows from two facts of the value
+pub ok_both : {A B : Type 0} {P Q S : A → Type 0} (r : Result A B) → ((a : A) → P a → Q a → S a) → IfOk r P → IfOk r Q → IfOk r S
+ok_both (Ok a) f p q = f a p q
+ok_both (Err e) f p q = tt
+
+pub ok_both_on : {A B S : Type 0} {P Q : A → Type 0} (r : Result A B) → ((a : A) → P a → Q a → S) → IfOk r P → IfOk r Q → OnOk r S
+ok_both_on (Ok a) f p q = f a p q
+ok_both_on (Err e) f p q = tt
+
+pub err_one : {A B : Type 0} {P S : B → Type 0} (r : Result A B) → ((b : B) → P b → S b) → IfErr r P → IfErr r S
+err_one (Ok a) f p = tt
+err_one (Err e) f p = f e p
+
 -- a reservation of the spare is allowed
-pub spare_answers : (capacity spare : ℕ) (state : RoomState) (g : GroupState) → due_at state g < capacity → 0 < spare → HaveSpare spare state g → Ok tt ≡ reserve_answer capacity state g
-spare_answers capacity spare state g less some have =
+pub spare_answers : (capacity start spare : ℕ) (state : RoomState) (g : GroupState) → due_at state g < capacity → 0 < spare → HaveSpare spare state g → Ok tt ≡ reserve_answer capacity start state g
+spare_answers capacity start spare state g less some have =
     let fewer : due_at state g + 1 ≤ due_at state g + spare = omega (arith, some) in
-    let nobody = found_none (λ n. not (fits (due_at state g + 1) g n)) state.waited (λ n m. ap not (fits_less (due_at state g + 1) (due_at state g + spare) g n fewer (have n m))) in
+    let nobody = found_none (λ n. not (fits (due_at state g + 1) g n)) (asked_from start state.waited) (λ n m. ap not (fits_less (due_at state g + 1) (due_at state g + spare) g n fewer (have n (asked_waited start state.waited n m)))) in
     let many : nat_lt (due_at state g) capacity ≡ true = grind (arith, nat_tests) in
     rw (many, nobody) refl
+
+-- a reservation is refused by the first who lacks room
+pub first_refuses : (capacity start due number : ℕ) (state : RoomState) (g : GroupState) → due ≡ due_at state g → due < capacity → find (λ n. not (fits (due + 1) g n)) (asked_from start state.waited) ≡ Some number → Err (Some number) ≡ reserve_answer capacity start state g
+first_refuses capacity start due number state g is less found =
+    let here : find (λ n. not (fits (due_at state g + 1) g n)) (asked_from start state.waited) ≡ Some number = subst (λ (k : ℕ). find (λ n. not (fits (k + 1) g n)) (asked_from start state.waited) ≡ Some number) is found in
+    let many : nat_lt (due_at state g) capacity ≡ true = is_less (due_at state g) (subst (λ (k : ℕ). k < capacity) is less) in
+    rw (many, here) refl
+  where
+    is_less : (k : ℕ) → k < capacity → nat_lt k capacity ≡ true
+    is_less k h = grind (arith, nat_tests)
 
 -- where all have room, nobody is passed over
 pub spare_passes : (with_reserved : Bool) (state : RoomState) (g : GroupState) → (with_reserved && nat_lt 0 state.reserved) ≡ false → HaveSpare 0 state g → state ≡ room_after_enter with_reserved g state

@@ -90,13 +90,18 @@ more_reserved more state = record state { reserved = state.reserved + more }
 abbrev pub one_given_back : RoomState → RoomState
 one_given_back state = record state { reserved = state.reserved - 1 }
 
+-- The order in which those who are waited for are asked: by rising number from this one on, and then those
+-- below it. So from 5 on, of 0, 5 and 7 first 5, then 7 and 0.
+abbrev pub asked_from : ℕ → List ℕ → List ℕ
+asked_from start waited = filter (λ number. not (nat_lt number start)) waited ++ filter (λ number. nat_lt number start) waited
+
 -- Whether one part more may be reserved, where a topic has room for so many: not where as many are due; and
 -- not where one that is waited for has no room for all that are due and one more, of which the first is
--- answered. So at capacity 4 with 4 parts due nobody is answered, whoever is waited for.
-abbrev pub reserve_answer : ℕ → RoomState → GroupState → Result Unit (Option ℕ)
-reserve_answer capacity state g =
+-- answered, from this number on. So at capacity 4 with 4 parts due nobody is answered, whoever is waited for.
+abbrev pub reserve_answer : ℕ → ℕ → RoomState → GroupState → Result Unit (Option ℕ)
+reserve_answer capacity start state g =
     if nat_lt (due_at state g) capacity
-    then elim (find (λ number. not (fits (due_at state g + 1) g number)) state.waited) [
+    then elim (find (λ number. not (fits (due_at state g + 1) g number)) (asked_from start state.waited)) [
       | None ↦ Ok tt
       | Some number ↦ Err (Some number)
     ]
@@ -148,11 +153,11 @@ IsFirstOfLacking capacity g state = IsPushed (lacking_room capacity g state)
 
 -- ---- a broker's answer
 
--- No room was reserved at these topics: at one of them there is none, which has a lock; or there was no
--- memory for the list of them.
-abbrev pub IsRefusedAt : List Topic → NoRoom → Type 0
-IsRefusedAt topics (no_room.Full topic sub) = In topic topics × (topic.0 < max_topics)
-IsRefusedAt topics no_room.NoMemory = Unit {0}
+-- No room was reserved at this topic: it has a lock, and there is none; or there was no memory for the list of
+-- the topics.
+abbrev pub IsRefusedAt : Topic → NoRoom → Type 0
+IsRefusedAt asked (no_room.Full topic sub) = (topic ≡ asked) × (topic.0 < max_topics)
+IsRefusedAt asked no_room.NoMemory = Unit {0}
 
 -- ---- what keeps room
 

@@ -1,6 +1,6 @@
 //! A broker's topics, each behind a lock of its own.
 
-ghost use Rattle.std.specs.Prelude.{◌≡◌, ◌≤◌, ◌<◌, ◌+◌, ◌*◌, ℕ, List, [], false, length, map, vec_len, None, Ok, Err, IfOk, IfErr, OnOk, OnErr, IsErr};
+ghost use Rattle.std.specs.Prelude.{◌≡◌, ◌≤◌, ◌<◌, ◌+◌, ◌*◌, ◌∷◌, ◌++◌, ℕ, List, [], false, length, map, take, vec_len, None, Ok, Err, IfOk, IfErr, OnOk, OnErr, IsErr};
 ghost use Rattle.std.specs.Option.{option_map};
 ghost use Rattle.crossbeam_utils.specs.Padded.{padded_value};
 ghost use Rattle.delivery.specs.Topics.{max_topics};
@@ -272,40 +272,65 @@ impl<R: Wait, W: Side, T: Side> Broker<R, W, T> {
         self.lock_of(topic)?.lock(rt).place.state(sub)
     }
 
-    /// Room for one part at each of these topics, or at none of them: it is taken topic by topic in this order, each
-    /// lock by itself, and at the first topic that has none what was taken is given back. Nobody is refused before those
-    /// that are waited for were asked what was taken. A topic without a lock has room. The list is made before the first
-    /// lock, so that out of memory nothing was taken.
-    pub fn reserve(&self, rt: &R, topics: &[Topic]) -> Result<Reserved, NoRoom>
-        ensures topics { IfOk result (λ reserved. reserved ≡ topics.now) }
-        ensures refused { IfErr result (IsRefusedAt topics.now) }
+    /// Room at no topic, to which `reserve_at` adds. It takes no lock and no memory.
+    pub fn no_room(&self) -> Reserved
+        ensures { result ≡ [] }
     {
-        let Ok(reserved) = Reserved::at(self.alloc, topics) else {
+        Reserved::none(self.alloc)
+    }
+
+    /// Room for one part more, at this topic, behind what is reserved. Refused where the topic has none: as many parts are
+    /// pending and reserved there as a queue has places, or one that is waited for lacks room, of whom the first is named
+    /// by number `start` and above, and then below it. Nobody is refused before those that are waited for were asked what
+    /// was taken. A topic without a lock has room. Where it is refused nothing was taken; memory for the list is made
+    /// before the lock.
+    #[inline(always)]
+    pub fn reserve_at(
+        &self,
+        rt: &R,
+        topic: Topic,
+        start: u64,
+        reserved: &mut Reserved,
+    ) -> Result<(), NoRoom>
+        ensures ok { OnOk result (reserved.new ≡ reserved.old ++ topic ∷ []) }
+        ensures err { OnErr result (reserved.new ≡ reserved.old) }
+        ensures refused { IfErr result (IsRefusedAt topic) }
+    {
+        let kept = reserved.topics().len();
+        let Ok(()) = reserved.push(topic) else {
             return Err(NoRoom::NoMemory);
         };
-        for k in 0..topics.len() {
-            let topic = topics[k];
-            if let Err(sub) = self.reserve_at(rt, topic) {
-                self.give_back_at(rt, &topics[..k]);
-                reserved.close();
-                return Err(NoRoom::Full { topic, sub });
+        match self.one_reserved(rt, topic, start) {
+            Ok(()) => Ok(()),
+            Err(sub) => {
+                reserved.truncate(kept);
+                Err(NoRoom::Full { topic, sub })
             }
         }
-        Ok(reserved)
+    }
+
+    /// Gives back what is reserved behind the first so many topics.
+    pub fn release_behind(&self, rt: &R, reserved: &mut Reserved, kept: usize)
+        ensures { reserved.new ≡ take kept reserved.old }
+    {
+        self.give_back_at(rt, reserved.behind(kept));
+        reserved.truncate(kept);
     }
 
     /// Gives all of it back.
+    #[inline(always)]
     pub fn release_room(&self, rt: &R, reserved: Reserved) {
         self.give_back_at(rt, reserved.topics());
         reserved.close();
     }
 
     /// Reserves room for one part at the topic. Refused as `NoRoom::Full` says.
-    fn reserve_at(&self, rt: &R, topic: Topic) -> Result<(), Option<u64>>
+    #[inline(always)]
+    fn one_reserved(&self, rt: &R, topic: Topic, start: u64) -> Result<(), Option<u64>>
         ensures { OnErr result (topic.0 < max_topics) }
     {
         match self.lock_of(topic) {
-            Some(lock) => lock.lock(rt).reserve(rt, self.capacity),
+            Some(lock) => lock.lock(rt).reserve(rt, self.capacity, start),
             None => Ok(()),
         }
     }

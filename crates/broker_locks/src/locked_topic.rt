@@ -249,15 +249,16 @@ impl<R: Wait, T: Side> LockedTopic<R, T> {
     }
 
     /// Reserves room for one part more, where a topic has room for so many. Refused by the first of the subscriptions
-    /// that are waited for whose queue lacks room, or by none where as many parts are pending and reserved.
-    pub(crate) fn reserve(&mut self, rt: &R, capacity: usize) -> Result<(), Option<u64>>
+    /// that are waited for whose queue lacks room, from the number `start` on and then of those below it, or by none where
+    /// as many parts are pending and reserved.
+    pub(crate) fn reserve(&mut self, rt: &R, capacity: usize, start: u64) -> Result<(), Option<u64>>
         ensures heard { HasHeard self.old.place self.new.place }
-        ensures answer { result ≡ reserve_answer capacity self.old.room self.new.place.cells.group }
+        ensures answer { result ≡ reserve_answer capacity start self.old.room self.new.place.cells.group }
         ensures ok { OnOk result (self.new.room ≡ one_reserved self.old.room) }
         ensures err { OnErr result (self.new.room ≡ self.old.room) }
     {
         self.room
-            .reserve(rt, capacity, &mut self.place, &mut self.spare)
+            .reserve(rt, capacity, start, &mut self.place, &mut self.spare)
     }
 
     /// Gives back what was reserved for one part, where it is reserved.

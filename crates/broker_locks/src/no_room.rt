@@ -6,7 +6,7 @@ ghost use Rattle.broker_locks.specs.Faults.{no_room_number, no_room_title};
 use mcast_txn::Topic;
 use thiserror::Error;
 
-/// Why no room is reserved at topics: then it is reserved at none of them.
+/// Why no room is reserved at a topic.
 #[derive(Clone, Copy, Debug, PartialEq, Eq, Error)]
 pub enum NoRoom {
     /// 104: this topic has none. `sub` is the first of the subscriptions that are waited for there whose queue lacks

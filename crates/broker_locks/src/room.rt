@@ -1,12 +1,12 @@
 //! Room that is reserved at a topic, and who is waited for there.
 
-ghost use Rattle.std.specs.Prelude.{◌≡◌, ◌≤◌, ◌<◌, ◌+◌, ◌++◌, ◌==◌, ◌&&◌, nat_lt, ℕ, [], true, false, filter, not, Some, None, IfOk, IfErr, IfSome, IfNone, OnOk, OnErr};
+ghost use Rattle.std.specs.Prelude.{◌≡◌, ◌≤◌, ◌<◌, ◌+◌, ◌++◌, ◌==◌, ◌&&◌, nat_lt, ℕ, [], true, false, filter, not, Some, None, IfOk, IfErr, IfSome, IfNone, OnOk, OnErr, drop, take, length};
 ghost use Rattle.std.specs.List.{find, list_any};
 ghost use Rattle.mcast_txn.proofs.Rising.{Finds, IsGap};
 ghost use Rattle.mcast_txn.specs.Lists.{In, RisesBy};
 ghost use Rattle.mcast_group.specs.Group.{IsTold};
 ghost use Rattle.broker_locks.specs.Inner.Waited.{HaveSpare, spare_after_enter, waited_number};
-ghost use Rattle.broker_locks.specs.Room.{HasHeard, HasRoom, IsFirstOfLacking, IsPushed, due_at, fits, is_waited_for};
+ghost use Rattle.broker_locks.specs.Room.{HasHeard, HasRoom, IsFirstOfLacking, IsPushed, asked_from, due_at, fits, is_waited_for};
 ghost use Rattle.broker_locks.specs.Room.{lacking_room, one_given_back, one_reserved, passing_over, reserve_answer, room_after_enter, waiting_for, waiting_without};
 
 use crate::place::Place;
@@ -69,18 +69,20 @@ impl Room {
     }
 
     /// Reserves room for one part more, where a topic has room for so many. `spare` is how many items more than parts
-    /// are due each that is waited for takes at least: where it is 0, they are asked what was taken, and it is found
-    /// anew. Refused by the first of them that lacks room, or by none where as many are due.
+    /// are due each that is waited for takes at least: where it is 0, they are asked what was taken, from the number
+    /// `start` on and then those below it, and it is found anew. Refused by the first of them that lacks room, or by
+    /// none where as many are due.
     pub(crate) fn reserve<R: Wait>(
         &mut self,
         rt: &R,
         capacity: usize,
+        start: u64,
         place: &mut Place<R>,
         spare: &mut u64,
     ) -> Result<(), Option<u64>>
         requires { HaveSpare spare.old self.old place.old.cells.group }
         ensures heard { HasHeard place.old place.new }
-        ensures answer { result ≡ reserve_answer capacity self.old place.new.cells.group }
+        ensures answer { result ≡ reserve_answer capacity start self.old place.new.cells.group }
         ensures ok { OnOk result (self.new ≡ one_reserved self.old) }
         ensures spare { OnOk result (HaveSpare spare.new self.new place.new.cells.group) }
         ensures err { OnErr result (self.new ≡ self.old) }
@@ -95,7 +97,7 @@ impl Room {
             self.reserved += 1;
             return Ok(());
         }
-        match least_spare(rt, due + 1, &self.waited, place) {
+        match least_spare(rt, due + 1, start, &self.waited, place) {
             Ok(least) => {
                 *spare = least;
                 self.reserved += 1;
@@ -318,17 +320,59 @@ fn takes<R: Wait>(rt: &R, due: u128, number: u64, place: &mut Place<R>) -> bool
     spare_of(rt, due, number, place).is_some()
 }
 
-/// How many items more than these each of these subscriptions takes at least; or the first of them that doesn't take
-/// these.
-fn least_spare<R: Wait>(rt: &R, due: u128, waited: &[u64], place: &mut Place<R>) -> Result<u64, u64>
+/// The index of the first of these subscriptions whose number is this one or above.
+fn first_from(waited: &[u64], start: u64) -> usize
+    requires { RisesBy waited_number waited.now }
+    ensures within { result ≤ length waited.now }
+    ensures parts { asked_from start waited.now ≡ drop result waited.now ++ take result waited.now }
+{
+    match waited.binary_search_by_key(&start, |other| *other) {
+        Ok(index) => index,
+        Err(index) => index,
+    }
+}
+
+/// How many items more than these each of these subscriptions takes at least; or the first that doesn't take these, from
+/// the number `start` on and then of those below it.
+fn least_spare<R: Wait>(
+    rt: &R,
+    due: u128,
+    start: u64,
+    waited: &[u64],
+    place: &mut Place<R>,
+) -> Result<u64, u64>
+    requires { RisesBy waited_number waited.now }
     ensures heard { HasHeard place.old place.new }
+    ensures each { IfOk result (λ least. (n : ℕ) → In n waited.now
+        → fits (due + least) place.new.cells.group n ≡ true) }
+    ensures none { OnOk result
+        (find (λ n. not (fits due place.new.cells.group n)) (asked_from start waited.now) ≡ None) }
+    ensures first { IfErr result (λ number.
+        find (λ n. not (fits due place.new.cells.group n)) (asked_from start waited.now) ≡ Some number) }
+{
+    let (below, above) = waited.split_at(first_from(waited, start));
+    let least = least_among(rt, due, u64::MAX, above, place)?;
+    least_among(rt, due, least, below, place)
+}
+
+/// How many items more than these each of these subscriptions takes at least, or this number where it is less; or the
+/// first of them that doesn't take these.
+fn least_among<R: Wait>(
+    rt: &R,
+    due: u128,
+    most: u64,
+    waited: &[u64],
+    place: &mut Place<R>,
+) -> Result<u64, u64>
+    ensures heard { HasHeard place.old place.new }
+    ensures at_most { IfOk result (λ least. least ≤ most) }
     ensures each { IfOk result (λ least. (n : ℕ) → In n waited.now
         → fits (due + least) place.new.cells.group n ≡ true) }
     ensures none { OnOk result (find (λ n. not (fits due place.new.cells.group n)) waited.now ≡ None) }
     ensures first { IfErr result
         (λ number. find (λ n. not (fits due place.new.cells.group n)) waited.now ≡ Some number) }
 {
-    let mut least = u64::MAX;
+    let mut least = most;
     for &number in waited {
         match spare_of(rt, due, number, place) {
             Some(more) => least = least.min(more),

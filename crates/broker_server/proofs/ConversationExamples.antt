@@ -2,12 +2,14 @@
 use Rattle.std.proofs.Common.{◌≡◌, ℕ, ◌≤◌, true, false, List, [], ◌∷◌, ◌++◌, length, map, codes, Option, Some, None, Ok, inl, inr, refl, ap, ◌∙◌, arith}
 use Rattle.mcast_txn.specs.declared.stamp.Stamp.{Stamp}
 use Rattle.sender_gate.specs.Gate.{FlightState, GateState, gate_after}
+use Rattle.stomp_frame.specs.ServerFrames.{receipt_frame}
 use Rattle.broker_server.specs.declared.conversation.conversation_fault.ConversationFault.{ConversationFault}
 use Rattle.broker_server.specs.declared.conversation.drained.Taking.TheVariants.{Emptied, Stopped, Failed}
 use Rattle.broker_server.specs.BrokerRows.{AsksLag, GivesBack, IsGateAfter, SubName, Takes, Unsubscribes}
 use Rattle.broker_server.specs.Conversations.{ConversationState, EndsSub, OpenSubState, begun_sub, closing_rows, gate_rows, next_without}
 use Rattle.broker_server.specs.Delivering.{Drains, DrainsAll, DrainsQueues, IsLag, begins_at, full_wire}
 use Rattle.broker_server.specs.Judging.{Grows}
+use Rattle.broker_server.specs.Wires.{spelling_with_eol}
 
 -- the subscription of this number at topic 0
 abbrev named : ℕ → SubName
@@ -42,6 +44,12 @@ leaves s gate two has =
 -- the gate that a flight leaves, whatever floor it comes to
 pub flight_leaves : (flight : FlightState) (floor : Stamp) → IsGateAfter flight (gate_after flight floor)
 flight_leaves flight floor = (floor, refl)
+
+-- ---- what is written
+
+-- the RECEIPT of `r`: behind its NULL stands LF
+pub a_receipt_with_its_eol : spelling_with_eol (receipt_frame (codes "r")) ≡ codes "RECEIPT\nreceipt-id:r\n\n\0\n"
+a_receipt_with_its_eol = refl
 
 -- ---- queues
 

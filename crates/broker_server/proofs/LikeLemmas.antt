@@ -8,7 +8,6 @@ use Rattle.stomp_frame.specs.declared.raw_frame.RawFrame.{RawFrame}
 use Rattle.stomp_frame.specs.Cases.{case_fault}
 use Rattle.stomp_frame.specs.Reader.{NextReturns, with_piece}
 use Rattle.stomp_frame.specs.Receipts.{receipt_of}
-use Rattle.stomp_frame.specs.Writing.{spelling_of}
 use Rattle.stomp_session.specs.declared.action.Action.{Action}
 use Rattle.stomp_session.specs.declared.action.Action.TheVariants as actions
 use Rattle.stomp_session.specs.declared.action.Step.{Step}
@@ -23,6 +22,7 @@ use Rattle.broker_server.specs.Conversations.{Acts, Answers, Concludes, Conversa
 use Rattle.broker_server.specs.Hearing.{AcceptsFrame, DeniesFrame, Hears, IsNewTo, JudgesFrame, Listens, Looks, ReadingFails, RefusesFrame, Rests, TakesAll, TakesFrame, TakesFrames}
 use Rattle.broker_server.specs.Judging.{IsFrameAccepted, IsFrameRefused}
 use Rattle.broker_server.specs.Waiting.{but_items, untaken}
+use Rattle.broker_server.specs.Wires.{spelling_with_eol}
 
 -- they differ by what was delivered to them alone
 abbrev pub Like : ConversationState → ConversationState → Type 0
@@ -68,7 +68,7 @@ closed_like why a b e = ap (closed why) e
 ends_like : (why : ConversationFault) (receipt : Option (List ℕ)) (a new b : ConversationState) → Like a b → EndsByError why receipt a new → SoOfLike new (EndsByError why receipt b)
 ends_like why receipt a new b e (inl puts) =
     let left = closed (exit.Error why) b in
-    (record left { wire = left.wire ++ flat_map spelling_of (told_error why receipt ∷ []) }, inl refl, ap but_items puts ∙ closed_like (exit.Error why) a b e)
+    (record left { wire = left.wire ++ flat_map spelling_with_eol (told_error why receipt ∷ []) }, inl refl, ap but_items puts ∙ closed_like (exit.Error why) a b e)
 ends_like why receipt a new b e (inr cut) =
     (record (closed (exit.Error why) b) { cut = true }, inr refl, ap but_items cut ∙ ap (λ (s : ConversationState). record s { cut = true }) (closed_like (exit.Error why) a b e))
 
@@ -128,7 +128,7 @@ performs_like actions.Disconnect a asked done new b e (called, ok, is) =
 
 answers_like : (frames : List RawFrame) (a : ConversationState) (asked : List BrokerRow) (new b : ConversationState) → Like a b → Answers frames a asked new → SoOfLike new (Answers frames b asked)
 answers_like frames a asked new b e (inl (none, is)) =
-    (record b { wire = b.wire ++ flat_map spelling_of frames }, inl (none, refl), ap but_items is ∙ e)
+    (record b { wire = b.wire ++ flat_map spelling_with_eol frames }, inl (none, refl), ap but_items is ∙ e)
 answers_like frames a asked new b e (inr (inl (any, called, open_yet, ends))) =
     let other = ends_like fault.NoReply None a new b e ends in
     (other.0, inr (inl (any, called ∙ closing_like a b e, sym (ap (λ (s : ConversationState). s.exit) e) ∙ open_yet, other.1)), other.2)

@@ -2,12 +2,13 @@
 use Rattle.std.proofs.Common.{◌≡◌, ℕ, ◌*◌, true, false, List, [], ◌∷◌, Some, None, refl, arith}
 use Rattle.broker_server.specs.declared.serving.moment.Moment.{Moment}
 use Rattle.broker_server.specs.declared.serving.price.Price.{Price}
-use Rattle.broker_server.specs.declared.serving.price.Price.TheVariants.{Free, Sixtieth, Full}
+use Rattle.broker_server.specs.declared.serving.price.Price.TheVariants.{Free, Sixtieth, Full, Trusted}
 use Rattle.broker_server.specs.declared.serving.tenths.Tenth.{Tenth}
 use Rattle.broker_server.specs.declared.serving.pace.Pace.{Pace}
+use Rattle.broker_server.specs.declared.serving.fund.Fund.{Fund}
 use Rattle.broker_server.specs.declared.serving.purse.Purse.{Purse}
 use Rattle.broker_server.specs.declared.serving.account.Account.{Account}
-use Rattle.broker_server.specs.Purses.{tenth, later_moment, time_since, dearer, no_tenths, tenth_octets, tenths_after, lately_taken, has_rate, price_at, known_price, after_octets, after_falling_behind, after_catching_up, after_keeping_up, after_giving_up, full_purse, most_lacking, purse_with, after_time, may_wait, PurseCall, Begins, GoesOn, Ends, Pays, after_call, after_calls, AreInTime, waited_cost, spared_after, spared_at, price_at_look, account_at_look, debt, is_line_due}
+use Rattle.broker_server.specs.Purses.{tenth, later_moment, time_since, dearer, no_tenths, tenth_octets, tenths_after, lately_taken, has_rate, price_at, known_price, after_octets, after_falling_behind, after_catching_up, after_keeping_up, after_giving_up, is_proven, is_trusted_at, as_trusted, full_fund, most_lacking, fund_with, after_time, may_wait, may_trust, common_pays, trust_pays, PurseCall, Begins, GoesOn, Ends, Pays, after_call, after_calls, AreInTime, waited_cost, spared_after, spared_at, price_at_look, account_at_look, debt, is_line_due}
 
 -- this many tenths of a second from the clock's beginning
 abbrev at : ℕ → Moment
@@ -29,6 +30,16 @@ the_dearer = refl
 
 pub dearer_than_nothing : dearer Sixtieth Free ≡ Sixtieth
 dearer_than_nothing = refl
+
+-- one that is trusted counts first, and one that costs nothing isn't dearer for that
+pub trusted_counts_first : dearer Full Trusted ≡ Trusted
+trusted_counts_first = refl
+
+pub trusted_for_nothing : as_trusted Free ≡ Free
+trusted_for_nothing = refl
+
+pub trusted_for_a_sixtieth : as_trusted Sixtieth ≡ Trusted
+trusted_for_a_sixtieth = refl
 
 -- ---- octets by tenths
 
@@ -61,7 +72,7 @@ no_more = refl
 
 -- a connection of which nothing is known
 abbrev newcomer : Pace
-newcomer = record { since = None; taken = 0; tenths = record { tenths = no_tenths }; known = Full; given_up = false }
+newcomer = record { since = None; taken = 0; tenths = record { tenths = no_tenths }; known = Full; given_up = false; ever = 0 }
 
 -- one that is behind since the tenth second, and had so many octets taken in each of these five tenths
 abbrev taking : ℕ → Pace
@@ -112,6 +123,49 @@ too_late = refl
 pub falls_once : after_falling_behind (taking 10000) (at 200) ≡ taking 10000
 falls_once = refl
 
+-- one that took 9 MB in half a second of being behind is proven then, and one that kept up; one that took 3 MB so isn't,
+-- nor one that was passed over meanwhile and was slow
+abbrev proven : Pace
+proven = after_catching_up (taking 1800000) (at 105)
+
+pub took_more_than_buffers_hold : is_proven proven ≡ true
+took_more_than_buffers_hold = refl
+
+pub kept_up_with_as_much : is_proven (after_keeping_up newcomer) ≡ true
+kept_up_with_as_much = refl
+
+pub buffers_may_hold_so_much : is_proven (after_catching_up (taking 600000) (at 105)) ≡ false
+buffers_may_hold_so_much = refl
+
+pub proven_no_longer : is_proven (after_catching_up (after_giving_up (after_octets (after_falling_behind proven (at 200)) (at 205) 50000) (at 206)) (at 207)) ≡ false
+proven_no_longer = refl
+
+pub proven_anew : is_proven (after_catching_up (after_giving_up (after_octets (after_falling_behind proven (at 200)) (at 205) 9000000) (at 206)) (at 207)) ≡ true
+proven_anew = refl
+
+-- it is trusted from its first tenth on until a second is over
+pub not_in_its_first_tenth : is_trusted_at (after_falling_behind proven (at 200)) (record { 0 = 20099999999 }) ≡ false
+not_in_its_first_tenth = refl
+
+pub trusted_then : is_trusted_at (after_falling_behind proven (at 200)) (at 201) ≡ true
+trusted_then = refl
+
+pub trusted_until_a_second : is_trusted_at (after_falling_behind proven (at 200)) (record { 0 = 20999999999 }) ≡ true
+trusted_until_a_second = refl
+
+pub not_after_a_second : is_trusted_at (after_falling_behind proven (at 200)) (at 210) ≡ false
+not_after_a_second = refl
+
+pub newcomers_aren't_trusted : is_trusted_at (after_falling_behind newcomer (at 200)) (at 201) ≡ false
+newcomers_aren't_trusted = refl
+
+-- what it takes in one tenth pays for a second: 4 MB for four tenths, which aren't enough of one that isn't proven
+pub free_at_once : price_at (after_octets (after_falling_behind proven (at 200)) (at 203) 4000000) (at 204) ≡ Free
+free_at_once = refl
+
+pub not_at_once : price_at (after_octets (after_falling_behind newcomer (at 200)) (at 203) 4000000) (at 204) ≡ Full
+not_at_once = refl
+
 -- what it took while it was behind, over all of that time: 9 MB in one second, and in two
 pub known_fast : known_price Full 9000000 1000000000 ≡ Free
 known_fast = refl
@@ -136,31 +190,46 @@ given_up = refl
 pub no_longer : (after_catching_up (after_giving_up (after_falling_behind newcomer (at 100)) (at 101)) (at 102)).given_up ≡ false
 no_longer = refl
 
+-- ---- funds
+
+abbrev full : Fund
+full = record { lacks = 0; spent = false }
+
+abbrev empty : Fund
+empty = record { lacks = full_fund; spent = true }
+
+-- one that has a tenth back isn't spent, and one that paid half of that isn't either
+pub has_a_tenth : (fund_with empty 540000000000).spent ≡ false
+has_a_tenth = refl
+
+pub pays_on : (fund_with (fund_with empty 540000000000) 570000000000).spent ≡ false
+pays_on = refl
+
 -- ---- purses
 
 -- a full one where somebody waits since the tenth second, at this price
 abbrev waiting_at : Price → Purse
-waiting_at price = record { lacks = 0; spent = false; at = at 100; waiting = 1; price = price }
+waiting_at price = record { common = full; trust = full; at = at 100; waiting = 1; price = price }
 
--- one that is empty, and where nobody waits since then
+-- one in which nothing is left that is common, and where nobody waits since then
 abbrev spent_purse : Purse
-spent_purse = record { lacks = full_purse; spent = true; at = at 100; waiting = 0; price = Full }
+spent_purse = record { common = empty; trust = full; at = at 100; waiting = 0; price = Full }
 
 -- it pays for a second less a nanosecond at the full price, and is empty after a second
 pub pays_in_full : may_wait (after_call (waiting_at Full) (GoesOn (record { 0 = 10999999999 }) Full)) ≡ true
 pays_in_full = refl
 
-pub is_empty : after_call (waiting_at Full) (GoesOn (at 110) Full) ≡ record (waiting_at Full) { lacks = full_purse; spent = true; at = at 110 }
+pub is_empty : after_call (waiting_at Full) (GoesOn (at 110) Full) ≡ record (waiting_at Full) { common = empty; at = at 110 }
 is_empty = refl
 
 pub passes_over : may_wait (after_call (waiting_at Full) (GoesOn (at 110) Full)) ≡ false
 passes_over = refl
 
 -- it pays for a minute at a sixtieth
-pub pays_a_minute : (after_time (waiting_at Sixtieth) (at 699) Sixtieth).lacks ≡ 599000000000
+pub pays_a_minute : (after_time (waiting_at Sixtieth) (at 699) Sixtieth).common.lacks ≡ 599000000000
 pays_a_minute = refl
 
-pub empty_after_a_minute : (after_time (waiting_at Sixtieth) (at 700) Sixtieth).spent ≡ true
+pub empty_after_a_minute : (after_time (waiting_at Sixtieth) (at 700) Sixtieth).common.spent ≡ true
 empty_after_a_minute = refl
 
 -- a time that costs nothing costs nothing, and a full purse isn't more than full
@@ -168,11 +237,11 @@ pub free_for_ever : after_time (waiting_at Free) (at 100000) Free ≡ record (wa
 free_for_ever = refl
 
 -- who waited for two seconds before anybody looked took what it held, and a tenth that it did not
-pub a_tenth_more : (after_time (waiting_at Full) (at 120) Full).lacks ≡ most_lacking
+pub a_tenth_more : (after_time (waiting_at Full) (at 120) Full).common.lacks ≡ most_lacking
 a_tenth_more = refl
 
 -- an empty one is full after ten minutes, and pays nothing until one minute has passed
-pub comes_back : (after_time spent_purse (at 6100) Free).lacks ≡ 0
+pub comes_back : (after_time spent_purse (at 6100) Free).common.lacks ≡ 0
 comes_back = refl
 
 pub not_in_59_seconds : may_wait (after_call spent_purse (Begins (at 699) Full)) ≡ false
@@ -185,32 +254,53 @@ after_a_minute = refl
 pub free_at_an_empty_one : may_wait (after_call spent_purse (Begins (at 101) Free)) ≡ true
 free_at_an_empty_one = refl
 
-pub empty_and_awaited : (after_time (record spent_purse { waiting = 1 }) (at 110) Free).lacks ≡ 599000000000
+pub empty_and_awaited : (after_time (record spent_purse { waiting = 1 }) (at 110) Free).common.lacks ≡ 599000000000
 empty_and_awaited = refl
 
--- one that has a tenth back isn't spent, and one that paid half of that isn't either
-pub has_a_tenth : (purse_with spent_purse 540000000000).spent ≡ false
-has_a_tenth = refl
+-- for the trusted it pays beside that for a second, and they may be waited for, where others may not
+pub pays_for_the_trusted : (after_time (record spent_purse { waiting = 1 }) (at 102) Trusted).trust.lacks ≡ 120000000000
+pays_for_the_trusted = refl
 
-pub pays_on : (purse_with (purse_with spent_purse 540000000000) 570000000000).spent ≡ false
-pays_on = refl
+pub trusted_may : may_trust (after_call (record spent_purse { waiting = 1 }) (GoesOn (at 109) Trusted)) ≡ true
+trusted_may = refl
+
+pub others_may_not : may_wait (after_call (record spent_purse { waiting = 1 }) (GoesOn (at 109) Trusted)) ≡ false
+others_may_not = refl
+
+pub nor_the_trusted_after_a_second : may_trust (after_call (record spent_purse { waiting = 1 }) (GoesOn (at 110) Trusted)) ≡ false
+nor_the_trusted_after_a_second = refl
+
+-- what is common pays nothing meanwhile; once the other is spent it pays
+pub nothing_of_what_is_common : (after_time (waiting_at Trusted) (at 102) Trusted).common.lacks ≡ 0
+nothing_of_what_is_common = refl
+
+pub then_what_is_common : (after_time (record (waiting_at Trusted) { trust = empty }) (at 102) Trusted).common.lacks ≡ 120000000000
+then_what_is_common = refl
+
+-- what there is for the trusted comes back in ten seconds, also while others are waited for
+pub trust_comes_back : (after_time (record (waiting_at Full) { trust = empty }) (at 199) Full).trust.lacks ≡ 6000000000
+trust_comes_back = refl
 
 -- one that ends behind, and was spared half a second, pays that
-pub pays_what_was_spared : (after_call (waiting_at Free) (Pays (at 101) 300000000000)).lacks ≡ 300000000000
+pub pays_what_was_spared : (after_call (waiting_at Free) (Pays (at 101) 300000000000)).common.lacks ≡ 300000000000
 pays_what_was_spared = refl
 
--- one waits for a tenth of a second at the full price, for another at a sixtieth, and then for nothing
+-- one waits for a tenth of a second at the full price, for another at a sixtieth, for one for one that is trusted, and
+-- then for nothing
 abbrev some_calls : List PurseCall
-some_calls = GoesOn (at 101) Full ∷ GoesOn (at 102) Sixtieth ∷ GoesOn (at 103) Free ∷ Ends (at 104) ∷ []
+some_calls = GoesOn (at 101) Full ∷ GoesOn (at 102) Sixtieth ∷ GoesOn (at 103) Trusted ∷ GoesOn (at 104) Free ∷ Ends (at 105) ∷ []
 
-pub cost_of_these : waited_cost (waiting_at Full) some_calls ≡ 61000000000
+pub cost_of_these : waited_cost common_pays (waiting_at Full) some_calls ≡ 61000000000
 cost_of_these = refl
+
+pub cost_of_the_trusted : waited_cost trust_pays (waiting_at Full) some_calls ≡ 60000000000
+cost_of_the_trusted = refl
 
 pub nobody_waits : (after_calls (waiting_at Full) some_calls).waiting ≡ 0
 nobody_waits = refl
 
 pub came_in_time : AreInTime (waiting_at Full) some_calls
-came_in_time = (λ some. omega arith, (λ some. omega arith, (λ some. omega arith, (λ some. omega arith, tt))))
+came_in_time = (λ some. omega arith, (λ some. omega arith, (λ some. omega arith, (λ some. omega arith, (λ some. omega arith, tt)))))
 
 -- ---- what is spared
 
@@ -218,7 +308,7 @@ came_in_time = (λ some. omega arith, (λ some. omega arith, (λ some. omega ari
 pub spared_half : spared_after 0 Free 500000000 ≡ 300000000000
 spared_half = refl
 
-pub spared_a_second : spared_after 300000000000 Sixtieth 60000000000 ≡ full_purse
+pub spared_a_second : spared_after 300000000000 Sixtieth 60000000000 ≡ full_fund
 spared_a_second = refl
 
 -- the full price spares nothing

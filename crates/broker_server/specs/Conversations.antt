@@ -13,7 +13,6 @@ use Rattle.broker_locks.specs.declared.fault.CommitFault.{CommitFault}
 use Rattle.stomp_frame.specs.declared.raw_frame.RawFrame.{RawFrame}
 use Rattle.stomp_frame.specs.Reader.{Unread, unread_of}
 use Rattle.stomp_frame.specs.ServerFrames.{connected_frame, receipt_frame}
-use Rattle.stomp_frame.specs.Writing.{spelling_of}
 use Rattle.stomp_session.specs.declared.action.Action.{Action}
 use Rattle.stomp_session.specs.declared.action.Action.TheVariants as actions
 use Rattle.stomp_session.specs.declared.action.Step.{Step}
@@ -26,6 +25,7 @@ use Rattle.broker_server.specs.declared.conversation.exit.Exit.{Exit}
 use Rattle.broker_server.specs.declared.conversation.exit.Exit.TheVariants as exit
 use Rattle.broker_server.specs.BrokerRows.{BrokerRow, IsGateAfter, SubName, AsksRoom, Claims, GivesBack, GivesRoomBack, Subscribes, Unsubscribes, Commits}
 use Rattle.broker_server.specs.ConversationFaults.{told_error}
+use Rattle.broker_server.specs.Wires.{spelling_with_eol}
 
 -- an open subscription of a connection: the id that its SUBSCRIBE gave it, which one of the broker it is, how
 -- many more items are to be taken before it can have lagged, and whether the broker said that it has
@@ -71,9 +71,9 @@ pub record IsNew (capacity : ℕ) (c : ConversationState) : Type 0 where
 
 -- ---- what is written
 
--- the frames are written behind what waits, and nothing else changes
+-- the frames are written behind what waits, each with its EOL, and nothing else changes
 abbrev pub PutsFrames : List RawFrame → ConversationState → ConversationState → Type 0
-PutsFrames frames old new = new ≡ record old { wire = old.wire ++ flat_map spelling_of frames }
+PutsFrames frames old new = new ≡ record old { wire = old.wire ++ flat_map spelling_with_eol frames }
 
 -- The answer to a frame that was accepted: CONNECTED to a CONNECT, and to others the RECEIPT that they ask
 -- for.

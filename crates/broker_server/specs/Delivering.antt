@@ -3,7 +3,6 @@ use Rattle.std.specs.Prelude.{◌≡◌, ◌⊎◌, ℕ, ◌+◌, ◌-◌, ◌<�
 use Rattle.std.specs.List.{flat_map, list_any}
 use Rattle.std.specs.Option.{is_none, is_some}
 use Rattle.mcast_txn.specs.Span.{Item}
-use Rattle.stomp_frame.specs.Writing.{spelling_of}
 use Rattle.delivery.specs.Core.Output.{item_messages}
 use Rattle.broker_server.specs.declared.conversation.conversation_fault.ConversationFault.{ConversationFault}
 use Rattle.broker_server.specs.declared.conversation.conversation_fault.ConversationFault.TheVariants as fault
@@ -11,6 +10,7 @@ use Rattle.broker_server.specs.declared.conversation.drained.Taking.{Taking}
 use Rattle.broker_server.specs.declared.conversation.drained.Taking.TheVariants.{Emptied, Stopped, Failed}
 use Rattle.broker_server.specs.BrokerRows.{BrokerRow, AsksLag, Takes}
 use Rattle.broker_server.specs.Conversations.{ConversationState, EndsByError, OpenSubState, closing_rows}
+use Rattle.broker_server.specs.Wires.{spelling_with_eol}
 
 -- ---- one queue
 
@@ -39,9 +39,10 @@ nearer_lag o = record o { until_lag = o.until_lag - 1 }
 abbrev pub after_empty : ℕ → OpenSubState → OpenSubState
 after_empty capacity o = record o { until_lag = capacity }
 
--- what waits once the MESSAGEs of an item were put behind it, which have the subscription's own id
+-- what waits once the MESSAGEs of an item were put behind it, which have the subscription's own id, each with
+-- its EOL
 abbrev pub with_pushed : OpenSubState → Item → List ℕ → List ℕ
-with_pushed o item wire = wire ++ flat_map spelling_of (item_messages o.id item)
+with_pushed o item wire = wire ++ flat_map spelling_with_eol (item_messages o.id item)
 
 -- it is a lag; its topic and its number go to the log alone
 abbrev pub IsLag : ConversationFault → Type 0

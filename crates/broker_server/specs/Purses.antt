@@ -1,12 +1,13 @@
 -- What a topic's senders wait for those who take slowly. Times are in nanoseconds, and what waiting costs
 -- is in six-hundredths of one, so that a sixtieth of a time and a six-hundredth of it are whole numbers.
-use Rattle.std.specs.Prelude.{ℕ, ◌<◌, ◌≤◌, [], ◌∷◌, ◌+◌, ◌-◌, ◌*◌, ◌/◌, ◌%◌, nat_lt, nat_le, min, max, Bool, false, not, ◌&&◌, ◌||◌, ◌==◌, List, sum_by, replicate, get_or, slice_set, Option, Some, None, is_some, if◌then◌else◌}
+use Rattle.std.specs.Prelude.{ℕ, ◌<◌, ◌≤◌, [], ◌∷◌, ◌+◌, ◌-◌, ◌*◌, ◌/◌, ◌%◌, nat_lt, nat_le, min, max, Bool, false, true, not, ◌&&◌, ◌||◌, ◌==◌, List, sum_by, replicate, get_or, slice_set, Option, Some, None, is_some, if◌then◌else◌}
 use Rattle.std.specs.List.{range_with_len}
 use Rattle.broker_server.specs.declared.serving.moment.Moment.{Moment}
 use Rattle.broker_server.specs.declared.serving.price.Price.{Price}
-use Rattle.broker_server.specs.declared.serving.price.Price.TheVariants.{Free, Sixtieth, Full}
+use Rattle.broker_server.specs.declared.serving.price.Price.TheVariants.{Free, Sixtieth, Full, Trusted}
 use Rattle.broker_server.specs.declared.serving.tenths.Tenth.{Tenth}
 use Rattle.broker_server.specs.declared.serving.pace.Pace.{Pace}
+use Rattle.broker_server.specs.declared.serving.fund.Fund.{Fund}
 use Rattle.broker_server.specs.declared.serving.purse.Purse.{Purse}
 use Rattle.broker_server.specs.declared.serving.account.Account.{Account}
 use Rattle.broker_server.specs.Counts.{plus}
@@ -36,10 +37,19 @@ abbrev pub rate : Price → ℕ
 rate Free = 0
 rate Sixtieth = 10
 rate Full = 600
+rate Trusted = 600
+
+-- Its place among the prices, the dearest last. Waiting for one that is trusted is paid by what is there for these,
+-- so it counts first.
+abbrev pub rank : Price → ℕ
+rank Free = 0
+rank Sixtieth = 1
+rank Full = 2
+rank Trusted = 3
 
 -- The other is dearer.
 abbrev pub is_below : Price → Price → Bool
-is_below one other = nat_lt (rate one) (rate other)
+is_below one other = nat_lt (rank one) (rank other)
 
 -- the dearer of two prices
 abbrev pub dearer : Price → Price → Price
@@ -47,6 +57,14 @@ dearer one other = if is_below one other then other else one
 
 abbrev pub is_free : Price → Bool
 is_free price = rate price == 0
+
+-- that of one that is trusted
+abbrev pub is_trusted : Price → Bool
+is_trusted price = rank price == 3
+
+-- what one costs that is trusted, and would cost so much else
+abbrev pub as_trusted : Price → Price
+as_trusted price = if is_free price then Free else Trusted
 
 -- ---- octets by tenths of a second
 
@@ -96,25 +114,45 @@ abbrev pub has_rate : ℕ → ℕ → ℕ → Bool
 has_rate octets time wanted = nat_le (wanted * time) (octets * second)
 
 -- The octets that were taken lately are so many a second over this time, or more: of each tenth of a second
--- at most twice its share of these counts, rounded up.
-abbrev pub is_taking : List Tenth → Moment → ℕ → ℕ → Bool
-is_taking tenths now time wanted = has_rate (lately_taken tenths now (wanted / 5 + 1)) time wanted
+-- at most so many count.
+abbrev pub is_taking : List Tenth → Moment → ℕ → ℕ → ℕ → Bool
+is_taking tenths now time wanted most = has_rate (lately_taken tenths now most) time wanted
+
+-- twice what a tenth of a second has of so many octets a second, rounded up
+abbrev pub twice_a_tenth : ℕ → ℕ
+twice_a_tenth octets = octets / 5 + 1
+
+-- so many octets are more than the system's buffers hold
+abbrev pub most_buffered : ℕ
+most_buffered = 8388608
+
+-- It cost nothing when it was behind last, and took more than the system's buffers hold.
+abbrev pub is_proven : Pace → Bool
+is_proven pace = is_free pace.known && nat_le most_buffered pace.ever
 
 -- nothing for who is fast, a sixtieth for who is slow, else all
 abbrev pub pace_price : Bool → Bool → Price
 pace_price is_fast is_slow = if is_fast then Free else if is_slow then Sixtieth else Full
 
 -- the price after so long a time of being behind: in the first tenth the one that is known, else by what
--- was taken since it is behind, over a second at most
+-- was taken since it is behind, over a second at most. Of a tenth twice its share counts, since the system's
+-- buffers take much at once; where they are known to hold less than was taken all that a second has.
 abbrev pub price_behind : Pace → Moment → ℕ → Price
 price_behind pace now time =
+    let most = if is_proven pace then fast else twice_a_tenth fast in
     if nat_lt time tenth then pace.known else
-    pace_price (is_taking pace.tenths.tenths now (min time second) fast)
-    (is_taking pace.tenths.tenths now (min time second) slow)
+    pace_price (is_taking pace.tenths.tenths now (min time second) fast most)
+    (is_taking pace.tenths.tenths now (min time second) slow (twice_a_tenth slow))
 
 -- a connection's price: nothing where it isn't behind
 abbrev pub price_at : Pace → Moment → Price
 price_at pace now = if is_some pace.since then price_behind pace now (time_since pace.since now) else Free
+
+-- It is trusted where it is proven, behind its first tenth of being behind, and within its first second.
+abbrev pub is_trusted_at : Pace → Moment → Bool
+is_trusted_at pace now =
+    let time = time_since pace.since now in
+    is_some pace.since && is_proven pace && nat_le tenth time && nat_lt time second
 
 -- the cheaper of two prices
 abbrev pub cheaper : Price → Price → Price
@@ -132,6 +170,7 @@ abbrev pub after_octets : Pace → Moment → ℕ → Pace
 after_octets pace now octets = if is_some pace.since then record pace {
   taken = plus pace.taken octets;
   tenths = record { tenths = tenths_after pace.tenths.tenths now octets };
+  ever = plus pace.ever octets;
 } else pace
 
 -- after it took less than there was
@@ -152,62 +191,79 @@ after_catching_up pace now = if is_some pace.since then record pace {
 
 -- after it took much while the connection wasn't behind
 abbrev pub after_keeping_up : Pace → Pace
-after_keeping_up pace = if is_some pace.since then pace else record pace { known = Free }
+after_keeping_up pace = if is_some pace.since then pace else record pace {
+  known = Free;
+  ever = plus pace.ever most_buffered;
+}
 
--- after the connection was passed over
+-- after the connection was passed over: where it had been behind for a tenth, nothing is known of it any more
 abbrev pub after_giving_up : Pace → Moment → Pace
 after_giving_up pace now =
-    let is_long = is_some pace.since && nat_le tenth (time_since pace.since now) in
-    record pace { given_up = pace.given_up || is_long }
-
--- so many octets in a row are more than the system's buffers hold
-abbrev pub long_streak : ℕ
-long_streak = 8388608
+    if is_some pace.since && nat_le tenth (time_since pace.since now)
+    then record pace { given_up = true; known = Full } else pace
 
 -- ---- the purse of a topic
 
--- what a full one holds: a second
-abbrev pub full_purse : ℕ
-full_purse = 600 * second
+-- what a full fund holds: a second
+abbrev pub full_fund : ℕ
+full_fund = 600 * second
 
 -- a tenth of it
-abbrev pub least_purse : ℕ
-least_purse = 600 * tenth
+abbrev pub least_fund : ℕ
+least_fund = 600 * tenth
 
 -- what it lacks at most: who waits looks each tenth of a second, and may then have waited for a tenth more
 -- than it held
 abbrev pub most_lacking : ℕ
-most_lacking = full_purse + least_purse
+most_lacking = full_fund + least_fund
 
--- A purse that lacks so much from now on. It is spent once it lacks all, until a tenth is back.
-abbrev pub purse_with : Purse → ℕ → Purse
-purse_with purse lacks = record purse {
+-- A fund that lacks so much from now on. It is spent once it lacks all, until a tenth is back.
+abbrev pub fund_with : Fund → ℕ → Fund
+fund_with fund lacks = record {
   lacks = min lacks most_lacking;
-  spent = nat_le full_purse lacks || (purse.spent && nat_lt full_purse (lacks + least_purse));
+  spent = nat_le full_fund lacks || (fund.spent && nat_lt full_fund (lacks + least_fund));
 }
 
--- Time at this price costs something: somebody waits, and the purse isn't spent.
-abbrev pub is_paying : Purse → Price → Bool
-is_paying purse price = nat_lt 0 purse.waiting && not purse.spent && not (is_free price)
+-- A fund after a time that cost it so much; where that was nothing so much is back.
+abbrev pub fund_after : Fund → ℕ → ℕ → Fund
+fund_after fund cost back = fund_with fund (if cost == 0 then fund.lacks - back else fund.lacks + cost)
 
--- what a time at this price costs
-abbrev pub cost_of : Purse → Price → ℕ → ℕ
-cost_of purse price time = if is_paying purse price then rate price * time else 0
+-- What there is for the trusted pays: somebody waits, one that is trusted lacks room, and it isn't spent.
+abbrev pub trust_pays : Purse → Price → Bool
+trust_pays purse price = nat_lt 0 purse.waiting && not purse.trust.spent && is_trusted price
 
--- what it lacks after a time at this price: that is paid for, or a six-hundredth of it comes back
-abbrev pub lacks_after : Purse → Price → ℕ → ℕ
-lacks_after purse price time =
-    if is_paying purse price then purse.lacks + rate price * time else purse.lacks - time
+-- What is common pays: somebody waits, it isn't spent, and the other doesn't pay.
+abbrev pub common_pays : Purse → Price → Bool
+common_pays purse price = nat_lt 0 purse.waiting && not purse.common.spent && not (trust_pays purse price)
+
+-- what a nanosecond at this price costs who pays
+abbrev pub paid_rate : Bool → Price → ℕ
+paid_rate pays price = if pays then rate price else 0
+
+-- how much of a nanosecond that costs nothing comes back: a six-hundredth to what is common, a tenth to the other
+abbrev pub common_back : ℕ
+common_back = 1
+
+abbrev pub trust_back : ℕ
+trust_back = 60
 
 -- a purse after the time until this moment, at this price
 abbrev pub after_time : Purse → Moment → Price → Purse
 after_time purse now price =
-    purse_with (record purse { at = later_moment purse.at now })
-    (lacks_after purse price (now.0 - purse.at.0))
+    let time = now.0 - purse.at.0 in
+    record purse {
+      at = later_moment purse.at now;
+      common = fund_after purse.common (paid_rate (common_pays purse price) price * time) (common_back * time);
+      trust = fund_after purse.trust (paid_rate (trust_pays purse price) price * time) (trust_back * time);
+    }
 
--- Those that lack room may be waited for.
+-- Those that lack room may be waited for, where they aren't trusted.
 abbrev pub may_wait : Purse → Bool
-may_wait purse = is_free purse.price || not purse.spent
+may_wait purse = is_free purse.price || not purse.common.spent
+
+-- Those may that were found trusted: something is there for them, or is common.
+abbrev pub may_trust : Purse → Bool
+may_trust purse = not purse.trust.spent || not purse.common.spent
 
 -- what happens at a topic
 pub data PurseCall : Type 0 where
@@ -239,7 +295,7 @@ abbrev pub change_by : PurseCall → Purse → Purse
 change_by (Begins now price) purse = record purse { price = price; waiting = plus purse.waiting 1 }
 change_by (GoesOn now price) purse = record purse { price = price }
 change_by (Ends now) purse = record purse { waiting = purse.waiting - 1 }
-change_by (Pays now owed) purse = purse_with purse (purse.lacks + owed)
+change_by (Pays now owed) purse = record purse { common = fund_with purse.common (purse.common.lacks + owed) }
 
 -- a purse after that
 abbrev pub after_call : Purse → PurseCall → Purse
@@ -255,26 +311,29 @@ AreInTime purse [] = Unit
 AreInTime purse (call ∷ calls) =
     (0 < purse.waiting → (moment_of call).0 ≤ purse.at.0 + tenth) × AreInTime (after_call purse call) calls
 
--- what all the time cost in which somebody waited
-abbrev pub waited_cost : Purse → List PurseCall → ℕ
-waited_cost purse [] = 0
-waited_cost purse (call ∷ calls) =
-    cost_of purse (price_until purse call) ((moment_of call).0 - purse.at.0)
-    + waited_cost (after_call purse call) calls
+-- what all the time cost in which somebody waited, who pays so
+abbrev pub waited_cost : (Purse → Price → Bool) → Purse → List PurseCall → ℕ
+waited_cost pays purse [] = 0
+waited_cost pays purse (call ∷ calls) =
+    let price = price_until purse call in
+    paid_rate (pays purse price) price * ((moment_of call).0 - purse.at.0)
+    + waited_cost pays (after_call purse call) calls
 
--- In any stretch of what happens at a topic, all waiting for those that cost something costs a second and a
--- tenth at most, and a six-hundredth of the stretch's time: so that who never reads holds a topic's senders
--- up for no longer.
+-- In any stretch of what happens at a topic all waiting costs what is common a second and a tenth at most, and a
+-- six-hundredth of the stretch's time: so that who never reads holds a topic's senders up for no longer. And it
+-- costs what is there for the trusted a second and a tenth at most, and a tenth of that time.
 abbrev pub IsBounded : Purse → Type 0
 IsBounded purse = (before calls : List PurseCall) → AreInTime (after_calls purse before) calls
-    → waited_cost (after_calls purse before) calls
-    ≤ most_lacking + ((after_calls (after_calls purse before) calls).at.0 - (after_calls purse before).at.0)
+    → let begun = after_calls purse before in
+      let time = (after_calls begun calls).at.0 - begun.at.0 in
+      (waited_cost common_pays begun calls ≤ most_lacking + common_back * time)
+      × (waited_cost trust_pays begun calls ≤ most_lacking + trust_back * time)
 
 -- ---- what a subscription is spared
 
 -- what was spared after a time at this price, a second at most
 abbrev pub spared_after : ℕ → Price → ℕ → ℕ
-spared_after spared price time = min (spared + (600 - rate price) * time) full_purse
+spared_after spared price time = min (spared + (600 - rate price) * time) full_fund
 
 -- They are one moment.
 abbrev pub is_one_moment : Option Moment → Option Moment → Bool

@@ -1,14 +1,22 @@
--- What goes out of the octets that wait for a connection.
-use Rattle.std.specs.Prelude.{◌≡◌, ℕ, zero, suc, List, ◌++◌, length, Option, Result, Ok, Err, IfOk}
+-- The octets that wait for a connection: how a frame is put to them, and what goes out of them.
+use Rattle.std.specs.Prelude.{◌≡◌, ℕ, zero, suc, List, [], ◌∷◌, ◌++◌, length, Option, Result, Ok, Err, IfOk}
 use Rattle.std.specs.Io.KnownBytes.{Appends}
 use Rattle.std.specs.IoError.{error_kind}
 use Rattle.std.specs.declared.io.Error.{Error}
 use Rattle.std.specs.declared.io.ErrorKind.{ErrorKind}
 use Rattle.std.specs.declared.io.ErrorKind.TheVariants.{Interrupted, WouldBlock}
+use Rattle.stomp_frame.specs.declared.raw_frame.RawFrame.{RawFrame}
+use Rattle.stomp_frame.specs.Writing.{spelling_of}
 use Rattle.broker_server.specs.declared.one_write.OneWrite.{OneWrite}
 use Rattle.broker_server.specs.declared.one_write.OneWrite.TheVariants.{Took, Again, Stopped}
 use Rattle.broker_server.specs.declared.program_fault.ProgramFault.{ProgramFault}
 use Rattle.broker_server.specs.declared.program_fault.ProgramFault.TheVariants.{Io}
+
+-- A frame as the server writes it: its spelling, and behind its NULL one of the EOLs that may follow it
+-- (STOMP 1.2, "Augmented BNF": `NULL *( EOL )`), which is LF (own). So the RECEIPT of `r` is `RECEIPT`, LF,
+-- `receipt-id:r`, LF, LF, NULL and LF (proofs/ConversationExamples.antt).
+abbrev pub spelling_with_eol : RawFrame → List ℕ
+spelling_with_eol f = spelling_of f ++ 10 ∷ []
 
 -- Some of the octets that waited went to the writer, the first of them, and the others wait still. So where
 -- `abc` waited and `c` waits still, the writer got `ab`.

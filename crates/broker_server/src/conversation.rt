@@ -20,6 +20,7 @@ mod broker_calls;
 mod conversation_fault;
 mod drained;
 mod exit;
+mod named_last;
 mod open_sub;
 
 use crate::draining::drain_wire;
@@ -30,6 +31,7 @@ pub use conversation_fault::ConversationFault;
 use drained::{Drained, Taking};
 pub use exit::Exit;
 use mcast_txn::{Topic, Txn};
+use named_last::NamedLast;
 use open_sub::OpenSub;
 use sender_gate::Gate;
 use std::alloc::Global;
@@ -76,6 +78,8 @@ pub struct Conversation<C: BrokerCalls> {
     capacity: u64,
     /// How many SENDs it committed, for the server's figures: no contract speaks of it.
     sends: u64,
+    /// The topics that frames' destinations named last. No contract speaks of them.
+    named: NamedLast,
 }
 
 impl<C: BrokerCalls> Drop for Conversation<C> {
@@ -96,6 +100,7 @@ impl<C: BrokerCalls> Drop for Conversation<C> {
             next: _,
             capacity: _,
             sends: _,
+            named: _,
         } = self;
         drop(reader);
         drop(session);
@@ -148,6 +153,7 @@ impl<C: BrokerCalls> Conversation<C> {
             next: 0,
             capacity,
             sends: 0,
+            named: NamedLast::new(),
         }
     }
 
@@ -210,6 +216,13 @@ impl<C: BrokerCalls> Conversation<C> {
         ensures { result ≡ self.now.cut }
     {
         self.cut
+    }
+
+    /// Whether its sender is claimed: it is from its CONNECT to its end.
+    pub(crate) fn is_connected(&self) -> bool
+        ensures { result ≡ is_some self.now.gate }
+    {
+        self.gate.is_some()
     }
 
     /// Whether a transaction waits for room: no frame behind it is taken before it was committed.
@@ -335,7 +348,7 @@ impl<C: BrokerCalls> Conversation<C> {
             × AsksInOrder C.called calls.old asked calls.new
             × DeniesFrame (raw_of frame) e.1 self.old asked self.new) }
     {
-        if is_known(&self.names, &frame) {
+        if is_known(&self.names, &self.named, &frame) {
             match self.session.step(frame, &mut self.names) {
                 Ok(step) => return Ok(step),
                 Err((frame, fault)) => return Err((frame, ConversationFault::from(fault))),
@@ -348,6 +361,7 @@ impl<C: BrokerCalls> Conversation<C> {
     }
 
     /// Does what an accepted frame asks for, and answers it; a transaction that finds no room is held.
+    #[inline(always)]
     fn act(&mut self, calls: &mut C, step: Step)
         ensures { (asked : List BrokerRow) × AsksInOrder C.called calls.old asked calls.new
             × Acts step self.old asked self.new }
@@ -377,6 +391,7 @@ impl<C: BrokerCalls> Conversation<C> {
 
     /// A COMMIT, or a SEND outside a transaction: commits the transaction, and answers it, or holds it where it finds
     /// no room.
+    #[inline(always)]
     fn send(&mut self, calls: &mut C, txn: Txn, receipt: Option<Octets>)
         ensures { (asked : List BrokerRow) × AsksInOrder C.called calls.old asked calls.new
             × Acts (record { action = actions.Commit txn; receipt = receipt }) self.old asked self.new }
@@ -401,6 +416,7 @@ impl<C: BrokerCalls> Conversation<C> {
     }
 
     /// What follows an action: its answer, or the connection leaves by its fault.
+    #[inline(always)]
     fn conclude(
         &mut self,
         calls: &mut C,
@@ -419,6 +435,7 @@ impl<C: BrokerCalls> Conversation<C> {
 
     /// Sends the answer to a frame that was accepted. Where there is no memory for it, the connection ends; the RECEIPT
     /// of a DISCONNECT is then left out.
+    #[inline(always)]
     fn answer(&mut self, calls: &mut C, connects: bool, receipt: &Option<Octets>)
         ensures { (asked : List BrokerRow) × AsksInOrder C.called calls.old asked calls.new
             × Answers (replies connects receipt.now) self.old asked self.new }
@@ -433,6 +450,7 @@ impl<C: BrokerCalls> Conversation<C> {
     }
 
     /// Writes the answer to a frame: CONNECTED to a CONNECT, else the RECEIPT that it asks for.
+    #[inline(always)]
     fn write_answer(&mut self, connects: bool, receipt: &Option<Octets>) -> Result<(), NoMemory>
         ensures ok { OnOk result (PutsFrames (replies connects receipt.now) self.old self.new) }
         ensures err { OnErr result (self.new ≡ self.old) }
@@ -793,14 +811,14 @@ fn is_idle(reader: &FrameReader, fault: FrameFault) -> bool
     matches!(fault, FrameFault::NoMemory) && reader.clean()
 }
 
-/// Whether the frame has no destination, or one of these names.
-fn is_known(names: &Names, frame: &ClientFrame) -> bool
+/// Whether the frame has no destination, or one of these names, at which it looks by the topics that were named last.
+fn is_known(names: &Names, named: &NamedLast, frame: &ClientFrame) -> bool
     ensures known { result ≡ true → IsKnownTo names.now (raw_of frame.now) }
     ensures unknown { result ≡ false → IsNewTo names.now (raw_of frame.now) }
 {
     match frame {
-        ClientFrame::Send(frame) => names.find(frame.destination()).is_some(),
-        ClientFrame::Subscribe(frame) => names.find(frame.destination()).is_some(),
+        ClientFrame::Send(frame) => named.has(names, frame.destination()),
+        ClientFrame::Subscribe(frame) => named.has(names, frame.destination()),
         _ => true,
     }
 }

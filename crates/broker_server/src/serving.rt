@@ -8,6 +8,8 @@ ghost use Rattle.broker_locks.specs.Gathering.{IsTraceLeft};
 mod accepting;
 mod account;
 mod activity;
+mod announcing;
+mod asker;
 mod bell;
 mod calls;
 mod connection;
@@ -17,29 +19,43 @@ mod desks;
 mod door;
 mod endings;
 mod figures;
+mod fund;
 mod head;
 mod hub;
 mod intake;
+mod keepers;
+mod line;
+mod line_rate;
+mod links;
 mod listening;
 mod look;
+mod mark;
 mod minute;
 mod moment;
 mod naming;
 mod outfit;
 mod pace;
 mod peer;
+mod places;
 mod price;
 mod purse;
+mod queue;
 mod reporting;
+mod room_made;
+mod room_step;
 mod room_wait;
 mod running;
 mod said;
 mod seat;
 mod seat_entry;
+mod second_line;
 mod seldom;
 mod shortened;
+mod shown;
 mod socket;
+mod socket_option;
 mod span;
+mod stand;
 mod standing;
 mod streak;
 mod tenths;
@@ -48,10 +64,13 @@ mod totals;
 mod trouble;
 mod unturned;
 mod wait_news;
+mod waiter;
 mod waiters;
+mod waiting;
 mod why_left;
 
 use crate::serving::accepting::accept_all;
+use crate::serving::announcing::say_left_out;
 use crate::serving::desks::Desks;
 use crate::serving::door::Door;
 use crate::serving::head::Head;
@@ -103,9 +122,11 @@ where
     info!(rt; target: "serve",
         "serving {} topics to at most {MAX_CONNECTIONS} connections", hub.running.topics());
     let done = run(rt, alloc, &hub, &mut door, limit);
+    say_left_out(rt, hub.totals().take_left_out(rt));
     say_figures(rt, &hub.figures(rt));
+    let running = hub.into_running(rt);
     done?;
-    match hub.into_running().into_trace() {
+    match running.into_trace() {
         Some(trace) => Ok(trace),
         None => Err(ServerFault::NoMemory),
     }

@@ -2,16 +2,16 @@
 
 ghost use Rattle.std.specs.Prelude.{◌≡◌, ◌++◌, ◌≤◌, ◌<◌, ◌↔◌, [], IsTrue, length, drop, OnOk, OnErr};
 ghost use Rattle.std.specs.List.{flat_map};
-ghost use Rattle.stomp_frame.specs.Writing.{spelling_of};
 ghost use Rattle.stomp_frame.specs.ServerFrames.{raw_of_server};
 ghost use Rattle.delivery.specs.Core.Output.{item_messages};
 ghost use Rattle.broker_server.specs.Delivering.{full_wire};
+ghost use Rattle.broker_server.specs.Wires.{spelling_with_eol};
 
-use delivery::write_messages;
+use crate::writing::{write_item, write_with_eol};
 use mcast_txn::Released;
 use std::alloc::Global;
 use std::marker::Model;
-use stomp_frame::{NoMemory, Octets, ServerFrame, write_server};
+use stomp_frame::{NoMemory, Octets, ServerFrame};
 
 /// As many octets as may wait before no further item is taken. As many that were written may lie before those that
 /// wait, and as many may have been in the room that an empty wire keeps (our choice).
@@ -68,24 +68,25 @@ impl Wire {
         self.octets.extend(piece)
     }
 
-    /// Puts a frame behind the octets that wait. After `NoMemory` nothing has changed.
+    /// Puts a frame with its EOL behind the octets that wait. After `NoMemory` nothing has changed.
+    #[inline(never)]
     pub fn put_frame(&mut self, frame: &ServerFrame) -> Result<(), NoMemory>
-        ensures ok { OnOk result (self.new ≡ self.old ++ spelling_of (raw_of_server frame.now)) }
+        ensures ok { OnOk result (self.new ≡ self.old ++ spelling_with_eol (raw_of_server frame.now)) }
         ensures err { OnErr result (self.new ≡ self.old) }
     {
         self.tidy();
-        write_server(frame, &mut self.octets)
+        write_with_eol(frame, &mut self.octets)
     }
 
-    /// Puts the MESSAGEs of an item, for the subscription of this id, behind the octets that wait. After `NoMemory`
-    /// nothing has changed.
+    /// Puts the MESSAGEs of an item, for the subscription of this id, each with its EOL, behind the octets that wait.
+    /// After `NoMemory` nothing has changed.
     pub fn put_item(&mut self, id: &[u8], item: &Released) -> Result<(), NoMemory>
         ensures ok { OnOk result
-            (self.new ≡ self.old ++ flat_map spelling_of (item_messages id.now item.now)) }
+            (self.new ≡ self.old ++ flat_map spelling_with_eol (item_messages id.now item.now)) }
         ensures err { OnErr result (self.new ≡ self.old) }
     {
         self.tidy();
-        write_messages(id, item, &mut self.octets)
+        write_item(id, item, &mut self.octets)
     }
 
     /// The octets that wait.

@@ -99,6 +99,7 @@ impl Copies {
     }
 
     /// One copy more.
+    #[inline(always)]
     pub(crate) fn add(&mut self, part: &PendingPart) -> Result<(), NoMemory>
         ensures ok { OnOk result (self.new ≡ self.old ++ part.now.part ∷ []) }
         ensures err { OnErr result (self.new ≡ self.old) }

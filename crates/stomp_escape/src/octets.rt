@@ -84,6 +84,7 @@ impl Octets {
     }
 
     /// Appends one octet. After `NoMemory` the list is what it was.
+    #[inline(always)]
     pub fn push(&mut self, octet: u8) -> Result<(), NoMemory>
         ensures ok { OnOk result (self.new ≡ self.old ++ octet ∷ []) }
         ensures err { OnErr result (self.new ≡ self.old) }
@@ -102,6 +103,7 @@ impl Octets {
     }
 
     /// Appends the octets. After `NoMemory` the list is what it was.
+    #[inline(always)]
     pub fn extend(&mut self, octets: &[u8]) -> Result<(), NoMemory>
         ensures ok { OnOk result (self.new ≡ self.old ++ octets.now) }
         ensures err { OnErr result (self.new ≡ self.old) }
@@ -120,6 +122,7 @@ impl Octets {
     }
 
     /// Appends the octets in memory of the list's own, and moves there those that it has.
+    #[inline(never)]
     fn outgrow(&mut self, octets: &[u8]) -> Result<(), NoMemory>
         ensures ok { OnOk result (self.new ≡ self.old ++ octets.now) }
         ensures err { OnErr result (self.new ≡ self.old) }

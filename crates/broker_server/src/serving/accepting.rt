@@ -3,6 +3,7 @@
 ghost use Rattle.std.specs.Prelude.{◌≡◌};
 
 use crate::serving::activity::Activity;
+use crate::serving::announcing::say_left_out;
 use crate::serving::connection::attend;
 use crate::serving::desks::Desks;
 use crate::serving::door::Door;
@@ -65,9 +66,9 @@ impl Counter {
         }
     }
 
-    /// How long the accepting thread waits: for ever, unless something is to be said.
-    fn time(&self) -> Option<Duration> {
-        if self.refused.waits() {
+    /// How long the accepting thread waits: for ever, unless something is to be said. Whether lines were left out is told.
+    fn time(&self, leaves_out: bool) -> Option<Duration> {
+        if self.refused.waits() || leaves_out {
             Some(Duration::from_secs(1))
         } else {
             self.reporting.time()
@@ -214,11 +215,12 @@ fn wait_after<R: Wait + Clock + Log, W: Side, T: Side>(
     match Trouble::of(error) {
         Trouble::NoneWaits => {
             counter.say(rt);
+            say_left_out(rt, hub.totals().left_out_due(rt));
             counter.reporting.say(rt, hub);
             if hub.door().hears() || !hub.door().sleeps() {
                 return Ok(());
             }
-            wait_at(rt, door, counter.time())
+            wait_at(rt, door, counter.time(hub.totals().leaves_out(rt)))
         }
         Trouble::Passing => Ok(()),
         Trouble::Wanting => {

@@ -4,10 +4,10 @@ ghost use Rattle.std.specs.Prelude.{◌≡◌, None, Some};
 ghost use Rattle.broker_server.specs.Purses.{account_at_look, debt, is_one_moment, late_since, price_at_look, spared_at};
 
 use crate::serving::cost::Cost;
+use crate::serving::fund::FULL_FUND;
 use crate::serving::moment::Moment;
 use crate::serving::pace::Pace;
 use crate::serving::price::Price;
-use crate::serving::purse::FULL_PURSE;
 use crate::serving::span::Span;
 
 /// For so long a thread may be late for nothing: a second, in nanoseconds (our choice).
@@ -83,7 +83,7 @@ impl Account {
             None => 0,
         };
         let more = pace.price(now).spared(Span(unpaid.0.min(most)));
-        Cost(before.saturating_add(more.0).min(FULL_PURSE))
+        Cost(before.saturating_add(more.0).min(FULL_FUND))
     }
 
     /// Since when its thread is late, which is late now.

@@ -4,9 +4,9 @@ ghost use Rattle.std.specs.Prelude.{◌≡◌};
 
 use crate::serving::activity::Activity;
 use crate::serving::intake::Intake;
+use crate::serving::shown::Shown;
 use mio::Waker;
 use std::sync::atomic::{AtomicBool, AtomicU8, Ordering};
-use std::sync::{Mutex, Wait};
 
 /// The thread is at work, and wasn't told anything since it looked last.
 const AWAKE: u8 = 0;
@@ -26,8 +26,8 @@ pub(crate) struct Bell {
     stuck: AtomicBool,
     waker: Waker,
     intake: Intake,
-    /// What the connection did, as its thread showed it last.
-    activity: Mutex<Activity>,
+    /// What the connection did, as it was shown last.
+    shown: Shown,
 }
 
 impl Bell {
@@ -38,7 +38,7 @@ impl Bell {
             stuck: AtomicBool::new(false),
             waker,
             intake: Intake::new(),
-            activity: Mutex::new(Activity::new()),
+            shown: Shown::new(),
         }
     }
 
@@ -49,14 +49,14 @@ impl Bell {
         &self.intake
     }
 
-    /// Shows what the connection did so far. No lock is taken while this one is held.
-    pub(crate) fn show<R: Wait>(&self, rt: &R, activity: Activity) {
-        *self.activity.lock(rt) = activity;
+    /// Shows what the connection did so far.
+    pub(crate) fn show(&self, activity: &Activity) {
+        self.shown.show(activity);
     }
 
     /// What the connection did, as it was shown last.
-    pub(crate) fn activity<R: Wait>(&self, rt: &R) -> Activity {
-        *self.activity.lock(rt)
+    pub(crate) fn activity(&self) -> Activity {
+        self.shown.activity()
     }
 
     /// Tells the thread. The system is called only where it waits. (A wake that fails is one whose poll is gone.) Where

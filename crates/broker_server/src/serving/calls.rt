@@ -1,20 +1,23 @@
 //! What one connection asks of the broker.
 
-ghost use Rattle.std.specs.Prelude.{◌≡◌, ◌<◌, ◌⊎◌, ◌==◌, [], IfSome, None};
+ghost use Rattle.std.specs.Prelude.{◌≡◌, ◌<◌, ◌⊎◌, ◌==◌, [], true, IfSome, None, Some};
+ghost use Rattle.broker_server.specs.Lines.{IsRoomAt};
 ghost use Rattle.broker_server.specs.UnturnedTopics.{none_unturned};
 
 use crate::conversation::{BrokerCalls, ConversationFault};
 use crate::serving::account::Account;
 use crate::serving::activity::Activity;
+use crate::serving::asker::Asker;
 use crate::serving::bell::Bell;
 use crate::serving::hub::Hub;
 use crate::serving::moment::Moment;
 use crate::serving::peer::Peer;
-use crate::serving::room_wait::RoomWait;
+use crate::serving::room_made::RoomMade;
 use crate::serving::seat::Seat;
 use crate::serving::shortened::Shortened;
 use crate::serving::unturned::Unturned;
 use crate::serving::wait_news::WaitNews;
+use crate::serving::waiting::{Tried, Waiting};
 use crate::spelled::Spelled;
 use broker_locks::{CommitFault, NoRoom, Reserved, Side, Subscribed, Worker};
 use log::{Log, info, warn};
@@ -64,7 +67,7 @@ pub(crate) struct Calls<'a, R: Wait + Log + Clock, W: Side, T: Side> {
     most: u64,
     /// Whether what it heard since then is little.
     heard_little: bool,
-    wait: RoomWait,
+    waiting: Waiting,
     /// How many subscriptions it has.
     subs: u64,
     /// How many it had, with these.
@@ -88,7 +91,7 @@ impl<'a, R: Wait + Log + Clock, W: Side, T: Side> Calls<'a, R, W, T> {
         ensures unturned { result.unturned ≡ none_unturned }
         ensures commits { result.commits ≡ 0 }
         ensures subs { (result.subs ≡ 0) × (result.begun ≡ 0) }
-        ensures wait { result.wait ≡ record { counted_at = None; news = None } }
+        ensures wait { result.waiting.wait ≡ record { counted_at = None; news = None } }
     {
         Calls {
             rt,
@@ -98,9 +101,9 @@ impl<'a, R: Wait + Log + Clock, W: Side, T: Side> Calls<'a, R, W, T> {
             bell,
             unturned: Unturned::new(alloc),
             commits: 0,
-            most: (hub.running.capacity() / 2).max(1),
+            most: hub.running.half(),
             heard_little: false,
-            wait: RoomWait::new(),
+            waiting: Waiting::new(),
             subs: 0,
             begun: 0,
             activity: Activity::new(),
@@ -149,7 +152,7 @@ impl<'a, R: Wait + Log + Clock, W: Side, T: Side> Calls<'a, R, W, T> {
             commits: _,
             most: _,
             heard_little: _,
-            wait: _,
+            waiting: _,
             subs: _,
             begun: _,
             activity: _,
@@ -195,7 +198,7 @@ impl<'a, R: Wait + Log + Clock, W: Side, T: Side> Calls<'a, R, W, T> {
             .running
             .broker
             .unsubscribe(self.rt, sub.topic, sub.begun.sub);
-        self.hub.ring_waiters(self.rt, sub.topic);
+        self.room_made(sub);
     }
 
     /// A subscription to this topic ends that had this account: where its client is behind, it pays what it was spared.
@@ -293,27 +296,79 @@ impl<'a, R: Wait + Log + Clock, W: Side, T: Side> Calls<'a, R, W, T> {
 
     /// What is to be said of those whom it waits for: once.
     pub(crate) fn take_news(&mut self) -> Option<WaitNews>
-        ensures news { result ≡ self.old.wait.news }
-        ensures none { self.new ≡ record self.old { wait = record self.old.wait { news = None } } }
+        ensures news { result ≡ self.old.waiting.wait.news }
+        ensures none { self.new ≡ record self.old {
+          waiting = record self.old.waiting { wait = record self.old.waiting.wait { news = None } };
+        } }
     {
-        self.wait.take_news()
+        self.waiting.wait.take_news()
     }
 
-    /// It waits for room no longer.
-    pub(crate) fn end_wait(&mut self)
-        ensures { self.new ≡ record self.old { wait = record self.old.wait { counted_at = None } } }
+    /// Its thread was woken by time alone, or by something else.
+    pub(crate) fn set_timed(&mut self, timed: bool)
+        ensures { self.new ≡ record self.old { waiting = record self.old.waiting { timed = timed } } }
     {
-        self.wait.end(self.rt, self.hub);
+        self.waiting.set_timed(timed);
     }
 
-    /// It has room at these topics, and waits no longer.
-    fn go_on(&mut self, room: Reserved) -> Option<Reserved>
-        ensures { result ≡ Some room }
-    {
-        if self.wait.is_counted() {
-            self.end_wait();
+    /// The system took less than there was for it, or has taken all since, where that was otherwise before.
+    pub(crate) fn note_behind(&self, was_behind: bool, is_behind: bool) {
+        if was_behind != is_behind {
+            self.hub.count_behind(is_behind);
         }
-        Some(room)
+    }
+
+    /// Its connection has ended: it isn't counted as one that is behind.
+    pub(crate) fn end_behind(&self) {
+        self.note_behind(self.bell.intake().is_behind(), false);
+    }
+
+    /// It waits for room no longer: what it has is given back.
+    pub(crate) fn end_wait(&mut self)
+        ensures { self.new ≡ record self.old { waiting = self.new.waiting } }
+    {
+        if !self.waiting.is_idle() {
+            let room = self.kept_room();
+            self.waiting.gives_up(&self.asker(), room);
+        }
+    }
+
+    /// It goes on with nothing that was read: where it waits for no room, it isn't the first of a line any more.
+    #[inline(always)]
+    pub(crate) fn rest(&mut self)
+        ensures { self.new ≡ record self.old { waiting = self.new.waiting } }
+    {
+        if !self.waiting.is_idle() {
+            self.waiting.rests(&self.asker());
+        }
+    }
+
+    /// Who asks for room.
+    fn asker(&self) -> Asker<'a, R, W, T> {
+        Asker {
+            rt: self.rt,
+            alloc: self.alloc,
+            hub: self.hub,
+            desk: self.peer.desk,
+            owes_turns: self.commits > 0,
+            most: self.most,
+        }
+    }
+
+    /// The room that it keeps while it waits.
+    fn kept_room(&self) -> Reserved {
+        let none = self.hub.running.broker.no_room();
+        self.hub.waiters().swap_kept(self.rt, self.peer.desk, none)
+    }
+
+    /// It keeps this room while it waits.
+    #[inline(never)]
+    fn keep_room(&mut self, room: Reserved)
+        ensures { self.new ≡ record self.old { waiting = record self.old.waiting { held = true } } }
+    {
+        self.waiting.begin();
+        let other = self.hub.waiters().swap_kept(self.rt, self.peer.desk, room);
+        self.hub.release_room(self.rt, other);
     }
 
     /// Room at these topics. Where there is none, and it owes no turns, it waits. Out of memory for the reservation it is
@@ -321,52 +376,80 @@ impl<'a, R: Wait + Log + Clock, W: Side, T: Side> Calls<'a, R, W, T> {
     fn room_at(&mut self, topics: &[Topic]) -> Option<Reserved>
         ensures { IfSome result (λ room. (room ≡ topics.now) ⊎ (room ≡ [])) }
     {
-        match self.hub.reserve(self.rt, topics) {
-            Ok(room) => self.go_on(room),
-            Err(NoRoom::Full { topic, sub: _ }) if self.commits == 0 => {
-                self.wait_at(topic, topics)
+        let mut room = self.hub.running.broker.no_room();
+        match self.hub.reserve(self.rt, topics, &mut room) {
+            Ok(()) => Some(room),
+            Err(NoRoom::Full { topic: _, sub: _ }) if self.commits == 0 => {
+                self.tries(topics, room)
             }
-            Err(NoRoom::Full { topic: _, sub: _ }) => None,
-            Err(NoRoom::NoMemory) => self.without_room(),
-        }
-    }
-
-    /// Room at no topic, which takes no memory.
-    fn without_room(&mut self) -> Option<Reserved>
-        ensures { IfSome result (λ room. room ≡ []) }
-    {
-        match self.hub.reserve(self.rt, &[]) {
-            Ok(room) => self.go_on(room),
-            Err(_) => None,
-        }
-    }
-
-    /// There is no room at this topic, the first of these that has none: it is told once there may be some. So it asks
-    /// again, and looks whom it waits for where there is none still.
-    fn wait_at(&mut self, topic: Topic, topics: &[Topic]) -> Option<Reserved>
-        ensures { IfSome result (λ room. room ≡ topics.now) }
-    {
-        if let Some(seats) = self.hub.seats(topic) {
-            let _ = seats.waiters().put(self.rt, self.peer.number, &self.bell);
-        }
-        match self.hub.reserve(self.rt, topics) {
-            Ok(room) => self.go_on(room),
-            Err(
-                NoRoom::Full {
-                    topic: full,
-                    sub: _,
-                },
-            ) => {
-                if full.0 == topic.0 {
-                    let count = self.wait.look(self.rt, self.alloc, self.hub, topic);
-                    self.activity.passes_over(count);
-                } else {
-                    self.bell.ring();
-                }
+            Err(NoRoom::Full { topic: _, sub: _ }) => {
+                self.keep_room(room);
                 None
             }
-            Err(NoRoom::NoMemory) => None,
+            Err(NoRoom::NoMemory) => self.without_room(room),
         }
+    }
+
+    /// Room at these topics, for which it waits.
+    #[inline(never)]
+    fn room_after_wait(&mut self, topics: &[Topic]) -> Option<Reserved>
+        ensures { IfSome result (λ room. (room ≡ topics.now) ⊎ (room ≡ [])) }
+    {
+        let mut room = self.kept_room();
+        if !topics.starts_with(room.topics()) {
+            self.hub
+                .running
+                .broker
+                .release_behind(self.rt, &mut room, 0);
+        }
+        self.tries(topics, room)
+    }
+
+    /// Room at these topics, where it is the first of a line: it stays so, if it is that of the first of these.
+    #[inline(never)]
+    fn room_as_first(&mut self, topics: &[Topic]) -> Option<Reserved>
+        ensures { IfSome result (λ room. (room ≡ topics.now) ⊎ (room ≡ [])) }
+    {
+        self.waiting.comes(&self.asker(), topics);
+        if self.waiting.is_idle() {
+            return self.room_at(topics);
+        }
+        let none = self.hub.running.broker.no_room();
+        self.tries(topics, none)
+    }
+
+    /// Room at these topics, of which it has this at the first of them; or it waits.
+    #[inline(never)]
+    fn tries(&mut self, topics: &[Topic], room: Reserved) -> Option<Reserved>
+        requires { IsRoomAt topics.now room }
+        ensures { IfSome result (λ room. (room ≡ topics.now) ⊎ (room ≡ [])) }
+    {
+        let mut room = room;
+        let tried = self.waiting.tries(&self.asker(), topics, &mut room);
+        self.activity.passes_over(self.waiting.take_passed_over());
+        match tried {
+            Tried::Room => Some(room),
+            Tried::Waits => {
+                self.keep_room(room);
+                None
+            }
+            Tried::NoMemory => self.without_room(room),
+        }
+    }
+
+    /// Room at no topic, which takes no memory: this is given back.
+    #[inline(never)]
+    fn without_room(&mut self, room: Reserved) -> Option<Reserved>
+        ensures { result ≡ Some [] }
+    {
+        self.waiting.gives_up(&self.asker(), room);
+        Some(self.hub.running.broker.no_room())
+    }
+
+    /// This subscription took something, or isn't waited for any more: who waits for room is rung.
+    fn room_made(&self, sub: &SeatedSub) {
+        self.hub
+            .room_made(self.rt, sub.topic, RoomMade::At(sub.begun.sub));
     }
 
     /// Tells the topic how many items of this subscription were taken, and those who wait for room there.
@@ -376,7 +459,7 @@ impl<'a, R: Wait + Log + Clock, W: Side, T: Side> Calls<'a, R, W, T> {
         sub.untold = 0;
         sub.begun.taker.tell(self.rt);
         sub.seat.set_taken();
-        self.hub.ring_waiters(self.rt, sub.topic);
+        self.room_made(sub);
     }
 
     /// An item of this subscription was taken: that is told once half of what a queue holds was.
@@ -527,18 +610,26 @@ impl<'a, R: Wait + Log + Clock, W: Side, T: Side> BrokerCalls for Calls<'a, R, W
     /// Where it owes turns, and there is no room, these come first: there may be some then. They come first, too, where
     /// it is to stand in for those who sleep.
     fn reserve(&mut self, topics: &[Topic]) -> Option<Reserved> {
+        if self.waiting.is_held() {
+            return self.room_after_wait(topics);
+        }
         if self.commits == AT_ONCE && self.heard_little && self.few_sleep() {
             return None;
         }
-        self.room_at(topics)
+        if self.waiting.is_idle() {
+            return self.room_at(topics);
+        }
+        self.room_as_first(topics)
     }
 
     fn give_room_back(&mut self, room: Reserved) {
         self.hub.release_room(self.rt, room);
     }
 
-    /// Where it is refused there may be room at each of its topics.
+    /// Where it is refused there may be room at each of its topics; where it has no room, too, since others may be passed
+    /// over.
     fn commit(&mut self, flying: Flying, room: Reserved) -> Result<Gate, (Gate, CommitFault)> {
+        let lacks_room = room.topics().len() < flying.topics().as_slice().len();
         let done = self.hub.running.broker.commit_reserved(
             self.rt,
             &mut self.worker,
@@ -547,15 +638,15 @@ impl<'a, R: Wait + Log + Clock, W: Side, T: Side> BrokerCalls for Calls<'a, R, W
             &mut self.unturned,
         );
         self.count_commit();
+        if lacks_room || done.is_err() {
+            self.hub.room_freed(self.rt);
+        }
         match done {
             Ok((gate, _)) => {
                 self.activity.commits();
                 Ok(gate)
             }
-            Err(refused) => {
-                self.hub.ring_all_waiters(self.rt);
-                Err(refused)
-            }
+            Err(refused) => Err(refused),
         }
     }
 }

@@ -8,13 +8,17 @@ ghost use Rattle.broker_server.specs.Hearing.{Hears};
 ghost use Rattle.broker_server.specs.declared.serving.connection.Round.TheVariants.{Idle};
 
 use crate::conversation::{Conversation, ConversationFault, Exit};
+use crate::serving::announcing::{say_came, say_left};
 use crate::serving::calls::Calls;
 use crate::serving::desk::Desk;
 use crate::serving::desks::Desks;
 use crate::serving::hub::Hub;
+use crate::serving::moment::Moment;
 use crate::serving::outfit::Outfit;
+use crate::serving::peer::Peer;
 use crate::serving::seat::Seat;
 use crate::serving::socket::{Came, Socket};
+use crate::serving::span::Span;
 use crate::serving::why_left::{LastWords, WhyLeft};
 use crate::spelled::Spelled;
 use broker_locks::Side;
@@ -65,6 +69,9 @@ fn is_over<R: Clock>(rt: &R, since: Option<Instant>) -> bool {
     }
 }
 
+/// So many nanoseconds a connection has for its CONNECT (our choice): ten seconds.
+const TO_CONNECT: u64 = 10_000_000_000;
+
 /// What one round of a connection's thread came to.
 #[derive(Clone, Copy)]
 enum Round {
@@ -74,8 +81,10 @@ enum Round {
     Idle,
     /// The connection leaves.
     Leaving,
-    /// It ends at once, and is told nothing more.
-    Ended(WhyLeft),
+    /// The server ends: it ends at once, and is told nothing more.
+    Closing,
+    /// A write has failed, and all that came was done: likewise.
+    Gone,
 }
 
 /// What wakes a thread.
@@ -85,6 +94,8 @@ enum Sleep {
     Told,
     /// The time, too, since it waits for room, or the system doesn't take what waits.
     Timed,
+    /// The end of the time for its CONNECT, too.
+    Until(Span),
 }
 
 /// A connection that is there, as its thread has it: it works at the connection's desk.
@@ -94,6 +105,8 @@ struct Connection<'a, 'b, R: Wait + Log + Clock, W: Side, T: Side> {
     hub: &'a Hub<R, W, T>,
     desks: &'b Desks<'a, R, W, T>,
     outfit: Outfit,
+    /// When it came.
+    came: Moment,
     /// How many octets it heard since its reads last left it topics to turn.
     heard: usize,
     /// The seats of those who sleep, for whom it stands in.
@@ -107,7 +120,7 @@ impl<'a, 'b, R: Wait + Log + Clock, W: Side, T: Side> Connection<'a, 'b, R, W, T
     fn round(&mut self, desk: &mut Desk<'a, R, W, T>) -> Round {
         let told = self.outfit.bell.hears();
         if self.hub.is_closing() {
-            return Round::Ended(WhyLeft::Closing);
+            return Round::Closing;
         }
         let mut busy = false;
         if told || desk.talk.has_more() {
@@ -120,9 +133,7 @@ impl<'a, 'b, R: Wait + Log + Clock, W: Side, T: Side> Connection<'a, 'b, R, W, T
         }
         match self.hear(desk) {
             Round::Idle if busy || sent > 0 => Round::Busy,
-            Round::Idle if desk.is_gone() && !desk.talk.is_held() => Round::Ended(
-                WhyLeft::WriteFailed,
-            ),
+            Round::Idle if desk.is_gone() && !desk.talk.is_held() => Round::Gone,
             round => round,
         }
     }
@@ -136,6 +147,7 @@ impl<'a, 'b, R: Wait + Log + Clock, W: Side, T: Side> Connection<'a, 'b, R, W, T
             match desk.read(self.outfit.room.as_mut_slice()) {
                 Came::Octets(n) => {
                     self.hear_read(desk, n);
+                    desk.note_heard(n);
                     self.go_on(desk);
                     round = Round::Busy;
                 }
@@ -189,21 +201,26 @@ impl<'a, 'b, R: Wait + Log + Clock, W: Side, T: Side> Connection<'a, 'b, R, W, T
         }
     }
 
-    /// Goes on with the transaction that waits for room, if one does, as `tries` says, and says whom it waits for.
+    /// Goes on with the transaction that waits for room, if one does, as `tries` says, and says whom it waits for. All that
+    /// was read was done then, or waits.
+    #[inline(always)]
     fn go_on(&mut self, desk: &mut Desk<'a, R, W, T>) -> Round
         ensures { result ≡ Idle → is_some desk.new.talk.held ≡ true → desk.new.calls.commits ≡ 0 }
     {
         if !desk.talk.is_held() {
+            desk.calls.rest();
             return Round::Idle;
         }
         let round = self.tries(desk);
         self.tell_wait(desk);
+        desk.calls.rest();
         round
     }
 
     /// Tries the transaction that waits for room, and what came behind it, until none waits, or there is no room though
     /// all that it sent was turned, or it is told of something. What is there for it is taken once none waits: a lag that
     /// was found meanwhile is told then.
+    #[inline(never)]
     fn tries(&mut self, desk: &mut Desk<'a, R, W, T>) -> Round
         ensures { result ≡ Idle → desk.new.calls.commits ≡ 0 }
     {
@@ -239,6 +256,7 @@ impl<'a, 'b, R: Wait + Log + Clock, W: Side, T: Side> Connection<'a, 'b, R, W, T
     }
 
     /// Says whom it waits for, if that is to be said.
+    #[inline(never)]
     fn tell_wait(&self, desk: &mut Desk<'a, R, W, T>)
         ensures talk { desk.new.talk ≡ desk.old.talk }
         ensures commits { desk.new.calls.commits ≡ desk.old.calls.commits }
@@ -273,7 +291,19 @@ impl<'a, 'b, R: Wait + Log + Clock, W: Side, T: Side> Connection<'a, 'b, R, W, T
     fn look(&mut self, desk: &mut Desk<'a, R, W, T>) -> Result<(), WhyLeft> {
         self.wait(Some(Duration::from_millis(0)))?;
         desk.socket.note(&self.outfit.events);
+        if !desk.talk.is_connected() {
+            self.time_to_connect(desk)?;
+        }
         Ok(())
+    }
+
+    /// What is left of the time for its CONNECT. Refused where that is over.
+    fn time_to_connect(&self, desk: &Desk<'a, R, W, T>) -> Result<Span, WhyLeft> {
+        let passed = Moment::now(self.rt).since(self.came).0;
+        if passed >= TO_CONNECT {
+            return Err(WhyLeft::Unconnected(desk.socket.first()));
+        }
+        Ok(Span(TO_CONNECT - passed))
     }
 
     /// Talks with the peer until the connection leaves; refused where it ends at once. While it sleeps, another thread
@@ -284,6 +314,7 @@ impl<'a, 'b, R: Wait + Log + Clock, W: Side, T: Side> Connection<'a, 'b, R, W, T
             let time = match self.work()? {
                 Some(Sleep::Told) => None,
                 Some(Sleep::Timed) => poll_time(),
+                Some(Sleep::Until(rest)) => Some(Duration::from_nanos(rest.0)),
                 None => return Ok(()),
             };
             self.wait(time)?;
@@ -304,6 +335,7 @@ impl<'a, 'b, R: Wait + Log + Clock, W: Side, T: Side> Connection<'a, 'b, R, W, T
             return Ok(None);
         };
         desk.socket.note_waited(&self.outfit.events);
+        desk.calls.set_timed(self.outfit.events.is_empty());
         let mut rounds = 0u32;
         let mut yielded_at = 0u32;
         for _ in rt.forever() {
@@ -316,7 +348,8 @@ impl<'a, 'b, R: Wait + Log + Clock, W: Side, T: Side> Connection<'a, 'b, R, W, T
                     }
                 }
                 Round::Leaving => return Ok(None),
-                Round::Ended(left) => return Err(left),
+                Round::Closing => return Err(WhyLeft::Closing),
+                Round::Gone => return Err(WhyLeft::WriteFailed),
                 Round::Idle if rounds.wrapping_sub(yielded_at) >= ROUNDS_TO_YIELD => {
                     yielded_at = rounds;
                     yield_now();
@@ -340,9 +373,12 @@ impl<'a, 'b, R: Wait + Log + Clock, W: Side, T: Side> Connection<'a, 'b, R, W, T
         self.hub.stir();
     }
 
-    /// By what it is woken, as there is nothing to do. Refused where the connection would be told of a lag behind what
-    /// the system hasn't taken for a minute, and nothing waits for room.
+    /// By what it is woken, as there is nothing to do. Refused where its CONNECT didn't come in time, and where the
+    /// connection would be told of a lag behind what the system hasn't taken for a minute, and nothing waits for room.
     fn sleep_of(&mut self, desk: &mut Desk<'a, R, W, T>) -> Result<Option<Sleep>, WhyLeft> {
+        if !desk.talk.is_connected() {
+            return Ok(Some(Sleep::Until(self.time_to_connect(desk)?)));
+        }
         let is_held = desk.talk.is_held();
         if !desk.socket.is_blocked() {
             let sleep = if is_held { Sleep::Timed } else { Sleep::Told };
@@ -441,6 +477,7 @@ impl<'a, 'b, R: Wait + Log + Clock, W: Side, T: Side> Connection<'a, 'b, R, W, T
             return WhyLeft::Closing;
         };
         let left = self.leave(ended, &mut desk);
+        desk.calls.end_behind();
         desk.show();
         let (socket, calls) = Box::into_inner(desk).into_parts();
         drop(socket);
@@ -478,12 +515,9 @@ pub(crate) fn attend<'a, 'b, R: Wait + Log + Clock, W: Side, T: Side>(
     socket: Socket,
 ) {
     let peer = outfit.peer;
-    info!(rt; target: "serve", "{peer} came");
+    say_came(rt, hub, peer);
     let left = talk_over(rt, alloc, hub, desks, outfit, socket);
-    match left {
-        WhyLeft::Untaken => warn!(rt; target: "serve", "{peer} left: {left}"),
-        _ => info!(rt; target: "serve", "{peer} left: {left}"),
-    }
+    say_left(rt, hub, peer, &left);
     desks.free_number(rt, peer.desk);
 }
 
@@ -496,7 +530,11 @@ fn talk_over<'a, 'b, R: Wait + Log + Clock, W: Side, T: Side>(
     outfit: Outfit,
     socket: Socket,
 ) -> WhyLeft {
-    let number = outfit.peer.number;
+    let Peer {
+        number,
+        desk,
+        addr: _,
+    } = outfit.peer;
     let left = match desk_of(rt, alloc, hub, &outfit, socket) {
         Ok(desk) => {
             let mut connection = Connection {
@@ -504,6 +542,7 @@ fn talk_over<'a, 'b, R: Wait + Log + Clock, W: Side, T: Side>(
                 hub,
                 desks,
                 outfit,
+                came: Moment::now(rt),
                 heard: 0,
                 asleep: Vec::new(alloc),
             };
@@ -514,6 +553,7 @@ fn talk_over<'a, 'b, R: Wait + Log + Clock, W: Side, T: Side>(
             WhyLeft::NoMemory
         }
     };
+    hub.waiters().set_bell(rt, desk, None);
     hub.leave(rt, number, &left);
     left
 }
@@ -529,9 +569,13 @@ fn desk_of<'a, R: Wait + Log + Clock, W: Side, T: Side>(
     let Ok(bell) = outfit.bell.clone() else {
         return Err(socket);
     };
+    let Ok(rung) = outfit.bell.clone() else {
+        return Err(socket);
+    };
     let Ok(worker) = hub.running.take_worker(rt) else {
         return Err(socket);
     };
+    hub.waiters().set_bell(rt, outfit.peer.desk, Some(rung));
     let calls = Calls::new(rt, alloc, hub, outfit.peer, bell, worker);
     let talk = Conversation::new(alloc, hub.running.capacity());
     match Box::new(alloc, Desk::new(socket, calls, talk)) {

@@ -25,6 +25,9 @@ fn untaken_time() -> Duration {
 /// choice).
 const WAITS: u32 = 10;
 
+/// A read of so many octets or more isn't acknowledged out of turn (our choice).
+const MUCH: usize = 4_096;
+
 /// What a connection's thread works at: what the connection says and is told, what it asks of the broker, and its
 /// socket. While that thread sleeps, another one may stand in for it here.
 #[derive(Drop)]
@@ -79,8 +82,29 @@ impl<'a, R: Wait + Log + Clock, W: Side, T: Side> Desk<'a, R, W, T> {
         self.talk.deliver(&mut self.calls)
     }
 
-    /// Writes what waits, as far as the system takes it, and notes at what pace that is; how many octets went out.
+    /// Writes what waits, as far as the system takes it, and notes at what pace that is; how many octets went out. Where
+    /// nothing waits there is nothing to note, unless the system is behind.
+    #[inline(always)]
     pub(crate) fn write(&mut self) -> usize
+        ensures calls { self.new.calls ≡ self.old.calls }
+        ensures talk { self.new.talk ≡ record self.old.talk { wire = self.new.talk.wire } }
+    {
+        if self.is_written() {
+            return 0;
+        }
+        self.write_some()
+    }
+
+    /// Whether nothing waits to be written, and the system isn't behind.
+    fn is_written(&self) -> bool {
+        self.talk.wire().is_empty()
+            && !self.socket.is_blocked()
+            && !self.calls.bell().intake().is_behind()
+    }
+
+    /// Writes what waits, as far as the system takes it, and notes at what pace that is; how many octets went out.
+    #[inline(never)]
+    fn write_some(&mut self) -> usize
         ensures calls { self.new.calls ≡ self.old.calls }
         ensures talk { self.new.talk ≡ record self.old.talk { wire = self.new.talk.wire } }
     {
@@ -105,6 +129,7 @@ impl<'a, R: Wait + Log + Clock, W: Side, T: Side> Desk<'a, R, W, T> {
         if is_behind || was_behind {
             self.streak.ends();
             intake.note(rt, Moment::now(rt), sent as u64, is_behind);
+            self.calls.note_behind(was_behind, is_behind);
         } else if self.streak.adds(sent as u64) {
             intake.keep_up(rt);
         }
@@ -125,6 +150,18 @@ impl<'a, R: Wait + Log + Clock, W: Side, T: Side> Desk<'a, R, W, T> {
             self.octets_in = self.octets_in.saturating_add(n as u64);
         }
         came
+    }
+
+    /// So many octets were read and heard. Where they are few, and brought neither an answer nor a transaction that was committed
+    /// or waits, the system is to acknowledge them at once: a client's system may keep the rest of a transaction back until then.
+    pub(crate) fn note_heard(&mut self, n: usize)
+        ensures { self.new ≡ self.old }
+    {
+        let is_answered = !self.talk.wire().is_empty() || self.talk.is_leaving();
+        let is_committed = self.calls.commits() > 0 || self.talk.is_held();
+        if n < MUCH && !is_answered && !is_committed {
+            self.socket.acknowledge();
+        }
     }
 
     /// Whether a write has failed.
@@ -158,7 +195,7 @@ impl<'a, R: Wait + Log + Clock, W: Side, T: Side> Desk<'a, R, W, T> {
 
     /// Shows what the connection did, for the log's figures.
     pub(crate) fn show(&self) {
-        self.calls.bell().show(self.calls.rt(), self.activity());
+        self.calls.bell().show(&self.activity());
     }
 
     /// It is stuck where more is there than the system takes: it looks again once that takes some.

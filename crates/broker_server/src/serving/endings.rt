@@ -21,6 +21,8 @@ pub(crate) struct Endings {
     pub(crate) lag: u64,
     /// A write failed.
     pub(crate) write_failed: u64,
+    /// Their CONNECTs didn't come in time.
+    pub(crate) unconnected: u64,
     /// By what failed here, memory, descriptors, a thread or a poll, or as the server ended.
     pub(crate) other: u64,
 }
@@ -28,7 +30,15 @@ pub(crate) struct Endings {
 impl Endings {
     /// None.
     pub(crate) fn new() -> Endings
-        ensures { result ≡ record { disconnect = 0; error = 0; closed = 0; lag = 0; write_failed = 0; other = 0 } }
+        ensures { result ≡ record {
+          disconnect = 0;
+          error = 0;
+          closed = 0;
+          lag = 0;
+          write_failed = 0;
+          unconnected = 0;
+          other = 0;
+        } }
     {
         Endings {
             disconnect: 0,
@@ -36,6 +46,7 @@ impl Endings {
             closed: 0,
             lag: 0,
             write_failed: 0,
+            unconnected: 0,
             other: 0,
         }
     }
@@ -51,6 +62,7 @@ impl Endings {
             WhyLeft::By(Exit::Error(_), _) => self.error = self.error.saturating_add(1),
             WhyLeft::By(Exit::Lost, _) => self.closed = self.closed.saturating_add(1),
             WhyLeft::WriteFailed => self.write_failed = self.write_failed.saturating_add(1),
+            WhyLeft::Unconnected(_) => self.unconnected = self.unconnected.saturating_add(1),
             WhyLeft::NoMemory | WhyLeft::PollFailed | WhyLeft::Closing => {
                 self.other = self.other.saturating_add(1);
             }
@@ -68,8 +80,8 @@ impl Display for Endings {
         write!(f, " ended_closed={} ended_lag={}", self.closed, self.lag)?;
         write!(
             f,
-            " ended_write_failed={} ended_other={}",
-            self.write_failed, self.other
+            " ended_write_failed={} ended_unconnected={} ended_other={}",
+            self.write_failed, self.unconnected, self.other
         )
     }
 }

@@ -1,23 +1,26 @@
 //! What the server's threads share.
 
-ghost use Rattle.std.specs.Prelude.{◌≡◌, ◌≤◌, length, Ok, None, IfOk, slice_get};
+ghost use Rattle.std.specs.Prelude.{◌≡◌, ◌≤◌, ◌++◌, length, take, Ok, None, OnOk, OnErr, slice_get};
 ghost use Rattle.std.specs.Option.{option_map};
+ghost use Rattle.broker_server.specs.Lines.{IsRoomFrom};
 
 use crate::serving::account::Account;
 use crate::serving::bell::Bell;
 use crate::serving::figures::Figures;
 use crate::serving::head::Head;
+use crate::serving::room_made::RoomMade;
 use crate::serving::running::Running;
 use crate::serving::seat::Seat;
 use crate::serving::topic_seats::TopicSeats;
 use crate::serving::totals::Totals;
 use crate::serving::unturned::Unturned;
+use crate::serving::waiters::Waiters;
 use crate::serving::why_left::WhyLeft;
 use broker_locks::{NoRoom, Reserved, Side};
 use delivery::MAX_TOPICS;
 use mcast_txn::{NoMemory, Topic};
 use std::alloc::{AllocError, Global};
-use std::sync::atomic::{AtomicBool, Ordering};
+use std::sync::atomic::{AtomicBool, AtomicU64, Ordering};
 use std::sync::{Arc, Mutex, Wait};
 
 /// How many threads turn topics: topic t is turned by the head t mod 2.
@@ -29,11 +32,15 @@ pub(crate) const MAX_CONNECTIONS: u64 = 256;
 /// A sender's thread may stand in for so many seats at once that sleep (our choice).
 const MOST_ASLEEP: usize = 32;
 
-/// What the server's threads share: the broker, who is told of which topic, the heads, and the connections.
-#[derive(Drop)]
+/// What the server's threads share: the broker, who is told of which topic, the heads, and the connections. It can't be
+/// let go of, since those who wait may have room.
 pub(crate) struct Hub<R: Wait, W: Side, T: Side> {
     pub(crate) running: Running<R, W, T>,
     topics: Vec<TopicSeats>,
+    /// What connections wait for room with.
+    waiters: Waiters,
+    /// How many connections are behind: of whose octets the system took less than there was, and hasn't taken all since.
+    behind: AtomicU64,
     heads: Vec<Head>,
     /// The bell of each connection that is there.
     connections: Mutex<Vec<(u64, Arc<Bell>)>>,
@@ -57,11 +64,16 @@ impl<R: Wait, W: Side, T: Side> Hub<R, W, T> {
         for _ in 0..HEADS {
             heads.push(Head::new(alloc, MAX_TOPICS)?)?;
         }
+        let topics = seats_of(alloc, MAX_TOPICS, running.half())?;
+        let connections = Vec::with_capacity(alloc, MAX_CONNECTIONS as usize)?;
+        let waiters = Waiters::new(alloc, &running.broker)?;
         Ok(Hub {
             running,
-            topics: seats_of(alloc, MAX_TOPICS)?,
+            topics,
+            waiters,
+            behind: AtomicU64::new(0),
             heads,
-            connections: Mutex::new(Vec::with_capacity(alloc, MAX_CONNECTIONS as usize)?),
+            connections: Mutex::new(connections),
             door,
             totals: Totals::new(),
             closing: AtomicBool::new(false),
@@ -166,17 +178,14 @@ impl<R: Wait, W: Side, T: Side> Hub<R, W, T> {
         }
     }
 
-    /// Turns the topic of this index, and rings those who wait for room there, if there may be some now: its seats, if
-    /// there may be something for who has them.
+    /// Turns the topic of this index, and rings who waits for room there, if there may be some now: its seats, if there
+    /// may be something for who has them.
     fn turned(&self, rt: &R, at: usize) -> Option<&TopicSeats> {
         let number = u32::try_from(at).ok()?;
         let seats = self.topics.get(at)?;
-        if self.running.turn(rt, Topic(number)) {
-            seats.waiters().ring(rt);
-            Some(seats)
-        } else {
-            None
-        }
+        let made = self.running.turn(rt, Topic(number))?;
+        seats.line().ring(rt, &self.waiters, made);
+        Some(seats)
     }
 
     /// The seats of this topic.
@@ -186,39 +195,94 @@ impl<R: Wait, W: Side, T: Side> Hub<R, W, T> {
         self.topics.get(topic.0 as usize)
     }
 
-    /// Room at each of these topics, or at none: those where it was given back are told.
-    pub(crate) fn reserve(&self, rt: &R, topics: &[Topic]) -> Result<Reserved, NoRoom>
-        ensures topics { IfOk result (λ room. room ≡ topics.now) }
+    /// What connections wait for room with.
+    pub(crate) fn waiters(&self) -> &Waiters
+        ensures { result.now ≡ self.now.waiters }
     {
-        let refused = match self.running.broker.reserve(rt, topics) {
-            Ok(room) => return Ok(room),
-            Err(refused) => refused,
-        };
-        if let NoRoom::Full { topic, sub: _ } = refused {
-            for before in topics.iter().take_while(|before| before.0 != topic.0) {
-                self.ring_waiters(rt, *before);
-            }
+        &self.waiters
+    }
+
+    /// Whether somebody waits for room at this topic.
+    pub(crate) fn is_awaited(&self, topic: Topic) -> bool {
+        match self.topics.get(topic.0 as usize) {
+            Some(seats) => seats.line().is_awaited(),
+            None => false,
         }
-        Err(refused)
+    }
+
+    /// Room at each of these topics, where nobody waits for it: at all of them, or at the first of them.
+    pub(crate) fn reserve(
+        &self,
+        rt: &R,
+        topics: &[Topic],
+        room: &mut Reserved,
+    ) -> Result<(), NoRoom>
+        ensures all { OnOk result (room.new ≡ room.old ++ topics.now) }
+        ensures first { OnErr result (IsRoomFrom room.old topics.now room.new) }
+    {
+        for topic in topics {
+            if self.is_awaited(*topic) {
+                return Err(NoRoom::Full {
+                    topic: *topic,
+                    sub: None,
+                });
+            }
+            self.running.broker.reserve_at(rt, *topic, 0, room)?;
+        }
+        Ok(())
+    }
+
+    /// Gives back what is reserved behind the first so many topics, at these.
+    pub(crate) fn release_behind(&self, rt: &R, room: &mut Reserved, kept: usize, topics: &[Topic])
+        ensures { room.new ≡ take kept room.old }
+    {
+        self.running.broker.release_behind(rt, room, kept);
+        for topic in topics {
+            self.room_made(rt, *topic, RoomMade::Freed);
+        }
     }
 
     /// Gives room back that isn't used.
     pub(crate) fn release_room(&self, rt: &R, room: Reserved) {
+        let is_some = !room.topics().is_empty();
         self.running.broker.release_room(rt, room);
-        self.ring_all_waiters(rt);
-    }
-
-    /// There may be room at this topic: tells those who wait for it.
-    pub(crate) fn ring_waiters(&self, rt: &R, topic: Topic) {
-        if let Some(seats) = self.topics.get(topic.0 as usize) {
-            seats.waiters().ring(rt);
+        if is_some {
+            self.room_freed(rt);
         }
     }
 
-    /// The same at each topic.
-    pub(crate) fn ring_all_waiters(&self, rt: &R) {
+    /// A place to keep room at this topic is given back.
+    pub(crate) fn give_place_back(&self, rt: &R, topic: Topic) {
+        if let Some(seats) = self.topics.get(topic.0 as usize) {
+            seats.keepers().give_back(rt, &self.waiters);
+        }
+    }
+
+    /// Room may have been made so at this topic: who waits for it is rung.
+    pub(crate) fn room_made(&self, rt: &R, topic: Topic, made: RoomMade) {
+        if let Some(seats) = self.topics.get(topic.0 as usize) {
+            seats.line().ring(rt, &self.waiters, made);
+        }
+    }
+
+    /// Room may have been given back at any topic.
+    pub(crate) fn room_freed(&self, rt: &R) {
         for seats in self.topics.iter() {
-            seats.waiters().ring(rt);
+            seats.line().ring(rt, &self.waiters, RoomMade::Freed);
+        }
+    }
+
+    /// Whether some connection is behind: the system took less than there was for it, and hasn't taken all since.
+    pub(crate) fn has_behind(&self) -> bool {
+        self.behind.load(Ordering::SeqCst) > 0
+    }
+
+    /// A connection is behind from now on, or isn't any more.
+    pub(crate) fn count_behind(&self, is_behind: bool) {
+        if is_behind {
+            self.behind.fetch_add(1, Ordering::SeqCst);
+        } else {
+            self.behind.fetch_sub(1, Ordering::SeqCst);
         }
     }
 
@@ -264,7 +328,7 @@ impl<R: Wait, W: Side, T: Side> Hub<R, W, T> {
             && at < connections.len()
         {
             let (_, bell) = connections.swap_remove(at);
-            self.totals.leaves(rt, bell.activity(rt), left);
+            self.totals.leaves(rt, bell.activity(), left);
         }
         self.stir();
     }
@@ -275,7 +339,7 @@ impl<R: Wait, W: Side, T: Side> Hub<R, W, T> {
         let connections = self.connections.lock(rt);
         let mut figures = self.totals.past(rt);
         for (_, bell) in connections.iter() {
-            figures.activity.add(bell.activity(rt));
+            figures.activity.add(bell.activity());
         }
         figures.connections = connections.len() as u64;
         figures.topics = topics;
@@ -326,13 +390,15 @@ impl<R: Wait, W: Side, T: Side> Hub<R, W, T> {
         &self.door
     }
 
-    /// The broker, once nobody else uses it.
-    pub(crate) fn into_running(self) -> Running<R, W, T>
+    /// The broker, once nobody else uses it: what room was kept is given back.
+    pub(crate) fn into_running(self, rt: &R) -> Running<R, W, T>
         ensures { result ≡ self.running }
     {
         let Hub {
             running,
             topics: _,
+            waiters,
+            behind: _,
             heads: _,
             connections: _,
             door: _,
@@ -340,15 +406,16 @@ impl<R: Wait, W: Side, T: Side> Hub<R, W, T> {
             closing: _,
             failed: _,
         } = self;
+        waiters.close(rt, &running.broker);
         running
     }
 }
 
-/// The seats of so many topics.
-fn seats_of(alloc: Global, count: usize) -> Result<Vec<TopicSeats>, NoMemory> {
+/// The seats of so many topics, at each of which so many may keep room.
+fn seats_of(alloc: Global, count: usize, keepers: u64) -> Result<Vec<TopicSeats>, NoMemory> {
     let mut topics = Vec::with_capacity(alloc, count)?;
     for _ in 0..count {
-        topics.push(TopicSeats::new(alloc))?;
+        topics.push(TopicSeats::new(alloc, keepers))?;
     }
     Ok(topics)
 }

@@ -9,10 +9,13 @@ ghost use Rattle.broker_server.specs.Purses.{
   after_octets,
   has_rate,
   is_taking,
+  is_proven,
+  is_trusted_at,
   known_price,
   no_tenths,
   pace_price,
   price_at,
+  twice_a_tenth,
 };
 
 use crate::serving::moment::Moment;
@@ -29,6 +32,9 @@ const FAST: u32 = 8_388_608;
 /// Where so many are, it costs a sixtieth of the time (our choice).
 const SLOW: u32 = 65_536;
 
+/// So many octets are more than the system's buffers hold (our choice).
+pub(crate) const MOST_BUFFERED: u64 = 8_388_608;
+
 /// How fast the system takes what a connection writes, while it is behind: since the system took less than there was,
 /// until it has taken all and the connection's queues are empty.
 #[derive(Clone, Copy)]
@@ -42,6 +48,9 @@ pub(crate) struct Pace {
     known: Price,
     /// Whether it was passed over since it is behind, and isn't waited for at any topic until it catches up.
     given_up: bool,
+    /// How many octets were taken while it was behind, whenever that was; and 8 MiB for each time that it kept up with so
+    /// many.
+    ever: u64,
 }
 
 /// Whether so many octets in this time are so many a second, or more.
@@ -49,6 +58,14 @@ fn has_rate(octets: u64, time: Span, wanted: u32) -> bool
     ensures { result ≡ has_rate octets time.0 wanted }
 {
     u128::from(octets) * u128::from(SECOND) >= u128::from(wanted) * u128::from(time.0)
+}
+
+/// Twice what a tenth of a second has of so many octets a second, rounded up: so much counts of a tenth, so that what the
+/// system's buffers take at once is no pace.
+fn twice_a_tenth(octets: u32) -> u32
+    ensures { result ≡ twice_a_tenth octets }
+{
+    octets / 5 + 1
 }
 
 /// What waiting costs for who is fast, or slow, or slower.
@@ -73,6 +90,7 @@ impl Pace {
           tenths = record { tenths = no_tenths };
           known = Price.Full;
           given_up = false;
+          ever = 0;
         } }
     {
         Pace {
@@ -81,6 +99,7 @@ impl Pace {
             tenths: Tenths::new(),
             known: Price::Full,
             given_up: false,
+            ever: 0,
         }
     }
 
@@ -90,6 +109,7 @@ impl Pace {
     {
         if self.since.is_some() {
             self.taken = self.taken.saturating_add(octets);
+            self.ever = self.ever.saturating_add(octets);
             self.tenths.add(now, octets);
         }
     }
@@ -140,11 +160,12 @@ impl Pace {
     {
         if self.since.is_none() {
             self.known = Price::Free;
+            self.ever = self.ever.saturating_add(MOST_BUFFERED);
         }
     }
 
     /// It was passed over. Where it has been behind for a tenth of a second, it isn't waited for at any topic until it
-    /// catches up.
+    /// catches up, and nothing is known of it but how it does that.
     pub(crate) fn gives_up(&mut self, now: Moment)
         ensures { self.new ≡ after_giving_up self.old now }
     {
@@ -152,6 +173,7 @@ impl Pace {
             && now.since(since).0 >= TENTH
         {
             self.given_up = true;
+            self.known = Price::Full;
         }
     }
 
@@ -169,12 +191,31 @@ impl Pace {
         self.since
     }
 
-    /// Whether so many octets a second are taken, over the time since it is behind, a second at most. Of each tenth of a
-    /// second at most twice its share counts, so that what the system's buffers take at once is no pace.
-    fn is_taking(&self, now: Moment, time: Span, wanted: u32) -> bool
-        ensures { result ≡ is_taking self.now.tenths.tenths now time.0 wanted }
+    /// Whether it cost nothing when it was behind last, and took more than the system's buffers hold.
+    fn is_proven(&self) -> bool
+        ensures { result ≡ is_proven self.now }
     {
-        has_rate(self.tenths.lately(now, wanted / 5 + 1), time, wanted)
+        self.known.is_free() && self.ever >= MOST_BUFFERED
+    }
+
+    /// Whether it is trusted at this moment: it is proven, and has been behind for a tenth of a second, and less than a
+    /// second.
+    pub(crate) fn is_trusted(&self, now: Moment) -> bool
+        ensures { result ≡ is_trusted_at self.now now }
+    {
+        let Some(since) = self.since else {
+            return false;
+        };
+        let time = now.since(since);
+        self.is_proven() && time.0 >= TENTH && time.0 < SECOND
+    }
+
+    /// Whether so many octets a second are taken, over the time since it is behind, a second at most. Of each tenth of a
+    /// second at most so many count.
+    fn is_taking(&self, now: Moment, time: Span, wanted: u32, most: u32) -> bool
+        ensures { result ≡ is_taking self.now.tenths.tenths now time.0 wanted most }
+    {
+        has_rate(self.tenths.lately(now, most), time, wanted)
     }
 
     /// What waiting for it costs at this moment.
@@ -189,7 +230,15 @@ impl Pace {
             return self.known;
         }
         let time = Span(time.0.min(SECOND));
-        let is_fast = self.is_taking(now, time, FAST);
-        pace_price(is_fast, self.is_taking(now, time, SLOW))
+        let most = if self.is_proven() {
+            FAST
+        } else {
+            twice_a_tenth(FAST)
+        };
+        let is_fast = self.is_taking(now, time, FAST, most);
+        pace_price(
+            is_fast,
+            self.is_taking(now, time, SLOW, twice_a_tenth(SLOW)),
+        )
     }
 }

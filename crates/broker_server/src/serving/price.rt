@@ -1,17 +1,19 @@
 //! What waiting for a connection costs.
 
 ghost use Rattle.std.specs.Prelude.{◌≡◌, ◌-◌, ◌*◌, ◌^◌, min};
-ghost use Rattle.broker_server.specs.Purses.{cheaper, dearer, is_below, is_free, rate};
+ghost use Rattle.broker_server.specs.Purses.{as_trusted, cheaper, dearer, is_below, is_free, is_trusted, rank, rate};
 
 use crate::serving::cost::Cost;
 use crate::serving::span::Span;
 
-/// What waiting for a connection costs: nothing, a sixtieth of the time, or all of it.
+/// What waiting for a connection costs: nothing, a sixtieth of the time, all of it, or all of it to what is there for the
+/// trusted.
 #[derive(Clone, Copy)]
 pub(crate) enum Price {
     Free,
     Sixtieth,
     Full,
+    Trusted,
 }
 
 impl Price {
@@ -21,18 +23,51 @@ impl Price {
     {
         match self {
             Price::Free => true,
-            Price::Sixtieth | Price::Full => false,
+            Price::Sixtieth | Price::Full | Price::Trusted => false,
+        }
+    }
+
+    /// Whether it is that of one that is trusted.
+    pub(crate) fn is_trusted(self) -> bool
+        ensures { result ≡ is_trusted self }
+    {
+        match self {
+            Price::Trusted => true,
+            Price::Free | Price::Sixtieth | Price::Full => false,
+        }
+    }
+
+    /// What one costs that is trusted, and would cost so much else.
+    pub(crate) fn as_trusted(self) -> Price
+        ensures { result ≡ as_trusted self }
+    {
+        if self.is_free() {
+            Price::Free
+        } else {
+            Price::Trusted
         }
     }
 
     /// What a nanosecond costs, in six-hundredths of one.
-    fn rate(self) -> u64
+    pub(crate) fn rate(self) -> u64
         ensures { result ≡ rate self }
     {
         match self {
             Price::Free => 0,
             Price::Sixtieth => 10,
-            Price::Full => 600,
+            Price::Full | Price::Trusted => 600,
+        }
+    }
+
+    /// Its place among the prices, the dearest last.
+    fn rank(self) -> u64
+        ensures { result ≡ rank self }
+    {
+        match self {
+            Price::Free => 0,
+            Price::Sixtieth => 1,
+            Price::Full => 2,
+            Price::Trusted => 3,
         }
     }
 
@@ -40,7 +75,7 @@ impl Price {
     pub(crate) fn is_below(self, other: Price) -> bool
         ensures { result ≡ is_below self other }
     {
-        self.rate() < other.rate()
+        self.rank() < other.rank()
     }
 
     /// The cheaper of the two.
@@ -57,14 +92,7 @@ impl Price {
         if self.is_below(other) { other } else { self }
     }
 
-    /// What waiting for so long costs.
-    pub(crate) fn cost(self, time: Span) -> Cost
-        ensures { result.0 ≡ min (rate self * time.0) (2 ^ 64 - 1) }
-    {
-        Cost(self.rate().saturating_mul(time.0))
-    }
-
-    /// What it would cost beside that at the full price.
+    /// What waiting for so long would cost at the full price, beside what it costs.
     pub(crate) fn spared(self, time: Span) -> Cost
         ensures { result.0 ≡ min ((600 - rate self) * time.0) (2 ^ 64 - 1) }
     {

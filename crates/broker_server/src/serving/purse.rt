@@ -1,30 +1,41 @@
 //! What a topic's senders wait for those who take slowly.
 
-ghost use Rattle.std.specs.Prelude.{◌≡◌, ◌-◌, false, nat_lt, if◌then◌else◌};
-ghost use Rattle.broker_server.specs.Purses.{Begins, Ends, GoesOn, IsBounded, Pays, after_call, after_time, may_wait, purse_with};
+ghost use Rattle.std.specs.Prelude.{◌≡◌, ◌-◌, not, false, nat_lt, if◌then◌else◌};
+ghost use Rattle.broker_server.specs.Purses.{
+  Begins,
+  Ends,
+  GoesOn,
+  IsBounded,
+  Pays,
+  after_call,
+  after_time,
+  common_pays,
+  may_trust,
+  may_wait,
+  paid_rate,
+  trust_pays,
+};
 
 use crate::serving::cost::Cost;
+use crate::serving::fund::Fund;
 use crate::serving::moment::Moment;
 use crate::serving::price::Price;
 use crate::serving::span::Span;
 
-/// What it holds: a second, in six-hundredths of a nanosecond (our choice).
-pub(crate) const FULL_PURSE: u64 = 600_000_000_000;
+/// What is common has back of a nanosecond that costs it nothing: a six-hundredth (our choice).
+const COMMON_BACK: u64 = 1;
 
-/// What has to be back before a spent one pays again: a tenth of that (our choice).
-const LEAST: u64 = 60_000_000_000;
+/// And what there is for the trusted: a tenth, in six-hundredths (our choice).
+const TRUST_BACK: u64 = 60;
 
-/// What it lacks at most: who waits looks each tenth of a second, and may then have waited for a tenth more than it held.
-const MOST_LACKING: u64 = FULL_PURSE + LEAST;
-
-/// What a topic's senders may wait for those who take slowly. It pays for the time in which somebody waits there, and
-/// comes back by a six-hundredth of the time that costs nothing.
+/// What a topic's senders may wait for those who take slowly. It pays for the time in which somebody waits there. What
+/// is common comes back by a six-hundredth of the time that costs it nothing, what the trusted have by a tenth.
 #[derive(Clone, Copy)]
 pub(crate) struct Purse {
-    /// What it lacks until it is full: what it paid and isn't back yet, in six-hundredths of a nanosecond.
-    lacks: u64,
-    /// Whether it was emptied, and less than a tenth of it is back: it pays nothing then.
-    spent: bool,
+    /// What pays for all but the trusted; for these, too, where theirs is spent.
+    common: Fund,
+    /// What pays for the trusted.
+    trust: Fund,
     /// The moment until which was paid.
     at: Moment,
     /// How many wait.
@@ -38,8 +49,8 @@ impl Purse {
     #[tactic(auto, using(crate::proofs::PurseIsBounded::new_is_bounded))]
     pub(crate) fn new() -> Purse
         ensures full { result ≡ record {
-          lacks = 0;
-          spent = false;
+          common = record { lacks = 0; spent = false };
+          trust = record { lacks = 0; spent = false };
           at = record { 0 = 0 };
           waiting = 0;
           price = Price.Free;
@@ -47,8 +58,8 @@ impl Purse {
         ensures bounded { IsBounded result }
     {
         Purse {
-            lacks: 0,
-            spent: false,
+            common: Fund::new(),
+            trust: Fund::new(),
             at: Moment(0),
             waiting: 0,
             price: Price::Free,
@@ -73,39 +84,67 @@ impl Purse {
         }
     }
 
-    /// It lacks so much from now on.
-    fn lack(&mut self, lacks: u64)
-        ensures { self.new ≡ purse_with self.old lacks }
+    /// Whether the trusted have a price of their own, as there is something left for them.
+    pub(crate) fn trusts(&self) -> bool
+        ensures { result ≡ not self.now.trust.spent }
     {
-        self.spent = lacks >= FULL_PURSE || (self.spent && lacks > FULL_PURSE - LEAST);
-        self.lacks = lacks.min(MOST_LACKING);
+        !self.trust.is_spent()
     }
 
-    /// Pays until this moment, at this price, or comes back.
+    /// Whether those that were found trusted may be waited for.
+    pub(crate) fn may_trust(&self) -> bool
+        ensures { result ≡ may_trust self.now }
+    {
+        !self.trust.is_spent() || !self.common.is_spent()
+    }
+
+    /// What a nanosecond at this price costs what there is for the trusted.
+    fn trust_rate(&self, price: Price) -> u64
+        ensures { result ≡ paid_rate (trust_pays self.now price) price }
+    {
+        if self.waiting == 0 || self.trust.is_spent() || !price.is_trusted() {
+            0
+        } else {
+            price.rate()
+        }
+    }
+
+    /// And what it costs what is common: nothing where that pays.
+    fn common_rate(&self, price: Price) -> u64
+        ensures { result ≡ paid_rate (common_pays self.now price) price }
+    {
+        let trust_pays = price.is_trusted() && !self.trust.is_spent();
+        if self.waiting == 0 || self.common.is_spent() || trust_pays {
+            0
+        } else {
+            price.rate()
+        }
+    }
+
+    /// Pays until this moment, at this price, or has something back.
     fn settle(&mut self, now: Moment, price: Price)
         ensures { self.new ≡ after_time self.old now price }
     {
         let time = now.since(self.at);
+        let common = self.common_rate(price);
+        let trust = self.trust_rate(price);
         self.at = self.at.later(now);
-        if self.waiting == 0 || self.spent || price.is_free() {
-            self.lack(self.lacks.saturating_sub(time.0));
-        } else {
-            self.lack(self.lacks.saturating_add(price.cost(time).0));
-        }
+        self.common.settles(common, COMMON_BACK, time);
+        self.trust.settles(trust, TRUST_BACK, time);
     }
 
     /// Somebody finds no room at this moment. Whether those that lack it, of whom the dearest has this price, may be
-    /// waited for: else each of those that costs something is to be passed over.
+    /// waited for, beside the trusted: else each of those that costs something is to be passed over.
     fn look(&mut self, now: Moment, price: Price) -> bool
         ensures after { self.new ≡ after_call self.old (GoesOn now price) }
         ensures may { result ≡ may_wait self.new }
     {
         self.settle(now, price);
         self.price = price;
-        price.is_free() || !self.spent
+        price.is_free() || !self.common.is_spent()
     }
 
-    /// One more waits; whether those that lack room may be waited for.
+    /// One more waits; whether those that lack room, beside the trusted, may be waited for.
     pub(crate) fn begins(&mut self, now: Moment, price: Price) -> bool
         ensures after { self.new ≡ after_call self.old (Begins now price) }
         ensures may { result ≡ may_wait self.new }
@@ -115,7 +154,7 @@ impl Purse {
         may_wait
     }
 
-    /// One that waits finds no room again; whether those that lack it may be waited for.
+    /// One that waits finds no room again; whether those that lack it, beside the trusted, may be waited for.
     pub(crate) fn goes_on(&mut self, now: Moment, price: Price) -> bool
         ensures after { self.new ≡ after_call self.old (GoesOn now price) }
         ensures may { result ≡ may_wait self.new }
@@ -136,6 +175,6 @@ impl Purse {
         ensures { self.new ≡ after_call self.old (Pays now owed.0) }
     {
         self.settle(now, self.price);
-        self.lack(self.lacks.saturating_add(owed.0));
+        self.common.pays(owed);
     }
 }

@@ -115,8 +115,7 @@ impl RoomWait {
     }
 }
 
-/// Passes over those that a look found who aren't to be waited for; how many. Who waits there is told, this connection,
-/// too.
+/// Passes over those that a look found who aren't to be waited for; how many.
 fn pass_over_those<R: Wait, W: Side, T: Side>(
     rt: &R,
     hub: &Hub<R, W, T>,
@@ -129,9 +128,6 @@ fn pass_over_those<R: Wait, W: Side, T: Side>(
     if !look.may_wait {
         let dear = pass_over(rt, hub, seats, topic, now, look.dear.as_slice());
         count = count.saturating_add(dear);
-    }
-    if count > 0 {
-        seats.waiters().ring(rt);
     }
     count
 }

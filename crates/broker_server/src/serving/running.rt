@@ -1,6 +1,6 @@
 //! The broker, as the server uses it, with the names of its topics and the workers that no connection has.
 
-ghost use Rattle.std.specs.Prelude.{◌≡◌, ◌≤◌, ℕ, false, List, length, IfOk, IfErr, IfSome};
+ghost use Rattle.std.specs.Prelude.{◌≡◌, ◌≤◌, ℕ, List, length, None, IfOk, IfErr, IfSome};
 ghost use Rattle.stomp_frame.specs.ClientFrames.{raw_of};
 ghost use Rattle.delivery.specs.Topics.{max_topics};
 ghost use Rattle.broker_locks.specs.declared.server_fault.ServerFault.TheVariants.{TooManyConns};
@@ -10,6 +10,7 @@ ghost use Rattle.broker_server.specs.Judging.{Grows, IsFrameAccepted, IsFrameRef
 use crate::conversation::ConversationFault;
 use crate::serving::hub::MAX_CONNECTIONS;
 use crate::serving::naming::step_by_all;
+use crate::serving::room_made::RoomMade;
 use broker_locks::{Broker, ServerFault, Side, Worker};
 use delivery::{MAX_TOPICS, Topics};
 use mcast_txn::{NoMemory, Topic};
@@ -104,13 +105,24 @@ impl<R: Wait, W: Side, T: Side> Running<R, W, T> {
         self.broker.topics().len()
     }
 
-    /// Turns a topic. Whether somebody may find something now: an item, or that it has lagged. Rows that there was no
-    /// memory to drain stay in the topic's log until its next turn.
-    pub(crate) fn turn(&self, rt: &R, topic: Topic) -> bool
-        ensures { max_topics ≤ topic.0 → result ≡ false }
+    /// Half of what a queue holds, and one at least.
+    pub(crate) fn half(&self) -> u64 {
+        (self.capacity() / 2).max(1)
+    }
+
+    /// Turns a topic. Where somebody may find something now, an item, or that it has lagged: by what room may have been
+    /// made there. Rows that there was no memory to drain stay in the topic's log until its next turn.
+    pub(crate) fn turn(&self, rt: &R, topic: Topic) -> Option<RoomMade>
+        ensures { max_topics ≤ topic.0 → result ≡ None }
     {
         let (turned, _drained) = self.broker.head_turned(rt, topic);
-        turned.released > 0 || turned.lagged
+        if turned.lagged {
+            Some(RoomMade::Freed)
+        } else if turned.released > 0 {
+            Some(RoomMade::Turned)
+        } else {
+            None
+        }
     }
 
     /// The trace of the run, or `None` out of memory.

@@ -46,10 +46,14 @@ impl SeatEntry {
         ensures account { (pace : Pace) × (fresh : Bool)
             × (self.new.account ≡ account_at_look self.old.account pace now unpaid.0 fresh) }
         ensures may_wait { look.new.may_wait ≡ look.old.may_wait }
+        ensures trusts { look.new.trusts ≡ look.old.trusts }
     {
         let fresh = self.seat.take_taken() || is_first;
         let pace = self.seat.intake().pace(rt);
-        let price = self.account.looks(now, &pace, unpaid, fresh);
+        let mut price = self.account.looks(now, &pace, unpaid, fresh);
+        if look.trusts && pace.is_trusted(now) {
+            price = price.as_trusted();
+        }
         let connection = self.seat.connection();
         look.finds(self.seat.sub(), connection, price, pace.has_given_up())
     }

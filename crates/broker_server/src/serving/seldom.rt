@@ -56,8 +56,17 @@ impl Seldom {
             return None;
         }
         self.said = now;
+        self.take()
+    }
+
+    /// How often it was since it was said last, if it was: then it is said.
+    pub(crate) fn take(&mut self) -> Option<u64>
+        ensures count { IfSome result (λ count. (count ≡ self.old.count) × (0 < count)) }
+        ensures told { self.new ≡ record self.old { count = 0 } }
+        ensures none { IsNone result → self.old.count ≡ 0 }
+    {
         let count = self.count;
         self.count = 0;
-        Some(count)
+        if count == 0 { None } else { Some(count) }
     }
 }

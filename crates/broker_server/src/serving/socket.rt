@@ -1,9 +1,11 @@
 //! A connection's socket.
 
-ghost use Rattle.std.specs.Prelude.{◌≡◌, true, false};
+ghost use Rattle.std.specs.Prelude.{◌≡◌, true, false, None};
+ghost use Rattle.std.specs.Option.{is_some};
 ghost use Rattle.broker_server.specs.declared.serving.socket.Came.TheVariants.{Nothing};
 
 use crate::conversation::{BrokerCalls, Conversation};
+use crate::serving::socket_option::SocketOption;
 use mio::net::TcpStream;
 use mio::{Events, Interest, Poll, Token};
 use std::io;
@@ -13,8 +15,17 @@ use std::net::Shutdown;
 /// The token of a socket's events.
 const SOCKET: Token = Token(0);
 
+/// What the system does where nothing comes from a peer: after so many seconds it asks whether the peer is there, then each
+/// so many seconds, and after so many questions without an answer it ends the connection (our choice).
+const KEEP_ALIVE: [(SocketOption, u32); 4] = [
+    (SocketOption::KeepAliveIdle, 60),
+    (SocketOption::KeepAliveInterval, 10),
+    (SocketOption::KeepAliveCount, 3),
+    (SocketOption::KeepAlive, 1),
+];
+
 /// The ERROR of a connection for which there was no memory.
-const NO_MEMORY: &[u8] = b"ERROR\nmessage:72 NoMemory\ncontent-length:0\n\n\0";
+const NO_MEMORY: &[u8] = b"ERROR\nmessage:72 NoMemory\ncontent-length:0\n\n\0\n";
 
 /// What a read gave.
 #[derive(Clone, Copy)]
@@ -40,6 +51,8 @@ pub(crate) struct Socket {
     blocked: bool,
     /// A write failed: what waits for the peer is dropped. What it had sent can still be read.
     gone: bool,
+    /// The first octet that was read, if one was.
+    first: Option<u8>,
 }
 
 impl Socket {
@@ -51,6 +64,7 @@ impl Socket {
           hung_up = false;
           blocked = false;
           gone = false;
+          first = None;
         } }
     {
         Socket {
@@ -59,12 +73,22 @@ impl Socket {
             hung_up: false,
             blocked: false,
             gone: false,
+            first: None,
         }
+    }
+
+    /// The system is to send what is written at once, and to find a peer that is gone without a word.
+    fn set_options(&self) -> io::Result<()> {
+        self.stream.set_nodelay(true)?;
+        for (option, value) in KEEP_ALIVE {
+            option.set(&self.stream, value)?;
+        }
+        Ok(())
     }
 
     /// The poll tells of its reads and its writes.
     pub(crate) fn register(&mut self, poll: &Poll) -> io::Result<()> {
-        self.stream.set_nodelay(true)?;
+        self.set_options()?;
         let both = Interest::READABLE | Interest::WRITABLE;
         poll.registry().register(&mut self.stream, SOCKET, both)
     }
@@ -116,6 +140,7 @@ impl Socket {
 
     /// Reads once, into this room, unless nothing can be there. A failed read is the peer's end. Once a write has failed
     /// the poll isn't waited for.
+    #[inline(always)]
     pub(crate) fn read(&mut self, room: &mut [u8]) -> Came
         ensures idle { self.old.readable ≡ false → self.old.gone ≡ false
             → (result ≡ Nothing) × (self.new ≡ self.old) × (room.new ≡ room.old) }
@@ -132,6 +157,7 @@ impl Socket {
                 if n < room.len() && !self.hung_up {
                     self.readable = false;
                 }
+                self.note_first(room);
                 Came::Octets(n)
             }
             Err(e) if e.kind() == ErrorKind::WouldBlock => {
@@ -141,6 +167,23 @@ impl Socket {
             Err(e) if e.kind() == ErrorKind::Interrupted => Came::Again,
             Err(_) => Came::End,
         }
+    }
+
+    /// Notes the first octet of this room, where it is the first that was read.
+    fn note_first(&mut self, room: &[u8])
+        ensures same { self.new ≡ record self.old { first = self.new.first } }
+        ensures kept { is_some self.old.first ≡ true → self.new.first ≡ self.old.first }
+    {
+        if self.first.is_none() {
+            self.first = room.first().copied();
+        }
+    }
+
+    /// The first octet that was read, if one was.
+    pub(crate) fn first(&self) -> Option<u8>
+        ensures { result ≡ self.now.first }
+    {
+        self.first
     }
 
     /// Writes what waits for the connection, as far as the system takes it; how many octets went out. Once a write has
@@ -171,6 +214,11 @@ impl Socket {
                 0
             }
         }
+    }
+
+    /// Has the system acknowledge at once what was read. That it may not do so harms nobody.
+    pub(crate) fn acknowledge(&self) {
+        let _ = SocketOption::QuickAck.set(&self.stream, 1);
     }
 
     /// Whether a write failed.

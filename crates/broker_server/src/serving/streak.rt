@@ -1,11 +1,10 @@
 //! What the system took of a connection's octets in a row.
 
 ghost use Rattle.std.specs.Prelude.{◌≡◌, ◌&&◌, nat_lt, nat_le};
-ghost use Rattle.broker_server.specs.Purses.{long_streak};
+ghost use Rattle.broker_server.specs.Purses.{most_buffered};
 ghost use Rattle.broker_server.specs.Counts.{plus};
 
-/// So many octets taken in a row are more than the system's buffers hold (our choice).
-const LONG: u64 = 8_388_608;
+use crate::serving::pace::MOST_BUFFERED;
 
 /// How many octets the system took in a row, while the connection wasn't behind.
 #[derive(Clone, Copy)]
@@ -24,11 +23,11 @@ impl Streak {
     /// So many more; whether it has 8 MiB by these, which is once in a streak.
     pub(crate) fn adds(&mut self, octets: u64) -> bool
         ensures octets { self.new.octets ≡ plus self.old.octets octets }
-        ensures reached { result ≡ (nat_lt self.old.octets long_streak && nat_le long_streak self.new.octets) }
+        ensures reached { result ≡ (nat_lt self.old.octets most_buffered && nat_le most_buffered self.new.octets) }
     {
         let before = self.octets;
         self.octets = before.saturating_add(octets);
-        before < LONG && self.octets >= LONG
+        before < MOST_BUFFERED && self.octets >= MOST_BUFFERED
     }
 
     /// The connection falls behind.

@@ -7,6 +7,8 @@ ghost use Rattle.broker_server.specs.RoomLooks.{is_seat};
 
 use crate::serving::account::Account;
 use crate::serving::intake::Intake;
+use crate::serving::keepers::Keepers;
+use crate::serving::line::Line;
 use crate::serving::look::Look;
 use crate::serving::moment::Moment;
 use crate::serving::price::Price;
@@ -15,7 +17,6 @@ use crate::serving::said::Said;
 use crate::serving::seat::Seat;
 use crate::serving::seat_entry::SeatEntry;
 use crate::serving::span::Span;
-use crate::serving::waiters::Waiters;
 use std::alloc::{AllocError, Global};
 use std::sync::atomic::{AtomicBool, Ordering};
 use std::sync::{Arc, Mutex, Wait};
@@ -29,28 +30,37 @@ const FEW: usize = 2;
 pub(crate) struct TopicSeats {
     due: AtomicBool,
     seats: Mutex<Vec<SeatEntry>>,
-    waiters: Waiters,
+    line: Line,
+    keepers: Keepers,
     purse: Mutex<Purse>,
     said: Mutex<Said>,
 }
 
 impl TopicSeats {
-    /// No seats, and the topic isn't due.
-    pub(crate) fn new(alloc: Global) -> TopicSeats {
+    /// No seats, and the topic isn't due; so many may keep room there.
+    pub(crate) fn new(alloc: Global, keepers: u64) -> TopicSeats {
         TopicSeats {
             due: AtomicBool::new(false),
             seats: Mutex::new(Vec::new(alloc)),
-            waiters: Waiters::new(alloc),
+            line: Line::new(),
+            keepers: Keepers::new(keepers),
             purse: Mutex::new(Purse::new()),
             said: Mutex::new(Said::new()),
         }
     }
 
     /// Who waits for room.
-    pub(crate) fn waiters(&self) -> &Waiters
-        ensures { result.now ≡ self.now.waiters }
+    pub(crate) fn line(&self) -> &Line
+        ensures { result.now ≡ self.now.line }
     {
-        &self.waiters
+        &self.line
+    }
+
+    /// Who keeps room while it waits at another topic, and who waits until it may.
+    pub(crate) fn keepers(&self) -> &Keepers
+        ensures { result.now ≡ self.now.keepers }
+    {
+        &self.keepers
     }
 
     /// The topic is due; whether it was due before.
@@ -123,9 +133,13 @@ impl TopicSeats {
         let mut look = Look::new(alloc, lacking.len())?;
         let mut purse = self.purse.lock(rt);
         let purse = &mut *purse;
+        look.trusts = purse.trusts();
         let unpaid = purse.unpaid(now);
         self.find(rt, now, lacking, unpaid, !purse.is_awaited(), &mut look)?;
         look.may_wait = may_be_waited_for(purse, now, look.standing.price(), is_counted);
+        if !purse.may_trust() {
+            look.trusts_no_more()?;
+        }
         Ok(look)
     }
 

@@ -1,86 +1,108 @@
-//! Who waits for room at a topic.
+//! What all connections wait for room with.
 
-ghost use Rattle.std.specs.Prelude.{◌≡◌, ◌++◌, ◌∷◌, ◌==◌, [], true, false, OnOk, OnErr};
-ghost use Rattle.std.specs.List.{list_any};
+ghost use Rattle.std.specs.Prelude.{◌≡◌, ◌≤◌, length, vec_len, IfOk};
 
 use crate::serving::bell::Bell;
+use crate::serving::hub::MAX_CONNECTIONS;
+use crate::serving::links::Links;
+use crate::serving::queue::Queue;
+use crate::serving::waiter::Waiter;
+use broker_locks::{Broker, Reserved, Side};
 use std::alloc::{AllocError, Global};
-use std::mem;
-use std::sync::atomic::{AtomicBool, Ordering};
-use std::sync::{Arc, Mutex, Wait};
+use std::sync::{Arc, Wait};
 
-/// The bells of those who wait for room at a topic. Who waits puts its bell here and then asks for room again; who
-/// makes room has made it before it rings: so either the one that waits finds it, or it is told of it. That needs all
-/// these steps in one order: each is SeqCst, and has to stay so.
-#[derive(Drop)]
+/// How many desks there are.
+const DESKS: usize = MAX_CONNECTIONS as usize;
+
+/// What each connection waits for room with, by the number of its desk. So waiting takes no memory: who stands in a line
+/// is linked by these numbers, and stands in one line at a time. Their locks are taken within a line's, one at a time.
+/// It can't be let go of, as a waiter can't.
 pub(crate) struct Waiters {
-    alloc: Global,
-    /// Whether there may be a bell.
-    awaited: AtomicBool,
-    /// The number of each connection that waits, and its bell.
-    bells: Mutex<Vec<(u64, Arc<Bell>)>>,
+    waiters: Vec<Waiter>,
 }
 
 impl Waiters {
-    /// Nobody waits.
-    pub(crate) fn new(alloc: Global) -> Waiters
-        ensures { result.alloc ≡ alloc }
+    /// One for each desk.
+    pub(crate) fn new<R: Wait, W: Side, T: Side>(
+        alloc: Global,
+        broker: &Broker<R, W, T>,
+    ) -> Result<Waiters, AllocError>
+        ensures { IfOk result (λ waiters. vec_len waiters.waiters ≡ 256) }
     {
-        Waiters {
-            alloc,
-            awaited: AtomicBool::new(false),
-            bells: Mutex::new(Vec::new(alloc)),
+        let mut waiters = Vec::with_capacity(alloc, DESKS)?;
+        for _number in 0..DESKS {
+            waiters.push_reserved(Waiter::new(broker.no_room()));
+        }
+        Ok(Waiters { waiters })
+    }
+
+    /// A connection has this desk, whose thread is told by this bell; or none has it any more.
+    pub(crate) fn set_bell<R: Wait>(&self, rt: &R, desk: usize, bell: Option<Arc<Bell>>) {
+        if let Some(waiter) = self.waiters.get(desk) {
+            waiter.set_bell(rt, bell);
         }
     }
 
-    /// Puts this connection's bell here, unless it is here: it rings once room may have been made. Out of memory it
-    /// isn't put.
-    pub(crate) fn put<R: Wait>(
-        &self,
-        rt: &R,
-        connection: u64,
-        bell: &Arc<Bell>,
-    ) -> Result<(), AllocError> {
-        let bell = bell.clone()?;
-        let mut bells = self.bells.lock(rt);
-        put_bell(&mut bells, connection, bell)?;
-        self.awaited.store(true, Ordering::SeqCst);
-        Ok(())
+    /// Tells the thread at this desk.
+    pub(crate) fn ring<R: Wait>(&self, rt: &R, desk: usize) {
+        if let Some(waiter) = self.waiters.get(desk) {
+            waiter.ring(rt);
+        }
     }
 
-    /// Room may have been made: rings each bell, and keeps none.
-    pub(crate) fn ring<R: Wait>(&self, rt: &R) {
-        if self.awaited.load(Ordering::SeqCst) && self.awaited.swap(false, Ordering::SeqCst) {
-            let mut bells = self.bells.lock(rt);
-            for (_, bell) in mem::replace(&mut *bells, Vec::new(self.alloc)) {
-                bell.ring();
+    /// The one at this desk keeps this room, and gives what it kept.
+    pub(crate) fn swap_kept<R: Wait>(&self, rt: &R, desk: usize, room: Reserved) -> Reserved {
+        match self.waiters.get(desk) {
+            Some(waiter) => waiter.swap_kept(rt, room),
+            None => room,
+        }
+    }
+
+    /// The one at this desk comes into this queue, whose lock the caller has.
+    pub(crate) fn join<R: Wait>(&self, rt: &R, queue: &mut Queue, desk: usize) {
+        let links = queue.join(desk);
+        self.set_links(rt, desk, links);
+        if let Some(before) = links.before
+            && let Some(waiter) = self.waiters.get(before)
+        {
+            waiter.set_behind(rt, Some(desk));
+        }
+    }
+
+    /// The one at this desk leaves this queue, in which it stands, and whose lock the caller has.
+    pub(crate) fn leave<R: Wait>(&self, rt: &R, queue: &mut Queue, desk: usize) {
+        let Some(waiter) = self.waiters.get(desk) else {
+            return;
+        };
+        let links = waiter.links(rt);
+        queue.leave(desk, links);
+        if let Some(before) = links.before
+            && let Some(waiter) = self.waiters.get(before)
+        {
+            waiter.set_behind(rt, links.behind);
+        }
+        if let Some(behind) = links.behind
+            && let Some(waiter) = self.waiters.get(behind)
+        {
+            waiter.set_before(rt, links.before);
+        }
+    }
+
+    /// The one at this desk stands between these.
+    fn set_links<R: Wait>(&self, rt: &R, desk: usize, links: Links) {
+        if let Some(waiter) = self.waiters.get(desk) {
+            waiter.set_links(rt, links);
+        }
+    }
+
+    /// Nobody waits any more: what room is kept is given back.
+    pub(crate) fn close<R: Wait, W: Side, T: Side>(self, rt: &R, broker: &Broker<R, W, T>) {
+        let Waiters { mut waiters } = self;
+        for _number in 0..waiters.len() {
+            if let Some(waiter) = waiters.pop() {
+                broker.release_room(rt, waiter.into_kept());
             }
         }
+        waiters.destroy_empty();
     }
-}
-
-/// Whether this connection's is one of these bells.
-fn has_bell(bells: &[(u64, Arc<Bell>)], connection: u64) -> bool
-    ensures { result ≡ list_any (λ entry. entry.0 == connection) bells.now }
-{
-    bells.iter().any(|entry| entry.0 == connection)
-}
-
-/// Puts this connection's bell behind the others, unless it is one of them.
-fn put_bell(
-    bells: &mut Vec<(u64, Arc<Bell>)>,
-    connection: u64,
-    bell: Arc<Bell>,
-) -> Result<(), AllocError>
-    ensures there { list_any (λ entry. entry.0 == connection) bells.old.items ≡ true
-        → bells.new ≡ bells.old }
-    ensures put { list_any (λ entry. entry.0 == connection) bells.old.items ≡ false
-        → OnOk result (bells.new.items ≡ bells.old.items ++ (connection, bell) ∷ []) }
-    ensures err { OnErr result (bells.new.items ≡ bells.old.items) }
-{
-    if has_bell(bells.as_slice(), connection) {
-        return Ok(());
-    }
-    bells.push((connection, bell))?;
-    Ok(())
 }

@@ -1,5 +1,8 @@
 //! Why a connection left.
 
+ghost use Rattle.std.specs.Prelude.{◌≡◌, ◌==◌, codes};
+ghost use Rattle.std.specs.List.{list_any};
+
 use crate::conversation::Exit;
 use crate::spelled::Spelled;
 use std::fmt;
@@ -29,6 +32,8 @@ pub(crate) enum WhyLeft {
     WriteFailed,
     /// A subscription lagged, and the system took nothing for a minute.
     Untaken,
+    /// Its CONNECT didn't come in time. The first octet that came, if one did.
+    Unconnected(Option<u8>),
     /// There was no memory for the connection.
     NoMemory,
     /// Its poll failed.
@@ -59,9 +64,20 @@ impl Display for WhyLeft {
             WhyLeft::By(Exit::Lost, _) => f.write_str("its peer closed it"),
             WhyLeft::WriteFailed => f.write_str("a write failed"),
             WhyLeft::Untaken => f.write_str("it lagged, and took nothing for a minute"),
+            WhyLeft::Unconnected(Some(first)) if !begins_stream(*first) => {
+                f.write_str("no CONNECT within ten seconds, not STOMP: TLS?")
+            }
+            WhyLeft::Unconnected(_) => f.write_str("no CONNECT within ten seconds"),
             WhyLeft::NoMemory => f.write_str("ERROR 72 NoMemory, no memory for the connection"),
             WhyLeft::PollFailed => f.write_str("its poll failed"),
             WhyLeft::Closing => f.write_str("the server ends"),
         }
     }
+}
+
+/// Whether a stream may begin with this octet: an end of line, or the first letter of a command.
+fn begins_stream(octet: u8) -> bool
+    ensures { result ≡ list_any (λ first. first == octet) (codes "\r\nSUBCADNMRE") }
+{
+    b"\r\nSUBCADNMRE".contains(&octet)
 }

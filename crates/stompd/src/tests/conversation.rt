@@ -1,6 +1,7 @@
 //! One connection of the server without its socket, over a broker of one thread that keeps what it is asked.
 
 mod ends;
+mod eols;
 mod fake;
 mod faults;
 mod items;

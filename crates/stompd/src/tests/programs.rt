@@ -4,6 +4,7 @@ mod auditing;
 mod broken_scripts;
 mod details;
 mod ending;
+mod eols;
 mod failing;
 mod frame_limits;
 mod large_reports;

@@ -17,3 +17,4 @@ mod queued;
 mod served;
 mod sizes;
 mod slow;
+mod unconnected;

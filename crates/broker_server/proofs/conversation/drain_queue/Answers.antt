@@ -1,12 +1,12 @@
 use Rattle.std.proofs.Common.{◌≡◌, ℕ, inl, inr, ◌+◌, Bool, true, false, List, [], ◌∷◌, ◌++◌, length, Some, None, refl, sym, ap, subst, ◌∙◌, append-nil}
 use Rattle.std.specs.List.{flat_map}
-use Rattle.stomp_frame.specs.Writing.{spelling_of}
 use Rattle.delivery.specs.Core.Output.{item_messages}
 use Rattle.broker_server.specs.declared.conversation.drained.Taking.TheVariants.{Emptied, Stopped, Failed}
 use Rattle.broker_server.specs.declared.conversation.conversation_fault.ConversationFault.TheVariants as fault
 use Rattle.broker_server.specs.BrokerRows.{AsksInOrder, AsksLag, BrokerRow, SubName, Takes}
 use Rattle.broker_server.specs.Conversations.{OpenSubState}
 use Rattle.broker_server.specs.Delivering.{Drains, nearer_lag, with_pushed}
+use Rattle.broker_server.specs.Wires.{spelling_with_eol}
 use Rattle.broker_server.proofs.ConversationLemmas.{asks_on, asks_one}
 use Rattle.broker_server.proofs.DeliveringLemmas.{drains_behind, drains_item, drains_lag, full_of, no_item, on_err, on_ok, room_of, some_item, some_left}
 use Rattle.broker_server.proofs.conversation.drain_queue.Goals as goal
@@ -104,9 +104,9 @@ loop-call-preserved g c =
           ap (λ q. record { id = q.id; sub = name q.sub; until_lag = q.until_lag; lagged = q.lagged }) w.queue-inside-is
           ∙ ap (λ sub. record { id = held.id; sub = sub; until_lag = w.saturating_sub-queue-inside.result; lagged = held.lagged }) w.in-Some.ensures.same
           ∙ ap (λ left. record { id = held.id; sub = name held.sub; until_lag = left; lagged = held.lagged }) w.saturating_sub-queue-inside.ensures in
-          let put = on_ok w.put_item.result (w.put_item.new.self ≡ c.loop-call.wire ++ flat_map spelling_of (item_messages w.as_slice.result.now item)) w.if-is_err.ensures.value w.put_item.ensures.ok in
+          let put = on_ok w.put_item.result (w.put_item.new.self ≡ c.loop-call.wire ++ flat_map spelling_with_eol (item_messages w.as_slice.result.now item)) w.if-is_err.ensures.value w.put_item.ensures.ok in
           let more_is : c.match-take.wire ≡ with_pushed o item c.loop-call.wire =
-          w.wire-is ∙ put ∙ ap (λ (id : List ℕ). c.loop-call.wire ++ flat_map spelling_of (item_messages id item)) w.as_slice.ensures in
+          w.wire-is ∙ put ∙ ap (λ (id : List ℕ). c.loop-call.wire ++ flat_map spelling_with_eol (item_messages id item)) w.as_slice.ensures in
           record {
             taken = (
               so_far.0 ++ row ∷ [],

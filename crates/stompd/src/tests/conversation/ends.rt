@@ -32,7 +32,7 @@ fn disconnects(alloc: Global) -> bool {
     ];
     !delivered
         && talk.leaves_by(Exit::Disconnect)
-        && talk.wrote(&[CONNECTED, "RECEIPT\nreceipt-id:bye\n\n\0"])
+        && talk.wrote(&[CONNECTED, "RECEIPT\nreceipt-id:bye\n\n\0\n"])
         && talk.asked(rows)
 }
 
@@ -91,7 +91,7 @@ fn is_told_or_cut(alloc: Global) -> bool {
     if !talk.leaves_by(Exit::Disconnect) {
         return !talk.leaves_by(Exit::Lost);
     }
-    talk.wrote(&[CONNECTED, "RECEIPT\nreceipt-id:bye\n\n\0"]) || talk.was_cut_behind(&[CONNECTED])
+    talk.wrote(&[CONNECTED, "RECEIPT\nreceipt-id:bye\n\n\0\n"]) || talk.was_cut_behind(&[CONNECTED])
 }
 
 #[test]

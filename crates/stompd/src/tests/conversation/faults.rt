@@ -30,27 +30,27 @@ fn ends_with(alloc: Global, plan: Plan, text: &str, wrote: &[&str], asked: &[Row
 const CONNECTION: &[(&str, &str)] = &[
     (
         "CONNECT\naccept-version:1.2\nhost:h\n\n\0SEN\n",
-        "ERROR\nmessage:1 BadCommand\ncontent-length:0\n\n\0",
+        "ERROR\nmessage:1 BadCommand\ncontent-length:0\n\n\0\n",
     ),
     (
         "CONNECT\naccept-version:1.2\nhost:h\n\n\0SEND\nk:\\t\n\n\0",
-        "ERROR\nmessage:4 BadEscape\ncontent-length:0\n\n\0",
+        "ERROR\nmessage:4 BadEscape\ncontent-length:0\n\n\0\n",
     ),
     (
         "CONNECT\naccept-version:1.2\nhost:h\n\n\0ACK\nid:1\nreceipt:r\n\n\0",
-        "ERROR\nmessage:21 Unsupported\nreceipt-id:r\ncontent-length:0\n\n\0",
+        "ERROR\nmessage:21 Unsupported\nreceipt-id:r\ncontent-length:0\n\n\0\n",
     ),
     (
         "CONNECT\naccept-version:1.2\nhost:h\n\n\0SEND\nreceipt:r\n\nhi\0",
-        "ERROR\nmessage:22 Missing destination\nreceipt-id:r\ncontent-length:0\n\n\0",
+        "ERROR\nmessage:22 Missing destination\nreceipt-id:r\ncontent-length:0\n\n\0\n",
     ),
     (
         "CONNECT\naccept-version:1.2\nhost:h\n\n\0COMMIT\ntransaction:q\nreceipt:r\n\n\0",
-        "ERROR\nmessage:66 NoSuchTxn\nreceipt-id:r\ncontent-length:0\n\n\0",
+        "ERROR\nmessage:66 NoSuchTxn\nreceipt-id:r\ncontent-length:0\n\n\0\n",
     ),
     (
         "CONNECT\naccept-version:1.2\nhost:h\n\n\0CONNECT\naccept-version:1.2\nhost:h\n\n\0",
-        "ERROR\nmessage:61 AlreadyConnected\ncontent-length:0\n\n\0",
+        "ERROR\nmessage:61 AlreadyConnected\ncontent-length:0\n\n\0\n",
     ),
 ];
 
@@ -69,19 +69,19 @@ fn what_comes_is_refused(rt: HostRuntime) {
 const UNCONNECTED: &[(&str, &str)] = &[
     (
         "SEND\ndestination:A\nreceipt:r\n\nhi\0",
-        "ERROR\nmessage:60 NotConnected\nreceipt-id:r\ncontent-length:0\n\n\0",
+        "ERROR\nmessage:60 NotConnected\nreceipt-id:r\ncontent-length:0\n\n\0\n",
     ),
     (
         "CONNECT\naccept-version:1.1\nhost:h\n\n\0",
-        "ERROR\nmessage:62 NoVersion\nversion:1.2\ncontent-length:0\n\n\0",
+        "ERROR\nmessage:62 NoVersion\nversion:1.2\ncontent-length:0\n\n\0\n",
     ),
     (
         "CONNECT\nlogin:me\n\n\0",
-        "ERROR\nmessage:22 Missing accept-version\nversion:1.2\ncontent-length:0\n\n\0",
+        "ERROR\nmessage:22 Missing accept-version\nversion:1.2\ncontent-length:0\n\n\0\n",
     ),
     (
         "CONNECT\naccept-version:1.0\n\n\0",
-        "ERROR\nmessage:22 Missing host\nversion:1.2\ncontent-length:0\n\n\0",
+        "ERROR\nmessage:22 Missing host\nversion:1.2\ncontent-length:0\n\n\0\n",
     ),
 ];
 
@@ -99,15 +99,15 @@ fn no_sender_is_claimed_before_a_connect(rt: HostRuntime) {
 const CLAIM: &[(ClaimFault, &str)] = &[
     (
         ClaimFault::SenderInUse,
-        "ERROR\nmessage:77 SenderInUse\ncontent-length:0\n\n\0",
+        "ERROR\nmessage:77 SenderInUse\ncontent-length:0\n\n\0\n",
     ),
     (
         ClaimFault::TooManyClients,
-        "ERROR\nmessage:78 TooManyClients\ncontent-length:0\n\n\0",
+        "ERROR\nmessage:78 TooManyClients\ncontent-length:0\n\n\0\n",
     ),
     (
         ClaimFault::NoMemory,
-        "ERROR\nmessage:72 NoMemory\ncontent-length:0\n\n\0",
+        "ERROR\nmessage:72 NoMemory\ncontent-length:0\n\n\0\n",
     ),
 ];
 
@@ -135,7 +135,7 @@ const SUBSCRIBES: &str =
     "CONNECT\naccept-version:1.2\nhost:h\n\n\0SUBSCRIBE\nid:s\ndestination:B\nreceipt:r\n\n\0";
 
 /// The ERROR of what asked for the receipt `r`, and had no memory.
-const NO_MEMORY_R: &str = "ERROR\nmessage:72 NoMemory\nreceipt-id:r\ncontent-length:0\n\n\0";
+const NO_MEMORY_R: &str = "ERROR\nmessage:72 NoMemory\nreceipt-id:r\ncontent-length:0\n\n\0\n";
 
 /// Why a subscription is refused.
 const SUBSCRIPTION: &[SubFault] = &[SubFault::SubInUse, SubFault::NoMemory];
@@ -162,15 +162,15 @@ fn a_subscription_is_refused(rt: HostRuntime) {
 const COMMIT: &[(CommitFault, &str)] = &[
     (
         CommitFault::ClockFull,
-        "ERROR\nmessage:40 ClockFull\nreceipt-id:r\ncontent-length:0\n\n\0",
+        "ERROR\nmessage:40 ClockFull\nreceipt-id:r\ncontent-length:0\n\n\0\n",
     ),
     (
         CommitFault::LogFull,
-        "ERROR\nmessage:41 LogFull\nreceipt-id:r\ncontent-length:0\n\n\0",
+        "ERROR\nmessage:41 LogFull\nreceipt-id:r\ncontent-length:0\n\n\0\n",
     ),
     (
         CommitFault::NoMemory,
-        "ERROR\nmessage:42 NoMemory\nreceipt-id:r\ncontent-length:0\n\n\0",
+        "ERROR\nmessage:42 NoMemory\nreceipt-id:r\ncontent-length:0\n\n\0\n",
     ),
     (CommitFault::Twice, NO_MEMORY_R),
     (CommitFault::AlreadySet, NO_MEMORY_R),

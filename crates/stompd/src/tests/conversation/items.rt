@@ -11,9 +11,9 @@ use std::alloc::{AllocError, Global};
 
 /// The MESSAGEs of three items.
 const MESSAGES: &[&str] = &[
-    "MESSAGE\nsubscription:s\nmessage-id:1.0.0\ndestination:A\ncontent-length:2\n\nhi\0",
-    "MESSAGE\nsubscription:s\nmessage-id:2.0.0\ndestination:A\ncontent-length:2\n\nhi\0",
-    "MESSAGE\nsubscription:s\nmessage-id:3.0.0\ndestination:A\ncontent-length:2\n\nhi\0",
+    "MESSAGE\nsubscription:s\nmessage-id:1.0.0\ndestination:A\ncontent-length:2\n\nhi\0\n",
+    "MESSAGE\nsubscription:s\nmessage-id:2.0.0\ndestination:A\ncontent-length:2\n\nhi\0\n",
+    "MESSAGE\nsubscription:s\nmessage-id:3.0.0\ndestination:A\ncontent-length:2\n\nhi\0\n",
 ];
 
 /// A broker that says of each subscription that it has lagged or not, and whose third item comes as that is asked.
@@ -81,7 +81,7 @@ fn takes_all_first(alloc: Global) -> bool {
         Unsubscribes(0),
         GivesBack,
     ];
-    let error = "ERROR\nmessage:74 Lagged\ncontent-length:0\n\n\0";
+    let error = "ERROR\nmessage:74 Lagged\ncontent-length:0\n\n\0\n";
     asked_then(&talk, rows)
         && talk.wrote(&[CONNECTED, MESSAGES[0], MESSAGES[1], MESSAGES[2], error])
         && talk.leaves_by(lagged(3))
@@ -144,8 +144,8 @@ fn hears_all(talk: &mut Talk, alloc: Global, length: usize) -> bool {
     hears_begin(talk, alloc, 16, length)
 }
 
-/// A connection with a subscription and an item for it, for which `length` octets wait and 64,413 more: the 39 of the
-/// CONNECTED, and those of 17 RECEIPTs, which have 22 beside their ids.
+/// A connection with a subscription and an item for it, for which `length` octets wait and 64,431 more: the 40 of the
+/// CONNECTED, and those of 17 RECEIPTs, which have 23 beside their ids.
 fn with_waiting(alloc: Global, length: usize) -> Option<Talk> {
     let mut talk = Talk::new(alloc, WILLING, 64)?;
     talk.hear(CONNECT);
@@ -170,7 +170,7 @@ fn takes(talk: &mut Talk, waiting: usize) -> Option<bool> {
 
 /// Whether a new connection's item is taken where so many octets wait.
 fn takes_at(alloc: Global, waiting: usize) -> Option<bool> {
-    let mut talk = with_waiting(alloc, waiting.checked_sub(64_413)?)?;
+    let mut talk = with_waiting(alloc, waiting.checked_sub(64_431)?)?;
     takes(&mut talk, waiting)
 }
 

@@ -15,12 +15,12 @@ const FRAMES: &str = "CONNECT\naccept-version:1.2\nhost:h\n\n\0\
 /// What is written to it.
 const REPLIES: &[&str] = &[
     CONNECTED,
-    "RECEIPT\nreceipt-id:1\n\n\0",
-    "RECEIPT\nreceipt-id:2\n\n\0",
-    "RECEIPT\nreceipt-id:3\n\n\0",
-    "MESSAGE\nsubscription:s\nmessage-id:1.0.0\ndestination:A\ncontent-length:2\n\nhi\0",
-    "MESSAGE\nsubscription:s\nmessage-id:1.0.1\ndestination:A\ncontent-length:3\n\na\0b\0",
-    "RECEIPT\nreceipt-id:4\n\n\0",
+    "RECEIPT\nreceipt-id:1\n\n\0\n",
+    "RECEIPT\nreceipt-id:2\n\n\0\n",
+    "RECEIPT\nreceipt-id:3\n\n\0\n",
+    "MESSAGE\nsubscription:s\nmessage-id:1.0.0\ndestination:A\ncontent-length:2\n\nhi\0\n",
+    "MESSAGE\nsubscription:s\nmessage-id:1.0.1\ndestination:A\ncontent-length:3\n\na\0b\0\n",
+    "RECEIPT\nreceipt-id:4\n\n\0\n",
 ];
 
 /// Whether the connection answers and asks as it should, where so many octets come at once.

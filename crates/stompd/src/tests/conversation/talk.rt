@@ -14,7 +14,7 @@ pub(super) const SUBSCRIBE: &str = "SUBSCRIBE\nid:s\ndestination:A\n\n\0";
 pub(super) const SEND: &str = "SEND\ndestination:A\n\nhi\0";
 
 /// What a connection is written first.
-pub(super) const CONNECTED: &str = "CONNECTED\nversion:1.2\nheart-beat:0,0\n\n\0";
+pub(super) const CONNECTED: &str = "CONNECTED\nversion:1.2\nheart-beat:0,0\n\n\0\n";
 
 /// A conversation with the fake broker.
 #[derive(Drop)]

@@ -16,14 +16,14 @@ const THREE: &str = "SEND\ndestination:A\nreceipt:1\n\nhi\0\
 
 /// The RECEIPTs of those.
 const RECEIPTS: &[&str] = &[
-    "RECEIPT\nreceipt-id:1\n\n\0",
-    "RECEIPT\nreceipt-id:2\n\n\0",
-    "RECEIPT\nreceipt-id:3\n\n\0",
+    "RECEIPT\nreceipt-id:1\n\n\0\n",
+    "RECEIPT\nreceipt-id:2\n\n\0\n",
+    "RECEIPT\nreceipt-id:3\n\n\0\n",
 ];
 
 /// The MESSAGE of the first item.
 const MESSAGE: &str =
-    "MESSAGE\nsubscription:s\nmessage-id:1.0.0\ndestination:A\ncontent-length:2\n\nhi\0";
+    "MESSAGE\nsubscription:s\nmessage-id:1.0.0\ndestination:A\ncontent-length:2\n\nhi\0\n";
 
 /// A connection with a subscription, which finds no room so many times from now on.
 fn subscribed(alloc: Global, refusals: u64) -> Option<Talk> {
@@ -177,7 +177,7 @@ fn tells_later(alloc: Global) -> bool {
         Unsubscribes(0),
         GivesBack,
     ];
-    let error = "ERROR\nmessage:74 Lagged\ncontent-length:0\n\n\0";
+    let error = "ERROR\nmessage:74 Lagged\ncontent-length:0\n\n\0\n";
     let exit = Exit::Error(ConversationFault::Lagged {
         topic: Topic(0),
         items: 1,

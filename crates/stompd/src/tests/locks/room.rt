@@ -21,10 +21,17 @@ enum Call<'a> {
     Subscribe,
     /// A subscription begins that is waited for.
     SubscribeWaitedFor,
-    /// Room is reserved at these topics, with the left hand.
+    /// Room is reserved at these topics, with the left hand, which gives back what it has, also where it is refused.
     Reserve(&'a [u32]),
     /// The same with the right one.
     ReserveMore(&'a [u32]),
+    /// Room is reserved at this topic, beside what the left hand has; those that are waited for are asked from this number
+    /// on.
+    ReserveFrom(u32, u64),
+    /// Of what the left hand has, what lies behind the first so many topics is given back.
+    Keep(usize),
+    /// The topics at which the left hand has room.
+    Topics,
     /// What the left hand has is given back.
     GiveBack,
     /// What the right one has is given back.
@@ -56,6 +63,8 @@ enum Answer {
     Refused(NoRoom),
     /// The first numbers of a list.
     Numbers([Option<u64>; 3]),
+    /// How many topics there are, and the first three.
+    Topics(usize, [Option<Topic>; 3]),
     Turned(u64, bool),
     State(Option<SubState>),
     /// It was refused as it must not be.
@@ -75,15 +84,6 @@ fn done_if(is: bool) -> Answer {
     if is { Answer::Done } else { Answer::Failed }
 }
 
-/// These topics.
-fn topics_of(alloc: Global, numbers: &[u32]) -> Option<Vec<Topic>> {
-    let mut topics = Vec::new(alloc);
-    for &number in numbers {
-        topics.push(Topic(number)).ok()?;
-    }
-    Some(topics)
-}
-
 /// Gives back what a hand had.
 fn given_back<R: Wait, W: Side, T: Side>(
     rt: &R,
@@ -99,24 +99,89 @@ fn given_back<R: Wait, W: Side, T: Side>(
     }
 }
 
-/// Reserves room at these topics, and puts it into a hand; what that had is given back.
+/// Reserves room at these topics, one after the other, beside what is reserved.
+fn reserve_all<R: Wait, W: Side, T: Side>(
+    rt: &R,
+    broker: &Broker<R, W, T>,
+    reserved: &mut Reserved,
+    numbers: &[u32],
+) -> Result<(), NoRoom> {
+    for &number in numbers {
+        broker.reserve_at(rt, Topic(number), 0, reserved)?;
+    }
+    Ok(())
+}
+
+/// Reserves room at these topics, and puts it into a hand; what that had is given back, and what was taken before one
+/// refuses.
 fn reserve<R: Wait, W: Side, T: Side>(
     rt: &R,
-    alloc: Global,
     broker: &Broker<R, W, T>,
     hand: &mut Option<Reserved>,
     numbers: &[u32],
 ) -> Answer {
-    let Some(topics) = topics_of(alloc, numbers) else {
-        return Answer::Failed;
-    };
-    match broker.reserve(rt, topics.as_slice()) {
-        Ok(reserved) => {
-            let is_kept = reserved.topics() == topics.as_slice();
+    let mut reserved = broker.no_room();
+    let answer = reserve_all(rt, broker, &mut reserved, numbers);
+    match answer {
+        Ok(()) => {
             given_back(rt, broker, mem::replace(hand, Some(reserved)));
-            done_if(is_kept)
+            Answer::Done
         }
+        Err(fault) => {
+            broker.release_room(rt, reserved);
+            Answer::Refused(fault)
+        }
+    }
+}
+
+/// Reserves room at one topic more, beside what a hand has.
+fn reserve_from<R: Wait, W: Side, T: Side>(
+    rt: &R,
+    broker: &Broker<R, W, T>,
+    hand: &mut Option<Reserved>,
+    number: u32,
+    start: u64,
+) -> Answer {
+    let mut reserved = match mem::replace(hand, None) {
+        Some(reserved) => reserved,
+        None => broker.no_room(),
+    };
+    let answer = broker.reserve_at(rt, Topic(number), start, &mut reserved);
+    given_back(rt, broker, mem::replace(hand, Some(reserved)));
+    match answer {
+        Ok(()) => Answer::Done,
         Err(fault) => Answer::Refused(fault),
+    }
+}
+
+/// Of what a hand has, the first so many topics are kept.
+fn kept<R: Wait, W: Side, T: Side>(
+    rt: &R,
+    broker: &Broker<R, W, T>,
+    hand: &mut Option<Reserved>,
+    many: usize,
+) -> Answer {
+    match hand {
+        Some(reserved) => {
+            broker.release_behind(rt, reserved, many);
+            Answer::Done
+        }
+        None => Answer::Failed,
+    }
+}
+
+/// The topics of a hand.
+fn topics_in(hand: &Option<Reserved>) -> Answer {
+    match hand {
+        Some(reserved) => {
+            let topics = reserved.topics();
+            Answer::Topics(topics.len(), [
+                topics.first().copied(),
+                topics.get(1).copied(),
+                topics.get(2).copied(),
+            ])
+        }
+        None => Answer::Failed,
     }
 }
 
@@ -260,8 +325,13 @@ fn asked<R: Wait, W: Side, T: Side>(
     match call {
         Call::Subscribe => subscribed_unwaited(rt, broker, &mut done.subs),
         Call::SubscribeWaitedFor => subscribed(rt, broker, &mut done.subs),
-        Call::Reserve(numbers) => reserve(rt, alloc, broker, &mut done.left, numbers),
-        Call::ReserveMore(numbers) => reserve(rt, alloc, broker, &mut done.right, numbers),
+        Call::Reserve(numbers) => reserve(rt, broker, &mut done.left, numbers),
+        Call::ReserveMore(numbers) => reserve(rt, broker, &mut done.right, numbers),
+        Call::ReserveFrom(number, start) => {
+            reserve_from(rt, broker, &mut done.left, number, start)
+        }
+        Call::Keep(many) => kept(rt, broker, &mut done.left, many),
+        Call::Topics => topics_in(&done.left),
         Call::GiveBack => given_back(rt, broker, mem::replace(&mut done.left, None)),
         Call::GiveMoreBack => given_back(rt, broker, mem::replace(&mut done.right, None)),
         Call::Enter(numbers) => match mem::replace(&mut done.left, None) {
@@ -353,8 +423,13 @@ fn first_other_at<R: Wait>(
 
 /// No room at topic 0, for this subscription.
 fn full(sub: Option<u64>) -> Answer {
+    full_at(0, sub)
+}
+
+/// No room at this topic, for this subscription.
+fn full_at(number: u32, sub: Option<u64>) -> Answer {
     Answer::Refused(NoRoom::Full {
-        topic: Topic(0),
+        topic: Topic(number),
         sub,
     })
 }
@@ -390,7 +465,7 @@ fn no_more_is_reserved_than_a_queue_takes(rt: HostRuntime) -> Result<(), Fail> {
     Ok(())
 }
 
-/// What is reserved at two topics is taken at both or at none: topic 1 has room for one more after a refusal.
+/// A topic that refuses takes no room, and what was taken at others is given back: topic 1 has room for two then.
 #[test]
 fn a_refused_reservation_takes_nothing(rt: HostRuntime) -> Result<(), Fail> {
     let rows = [
@@ -597,6 +672,105 @@ fn a_subscription_begins_without_room(rt: HostRuntime) -> Result<(), Fail> {
     Ok(())
 }
 
+/// Those that lack room are asked from a number on, and then below it; one that has room isn't named.
+#[test]
+fn who_is_waited_for_is_asked_from_a_number_on(rt: HostRuntime) -> Result<(), Fail> {
+    let rows = [
+        (Call::SubscribeWaitedFor, Answer::Is(true)),
+        (Call::SubscribeWaitedFor, Answer::Is(true)),
+        (Call::SubscribeWaitedFor, Answer::Is(true)),
+        (Call::Reserve(&[0]), Answer::Done),
+        (Call::Enter(&[0]), Answer::Done),
+        (Call::Reserve(&[0]), Answer::Done),
+        (Call::Enter(&[0]), Answer::Done),
+        (Call::Turn, Answer::Turned(2, false)),
+        (Call::ReserveFrom(0, 0), full(Some(0))),
+        (Call::ReserveFrom(0, 1), full(Some(1_024))),
+        (Call::ReserveFrom(0, 1_024), full(Some(1_024))),
+        (Call::ReserveFrom(0, 1_025), full(Some(2_048))),
+        (Call::ReserveFrom(0, 2_049), full(Some(0))),
+        (Call::Take(1), Answer::Is(true)),
+        (Call::Tell(1), Answer::Done),
+        (Call::ReserveFrom(0, 1_024), full(Some(2_048))),
+        (Call::Take(2), Answer::Is(true)),
+        (Call::Tell(2), Answer::Done),
+        (Call::ReserveFrom(0, 1_024), full(Some(0))),
+        (Call::Take(0), Answer::Is(true)),
+        (Call::Tell(0), Answer::Done),
+        (Call::ReserveFrom(0, 1_024), Answer::Done),
+        (Call::ReserveFrom(0, 1_024), full(Some(1_024))),
+        (Call::Topics, topics(&[0])),
+    ];
+    let found = first_other_at(&rt, rt.alloc(), 2, &rows)?;
+    assert!(rt; found.is_none());
+    Ok(())
+}
+
+/// These are the topics of the left hand.
+fn topics(numbers: &[u32]) -> Answer {
+    Answer::Topics(numbers.len(), [
+        topic_at(numbers, 0),
+        topic_at(numbers, 1),
+        topic_at(numbers, 2),
+    ])
+}
+
+/// The topic of this index.
+fn topic_at(numbers: &[u32], index: usize) -> Option<Topic> {
+    let &number = numbers.get(index)?;
+    Some(Topic(number))
+}
+
+/// What is behind the topics that are kept is given back, and nothing else: of three at topic 0 and one at topic 1 two are
+/// kept, so at capacity 4 topic 0 has room for two more, and topic 1 for four. A refusal leaves what was there.
+#[test]
+fn what_is_kept_stays_reserved(rt: HostRuntime) -> Result<(), Fail> {
+    let rows = [
+        (Call::ReserveFrom(0, 0), Answer::Done),
+        (Call::ReserveFrom(0, 0), Answer::Done),
+        (Call::ReserveFrom(1, 0), Answer::Done),
+        (Call::ReserveFrom(0, 0), Answer::Done),
+        (Call::Keep(4), Answer::Done),
+        (Call::Topics, Answer::Topics(4, [Some(Topic(0)), Some(Topic(0)), Some(Topic(1))])),
+        (Call::Keep(2), Answer::Done),
+        (Call::Topics, topics(&[0, 0])),
+        (Call::ReserveMore(&[0, 0, 1, 1, 1, 1]), Answer::Done),
+        (Call::ReserveFrom(0, 0), full(None)),
+        (Call::Topics, topics(&[0, 0])),
+        (Call::GiveMoreBack, Answer::Done),
+        (Call::ReserveFrom(1, 0), Answer::Done),
+        (Call::Enter(&[0, 1]), Answer::Done),
+        (Call::Reserve(&[0, 0, 0]), Answer::Done),
+        (Call::ReserveMore(&[0]), full(None)),
+        (Call::ReserveMore(&[1, 1, 1]), Answer::Done),
+        (Call::ReserveFrom(1, 0), full_at(1, None)),
+        (Call::Keep(0), Answer::Done),
+        (Call::Topics, topics(&[])),
+        (Call::Reserve(&[0, 0, 0]), Answer::Done),
+    ];
+    let found = first_other_at(&rt, rt.alloc(), 4, &rows)?;
+    assert!(rt; found.is_none());
+    Ok(())
+}
+
+/// What is used up isn't the first where topics were reserved out of order; what is left is given back.
+#[test]
+fn what_is_used_up_is_found_among_the_topics(rt: HostRuntime) -> Result<(), Fail> {
+    let rows = [
+        (Call::Reserve(&[5, 3, 1, 0, 0]), Answer::Done),
+        (Call::Enter(&[0, 3]), Answer::Done),
+        (Call::Reserve(&[0, 1, 1, 3, 5, 5]), Answer::Done),
+        (Call::ReserveMore(&[0]), full(None)),
+        (Call::GiveBack, Answer::Done),
+        (Call::Reserve(&[0, 1, 3, 5]), Answer::Done),
+        (Call::Enter(&[0, 1, 3]), Answer::Done),
+        (Call::Reserve(&[1, 5, 5]), Answer::Done),
+    ];
+    let found = first_other_at(&rt, rt.alloc(), 2, &rows)?;
+    assert!(rt; found.is_none());
+    Ok(())
+}
+
 /// Transactions to topic 0, each with a reservation; where there is none, the topic is turned, and the subscription that
 /// is waited for takes one item.
 #[derive(Drop)]
@@ -621,12 +795,14 @@ fn tried<R: Wait, W: Side, T: Side>(
     begun: &mut Subscribed,
     sender: u64,
 ) -> (bool, bool) {
-    match broker.reserve(rt, &[Topic(0)]) {
-        Ok(reserved) => {
+    let mut reserved = broker.no_room();
+    match broker.reserve_at(rt, Topic(0), 0, &mut reserved) {
+        Ok(()) => {
             let answer = enter_by(rt, alloc, broker, worker, sender, &[0], reserved);
             (answer == Answer::Done, false)
         }
         Err(_) => {
+            broker.release_room(rt, reserved);
             turned(rt, broker);
             let is_taken = begun.taker.take(rt).is_some();
             begun.taker.tell(rt);

@@ -40,37 +40,49 @@ fn subscribed_at_last<R: Wait, W: Side, T: Side>(
     None
 }
 
-/// Room at topics 0 and 1, the first or the second time; none where it is refused by another fault than 105.
-fn reserved_at_last<R: Wait, W: Side, T: Side>(
+/// Room at one topic more, the first or the second time, beside what is reserved, which stays as it is where that is
+/// refused; not where it is refused by another fault than 105.
+fn is_reserved_at_last<R: Wait, W: Side, T: Side>(
     rt: &R,
     broker: &Broker<R, W, T>,
-) -> Option<Reserved> {
+    topic: Topic,
+    reserved: &mut Reserved,
+) -> bool {
+    let many = reserved.topics().len();
     for _ in 0..3u8 {
-        match broker.reserve(rt, &[Topic(0), Topic(1)]) {
-            Ok(reserved) => return Some(reserved),
-            Err(NoRoom::NoMemory) => {}
-            Err(NoRoom::Full { topic: _, sub: _ }) => return None,
-        }
-    }
-    None
-}
-
-/// Whether a reservation at topic 0 is refused, once there is memory for its list, for want of room there.
-fn is_full<R: Wait, W: Side, T: Side>(rt: &R, broker: &Broker<R, W, T>) -> bool {
-    for _ in 0..3u8 {
-        match broker.reserve(rt, &[Topic(0)]) {
-            Ok(reserved) => {
-                broker.release_room(rt, reserved);
-                return false;
-            }
-            Err(NoRoom::NoMemory) => {}
-            Err(NoRoom::Full { topic, sub: _ }) => return topic == Topic(0),
+        match broker.reserve_at(rt, topic, 0, reserved) {
+            Ok(()) => return true,
+            Err(NoRoom::NoMemory) if reserved.topics().len() == many => {}
+            Err(_) => return false,
         }
     }
     false
 }
 
-/// Whether a transaction to both topics is committed with what is reserved.
+/// Room at topics 0, 1 and 2, of which the third wants memory.
+fn reserved_at_last<R: Wait, W: Side, T: Side>(
+    rt: &R,
+    broker: &Broker<R, W, T>,
+) -> Option<Reserved> {
+    let mut reserved = broker.no_room();
+    for number in 0..3u32 {
+        if !is_reserved_at_last(rt, broker, Topic(number), &mut reserved) {
+            broker.release_room(rt, reserved);
+            return None;
+        }
+    }
+    Some(reserved)
+}
+
+/// Whether a reservation at the topic is refused for want of room there; it takes no memory.
+fn is_full<R: Wait, W: Side, T: Side>(rt: &R, broker: &Broker<R, W, T>, topic: Topic) -> bool {
+    let mut reserved = broker.no_room();
+    let answer = broker.reserve_at(rt, topic, 0, &mut reserved);
+    broker.release_room(rt, reserved);
+    answer == Err(NoRoom::Full { topic, sub: None })
+}
+
+/// Whether a transaction to topics 0, 1 and 2 is committed with what is reserved.
 fn is_entered<R: Wait, W: Side, T: Side>(
     rt: &R,
     alloc: Global,
@@ -78,7 +90,7 @@ fn is_entered<R: Wait, W: Side, T: Side>(
     worker: &mut Worker<W>,
     reserved: Reserved,
 ) -> bool {
-    let Some(flying) = begun(alloc, Gate::new(Sender(4)), &[0, 1]) else {
+    let Some(flying) = begun(alloc, Gate::new(Sender(4)), &[0, 1, 2]) else {
         broker.release_room(rt, reserved);
         return false;
     };
@@ -87,7 +99,7 @@ fn is_entered<R: Wait, W: Side, T: Side>(
         .is_ok()
 }
 
-/// The same, the first or the second time. Where it is refused, both topics have room again.
+/// The same, the first or the second time. Where it is refused, all of them have room again.
 fn is_entered_at_last<R: Wait, W: Side, T: Side>(
     rt: &R,
     alloc: Global,
@@ -136,14 +148,14 @@ struct Found {
     is_waited_again: bool,
 }
 
-/// Whether topic 0 is full while room is reserved there.
+/// Whether topics 0 and 2 are full while room is reserved there, and topic 2 isn't once that is given back.
 fn is_full_once_reserved<R: Wait, W: Side, T: Side>(rt: &R, broker: &Broker<R, W, T>) -> bool {
     let Some(reserved) = reserved_at_last(rt, broker) else {
         return false;
     };
-    let full = is_full(rt, broker);
+    let full = is_full(rt, broker, Topic(0)) && is_full(rt, broker, Topic(2));
     broker.release_room(rt, reserved);
-    full
+    full && !is_full(rt, broker, Topic(2))
 }
 
 /// What this broker answers to this worker.

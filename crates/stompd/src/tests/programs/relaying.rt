@@ -106,7 +106,12 @@ const ERRORS: &[(&'static [u8], &'static [u8])] = &[
 ];
 
 /// Whether this is written of the input, with this status.
-fn relays(alloc: Global, input: &[u8], output: &[u8], status: u8) -> Result<bool, ProgramFault> {
+pub(super) fn relays(
+    alloc: Global,
+    input: &[u8],
+    output: &[u8],
+    status: u8,
+) -> Result<bool, ProgramFault> {
     let mut writer = Counting::new(Target::with_room(alloc, 1024)?);
     let mut reader = Counting::new(Source::of(input));
     let ended = run_relay(alloc, b"A", &mut reader, &mut writer)?;

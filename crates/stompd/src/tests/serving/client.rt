@@ -13,10 +13,10 @@ pub(super) const CONNECT: &str = "CONNECT\naccept-version:1.2\nhost:h\n\n\0";
 pub(super) const SUBSCRIBE: &str = "SUBSCRIBE\nid:s\ndestination:A\nreceipt:s\n\n\0";
 
 /// What a connection is written first.
-pub(super) const CONNECTED: &str = "CONNECTED\nversion:1.2\nheart-beat:0,0\n\n\0";
+pub(super) const CONNECTED: &str = "CONNECTED\nversion:1.2\nheart-beat:0,0\n\n\0\n";
 
 /// The RECEIPT of `SUBSCRIBE`.
-pub(super) const SUBSCRIBED: &str = "RECEIPT\nreceipt-id:s\n\n\0";
+pub(super) const SUBSCRIBED: &str = "RECEIPT\nreceipt-id:s\n\n\0\n";
 
 /// So many octets a frame has at most that a client looks at octet by octet.
 const FRAME: u32 = 4_096;
@@ -121,8 +121,18 @@ impl Client {
         self.next(1)?.first().copied()
     }
 
-    /// The next frame that comes, without its NULL.
+    /// The next frame that comes, without its NULL and the LF behind that.
     pub(super) fn frame(&mut self) -> Option<Vec<u8>> {
+        let frame = self.up_to_null()?;
+        if self.octet()? == b'\n' {
+            Some(frame)
+        } else {
+            None
+        }
+    }
+
+    /// What comes before the next NULL.
+    fn up_to_null(&mut self) -> Option<Vec<u8>> {
         let mut frame = Vec::new(self.alloc);
         for _ in 0..FRAME {
             match self.octet()? {

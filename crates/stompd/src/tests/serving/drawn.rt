@@ -26,7 +26,7 @@ const TEXTS: &[&str] = &[
 /// What each sends last, and what it is told.
 const LAST: (&str, &str) = (
     "SEND\ndestination:A\nreceipt:r\n\nbye\0",
-    "RECEIPT\nreceipt-id:r\n\n\0",
+    "RECEIPT\nreceipt-id:r\n\n\0\n",
 );
 
 /// So many clients that were told CONNECTED.

@@ -10,25 +10,25 @@ use std::alloc::Global;
 const FAULTS: &[(&str, &str)] = &[
     (
         "SEN\n",
-        "ERROR\nmessage:1 BadCommand\ncontent-length:0\n\n\0",
+        "ERROR\nmessage:1 BadCommand\ncontent-length:0\n\n\0\n",
     ),
     (
         "CONNECT\naccept-version:1.2\nhost:h\n\n\0NACK\nid:1\nreceipt:r\n\n\0",
-        "CONNECTED\nversion:1.2\nheart-beat:0,0\n\n\0\
-        ERROR\nmessage:21 Unsupported\nreceipt-id:r\ncontent-length:0\n\n\0",
+        "CONNECTED\nversion:1.2\nheart-beat:0,0\n\n\0\n\
+        ERROR\nmessage:21 Unsupported\nreceipt-id:r\ncontent-length:0\n\n\0\n",
     ),
     (
         "CONNECT\naccept-version:1.0,1.1\nhost:h\n\n\0",
-        "ERROR\nmessage:62 NoVersion\nversion:1.2\ncontent-length:0\n\n\0",
+        "ERROR\nmessage:62 NoVersion\nversion:1.2\ncontent-length:0\n\n\0\n",
     ),
     (
         "CONNECT\naccept-version:1.2\nhost:h\n\n\0ABORT\ntransaction:x\n\n\0BEGIN\ntransaction:y\nreceipt:r\n\n\0",
-        "CONNECTED\nversion:1.2\nheart-beat:0,0\n\n\0ERROR\nmessage:66 NoSuchTxn\ncontent-length:0\n\n\0",
+        "CONNECTED\nversion:1.2\nheart-beat:0,0\n\n\0\nERROR\nmessage:66 NoSuchTxn\ncontent-length:0\n\n\0\n",
     ),
     (
         "CONNECT\naccept-version:1.2\nhost:h\n\n\0SEND\ndestination:full\nreceipt:r\n\nhi\0",
-        "CONNECTED\nversion:1.2\nheart-beat:0,0\n\n\0\
-        ERROR\nmessage:40 ClockFull\nreceipt-id:r\ncontent-length:0\n\n\0",
+        "CONNECTED\nversion:1.2\nheart-beat:0,0\n\n\0\n\
+        ERROR\nmessage:40 ClockFull\nreceipt-id:r\ncontent-length:0\n\n\0\n",
     ),
 ];
 
@@ -68,13 +68,13 @@ fn an_error_is_the_last_that_comes(rt: HostRuntime) {
 const CONNECT_P: &str = "CONNECT\naccept-version:1.2\nhost:h\nclient-id:p\n\n\0";
 
 /// The ERROR of a CONNECT whose sender is in use.
-const IN_USE: &str = "ERROR\nmessage:77 SenderInUse\ncontent-length:0\n\n\0";
+const IN_USE: &str = "ERROR\nmessage:77 SenderInUse\ncontent-length:0\n\n\0\n";
 
 /// Whether the client leaves, and reads its RECEIPT.
 fn leaves(client: &mut Client) -> bool {
     client.asks(
         "DISCONNECT\nreceipt:bye\n\n\0",
-        "RECEIPT\nreceipt-id:bye\n\n\0",
+        "RECEIPT\nreceipt-id:bye\n\n\0\n",
     )
 }
 
@@ -82,7 +82,7 @@ fn leaves(client: &mut Client) -> bool {
 fn fails(client: &mut Client) -> bool {
     client.asks(
         "ACK\n\n\0",
-        "ERROR\nmessage:21 Unsupported\ncontent-length:0\n\n\0",
+        "ERROR\nmessage:21 Unsupported\ncontent-length:0\n\n\0\n",
     )
 }
 

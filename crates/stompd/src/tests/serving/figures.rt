@@ -12,17 +12,17 @@ use std::sync::Mutex;
 type Talk = (&'static str, usize);
 
 /// How many octets a CONNECTED has.
-const CONNECTED: usize = "CONNECTED\nversion:1.2\nheart-beat:0,0\n\n\0".len();
+const CONNECTED: usize = "CONNECTED\nversion:1.2\nheart-beat:0,0\n\n\0\n".len();
 
 /// How many octets a RECEIPT of an id of one octet has.
-const RECEIPT: usize = "RECEIPT\nreceipt-id:a\n\n\0".len();
+const RECEIPT: usize = "RECEIPT\nreceipt-id:a\n\n\0\n".len();
 
 /// How many octets a MESSAGE to the subscription `s` has, of a body of two octets and a topic of one, as all do here.
 const MESSAGE: usize =
-    "MESSAGE\nsubscription:s\nmessage-id:1.0.0\ndestination:A\ncontent-length:2\n\nhi\0".len();
+    "MESSAGE\nsubscription:s\nmessage-id:1.0.0\ndestination:A\ncontent-length:2\n\nhi\0\n".len();
 
 /// How many octets the ERROR has that the subscriber gets.
-const ERROR: usize = "ERROR\nmessage:21 Unsupported\ncontent-length:0\n\n\0".len();
+const ERROR: usize = "ERROR\nmessage:21 Unsupported\ncontent-length:0\n\n\0\n".len();
 
 /// The subscriber has a client-id of `café 7` and a backslash, and subscribes to A and to B.
 const SUBSCRIBER: Talk = (
@@ -122,8 +122,8 @@ fn figures(alloc: Global) -> Result<String, AllocError> {
     let (came, went) = (octets_in(), octets_out());
     format!(in alloc;
         "[INFO  serve] figures connections=0 came=3 refused=0 ended_disconnect=1 ended_error=1 \
-         ended_closed=1 ended_lag=0 ended_write_failed=0 ended_other=0 topics=3 sends=4 \
-         transactions=2 messages=4 octets_in={came} octets_out={went} lagged=0 passed_over=0 \
+         ended_closed=1 ended_lag=0 ended_write_failed=0 ended_unconnected=0 ended_other=0 topics=3 \
+         sends=4 transactions=2 messages=4 octets_in={came} octets_out={went} lagged=0 passed_over=0 \
          subscriptions=0 waiting_senders=0 behind=0"
     )
 }

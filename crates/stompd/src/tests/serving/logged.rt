@@ -47,12 +47,12 @@ impl<'a, R: Wait> Log for Kept<'a, R> {
 const LEAVING: &[(&str, &str, &str)] = &[
     (
         "CONNECT\naccept-version:1.2\nhost:h\n\n\0DISCONNECT\nreceipt:bye\n\n\0",
-        "CONNECTED\nversion:1.2\nheart-beat:0,0\n\n\0RECEIPT\nreceipt-id:bye\n\n\0",
+        "CONNECTED\nversion:1.2\nheart-beat:0,0\n\n\0\nRECEIPT\nreceipt-id:bye\n\n\0\n",
         " left: DISCONNECT",
     ),
     (
         "CONNECT\naccept-version:1.2\nhost:h\n\n\0UNSUBSCRIBE\nid:x\n[WARN  serve] no line\n\n\0",
-        "CONNECTED\nversion:1.2\nheart-beat:0,0\n\n\0ERROR\nmessage:3 BadHeader\ncontent-length:0\n\n\0",
+        "CONNECTED\nversion:1.2\nheart-beat:0,0\n\n\0\nERROR\nmessage:3 BadHeader\ncontent-length:0\n\n\0\n",
         " left: ERROR 3 BadHeader",
     ),
     (

@@ -37,9 +37,9 @@ fn message_of(alloc: Global, name: u32, of_second: bool) -> Option<String> {
 }
 
 /// The RECEIPT of a SEND, and that of a SUBSCRIBE.
-const SENT: &str = "RECEIPT\nreceipt-id:r\n\n\0";
+const SENT: &str = "RECEIPT\nreceipt-id:r\n\n\0\n";
 
-const SUBSCRIBED: &str = "RECEIPT\nreceipt-id:s\n\n\0";
+const SUBSCRIBED: &str = "RECEIPT\nreceipt-id:s\n\n\0\n";
 
 /// An UNSUBSCRIBE, which asks for the receipt of a SEND.
 const UNSUBSCRIBE: &str = "UNSUBSCRIBE\nid:s\nreceipt:r\n\n\0";
@@ -149,30 +149,31 @@ fn sends_to_all(client: &mut Client, alloc: Global, names: u32) -> bool {
 const REFUSED: &[(&str, &str)] = &[
     (
         "SEND\ndestination:one.more\nreceipt:r\n\nhi\0",
-        "ERROR\nmessage:75 TooManyTopics\nreceipt-id:r\ncontent-length:0\n\n\0",
+        "ERROR\nmessage:75 TooManyTopics\nreceipt-id:r\ncontent-length:0\n\n\0\n",
     ),
     (
         "SUBSCRIBE\nid:s\ndestination:one.more\n\n\0",
-        "ERROR\nmessage:75 TooManyTopics\ncontent-length:0\n\n\0",
+        "ERROR\nmessage:75 TooManyTopics\ncontent-length:0\n\n\0\n",
     ),
     (
         "SEND\ndestination:two words\n\nhi\0",
-        "ERROR\nmessage:76 BadDestination\ncontent-length:0\n\n\0",
+        "ERROR\nmessage:76 BadDestination\ncontent-length:0\n\n\0\n",
     ),
 ];
 
-/// Whether a new client that sends this is told that, and nothing more.
-fn is_refused(alloc: Global, lines: &mut Lines, text: &str, told: &str) -> bool {
-    match Client::connected(alloc, lines) {
-        Some(mut client) => client.ends_with(text, told),
-        None => false,
+/// As many clients that were told CONNECTED.
+fn refused_clients(alloc: Global, lines: &mut Lines) -> Option<Vec<Client>> {
+    let mut clients = Vec::new(alloc);
+    for _ in REFUSED {
+        clients.push(Client::connected(alloc, lines)?).ok()?;
     }
+    Some(clients)
 }
 
-/// Whether a new client is refused each of these.
-fn all_are_refused(alloc: Global, lines: &mut Lines) -> bool {
-    for &(text, told) in REFUSED {
-        if !is_refused(alloc, lines, text, told) {
+/// Whether each of these clients is refused one of them, and told nothing more.
+fn all_are_refused(clients: &mut [Client]) -> bool {
+    for (client, &(text, told)) in clients.iter_mut().zip(REFUSED) {
+        if !client.ends_with(text, told) {
             return false;
         }
     }
@@ -192,9 +193,12 @@ impl Peers for Full {
         let Some(mut client) = Client::connected(alloc, lines) else {
             return false;
         };
+        let Some(mut refused) = refused_clients(alloc, lines) else {
+            return false;
+        };
         let names = MOST.saturating_sub(OPENING);
         sends_to_all(&mut client, alloc, names)
-            && all_are_refused(alloc, lines)
+            && all_are_refused(refused.as_mut_slice())
             && sends_to_all(&mut client, alloc, names)
     }
 }

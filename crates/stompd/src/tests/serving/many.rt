@@ -21,7 +21,7 @@ fn clients(alloc: Global, lines: &mut Lines, count: u64) -> Option<Vec<Client>> 
 fn all_send(clients: &mut [Client]) -> bool {
     for client in clients {
         let text = "SEND\ndestination:A\nreceipt:r\n\nhi\0";
-        if !client.asks(text, "RECEIPT\nreceipt-id:r\n\n\0") {
+        if !client.asks(text, "RECEIPT\nreceipt-id:r\n\n\0\n") {
             return false;
         }
     }

@@ -21,7 +21,7 @@ const COMMIT: &str = "BEGIN\ntransaction:x\n\n\0\
     COMMIT\ntransaction:x\nreceipt:c\n\n\0";
 
 /// Its RECEIPT.
-const COMMITTED: &str = "RECEIPT\nreceipt-id:c\n\n\0";
+const COMMITTED: &str = "RECEIPT\nreceipt-id:c\n\n\0\n";
 
 /// What each client sends in turn once it has subscribed to A, and what comes then behind the MESSAGEs.
 const ASKS: &[(&str, &str)] = &[
@@ -30,7 +30,7 @@ const ASKS: &[(&str, &str)] = &[
     (COMMIT, COMMITTED),
     (
         "UNSUBSCRIBE\nid:s\nreceipt:u\n\n\0",
-        "RECEIPT\nreceipt-id:u\n\n\0",
+        "RECEIPT\nreceipt-id:u\n\n\0\n",
     ),
 ];
 

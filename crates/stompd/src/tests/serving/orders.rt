@@ -22,7 +22,7 @@ const SECOND: &str = "BEGIN\ntransaction:y\n\n\0SEND\ndestination:B\ntransaction
 /// A subscription to B, and what is written first then.
 const TO_B: (&str, &str) = (
     "CONNECT\naccept-version:1.2\nhost:h\n\n\0SUBSCRIBE\nid:s\ndestination:B\nreceipt:r\n\n\0",
-    "CONNECTED\nversion:1.2\nheart-beat:0,0\n\n\0RECEIPT\nreceipt-id:r\n\n\0",
+    "CONNECTED\nversion:1.2\nheart-beat:0,0\n\n\0\nRECEIPT\nreceipt-id:r\n\n\0\n",
 );
 
 /// Sends the transaction as often as a connection does in a round, without a look at what comes.

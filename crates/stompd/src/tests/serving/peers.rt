@@ -9,15 +9,15 @@ use std::alloc::Global;
 const SEND: &str = "SEND\ndestination:A\nreceipt:r\n\nhi\0";
 
 /// Its RECEIPT.
-const SENT: &str = "RECEIPT\nreceipt-id:r\n\n\0";
+const SENT: &str = "RECEIPT\nreceipt-id:r\n\n\0\n";
 
 /// The MESSAGE of the first SEND.
 const FIRST: &str =
-    "MESSAGE\nsubscription:s\nmessage-id:1.0.0\ndestination:A\ncontent-length:2\n\nhi\0";
+    "MESSAGE\nsubscription:s\nmessage-id:1.0.0\ndestination:A\ncontent-length:2\n\nhi\0\n";
 
 /// The MESSAGE of the second SEND.
 const SECOND: &str =
-    "MESSAGE\nsubscription:s\nmessage-id:2.0.0\ndestination:A\ncontent-length:2\n\nhi\0";
+    "MESSAGE\nsubscription:s\nmessage-id:2.0.0\ndestination:A\ncontent-length:2\n\nhi\0\n";
 
 /// Whether a new client sends to A, and reads its RECEIPT.
 fn one_sends(alloc: Global, lines: &mut Lines) -> bool {
@@ -56,16 +56,19 @@ const WITHIN: &str = "BEGIN\ntransaction:x\n\n\0SEND\ndestination:A\ntransaction
 const UNDONE: &[(&str, &str)] = &[
     (
         "ABORT\ntransaction:x\nreceipt:r\n\n\0",
-        "RECEIPT\nreceipt-id:r\n\n\0",
+        "RECEIPT\nreceipt-id:r\n\n\0\n",
     ),
     (
         "BEGIN\ntransaction:y\nreceipt:r\n\n\0",
-        "RECEIPT\nreceipt-id:r\n\n\0",
+        "RECEIPT\nreceipt-id:r\n\n\0\n",
     ),
-    ("DISCONNECT\nreceipt:r\n\n\0", "RECEIPT\nreceipt-id:r\n\n\0"),
+    (
+        "DISCONNECT\nreceipt:r\n\n\0",
+        "RECEIPT\nreceipt-id:r\n\n\0\n",
+    ),
     (
         "COMMIT\ntransaction:y\nreceipt:r\n\n\0",
-        "ERROR\nmessage:66 NoSuchTxn\nreceipt-id:r\ncontent-length:0\n\n\0",
+        "ERROR\nmessage:66 NoSuchTxn\nreceipt-id:r\ncontent-length:0\n\n\0\n",
     ),
 ];
 
@@ -152,7 +155,7 @@ fn one_that_resets_ends_alone(rt: HostRuntime) {
 const SEND_AND_GO: &str = "SEND\ndestination:A\n\nhi\0DISCONNECT\nreceipt:bye\n\n\0";
 
 /// The RECEIPT of that DISCONNECT.
-const GONE: &str = "RECEIPT\nreceipt-id:bye\n\n\0";
+const GONE: &str = "RECEIPT\nreceipt-id:bye\n\n\0\n";
 
 /// Whether a new client has subscribed, sends to itself and leaves at once, and gets nothing but its RECEIPT: its item isn't
 /// taken.

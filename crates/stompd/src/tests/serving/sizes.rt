@@ -13,9 +13,9 @@ const TEXT: &str = "CONNECT\naccept-version:1.2\nhost:h\n\n\0\n\
 
 /// What it is told.
 const TOLD: &str =
-    "CONNECTED\nversion:1.2\nheart-beat:0,0\n\n\0RECEIPT\nreceipt-id:1\n\n\0RECEIPT\nreceipt-id:2\n\n\0\
-    MESSAGE\nsubscription:s\nmessage-id:1.0.0\ndestination:A\ncontent-length:2\n\nhi\0\
-    MESSAGE\nsubscription:s\nmessage-id:1.0.1\ndestination:A\ncontent-length:3\n\na\0b\0";
+    "CONNECTED\nversion:1.2\nheart-beat:0,0\n\n\0\nRECEIPT\nreceipt-id:1\n\n\0\nRECEIPT\nreceipt-id:2\n\n\0\n\
+    MESSAGE\nsubscription:s\nmessage-id:1.0.0\ndestination:A\ncontent-length:2\n\nhi\0\n\
+    MESSAGE\nsubscription:s\nmessage-id:1.0.1\ndestination:A\ncontent-length:3\n\na\0b\0\n";
 
 /// One sends octet by octet.
 #[derive(Drop)]
@@ -69,7 +69,12 @@ fn hears_back(client: &mut Client, text: &str) -> bool {
         .as_bytes()
         .strip_prefix(b"SEND\ndestination:A\n\n".as_slice())
     {
-        Some(body) => client.sends(text) && client.hears(HEAD) && hears_body(client, body),
+        Some(body) => {
+            client.sends(text)
+                && client.hears(HEAD)
+                && hears_body(client, body)
+                && client.hears("\n")
+        }
         None => false,
     }
 }
@@ -84,7 +89,7 @@ fn returns(client: &mut Client, alloc: Global) -> bool {
 
 /// Whether one octet more is refused.
 fn refuses_longer(client: &mut Client, alloc: Global) -> bool {
-    let told = "ERROR\nmessage:10 BodyTooLong\ncontent-length:0\n\n\0";
+    let told = "ERROR\nmessage:10 BodyTooLong\ncontent-length:0\n\n\0\n";
     match send_of(alloc, LONGEST.saturating_add(1)) {
         Some(text) => client.ends_with(text.as_str(), told),
         None => false,

@@ -24,7 +24,7 @@ fn send_of(alloc: Global, count: usize) -> Option<String> {
     Some(text)
 }
 
-/// Whether the MESSAGE of this number at A comes next, with this body and the NULL behind it.
+/// Whether the MESSAGE of this number at A comes next, with this body and the NULL behind it, and LF.
 fn hears_number(client: &mut Client, alloc: Global, number: u64, body: &[u8]) -> bool {
     let count = body.len().saturating_sub(1);
     let head = format!(in alloc;
@@ -36,6 +36,7 @@ fn hears_number(client: &mut Client, alloc: Global, number: u64, body: &[u8]) ->
                 && client
                     .next(body.len())
                     .is_some_and(|came| came.as_slice() == body)
+                && client.hears("\n")
         }
         Err(_) => false,
     }
@@ -65,23 +66,18 @@ fn goes_on(sender: &mut Client, reader: &mut Client, alloc: Global) -> bool {
 /// What is refused, and the ERROR that answers it.
 const REFUSED: (&str, &str) = (
     "ACK\n\n\0",
-    "ERROR\nmessage:21 Unsupported\ncontent-length:0\n\n\0",
+    "ERROR\nmessage:21 Unsupported\ncontent-length:0\n\n\0\n",
 );
 
-/// Whether the server answers one that asks for as long as it hears out another, which was refused a frame and says a
+/// Whether the server answers one that asks for as long as it hears out another, which is refused a frame and says a
 /// little now and then: by its own clock one second to ten. It takes no longer to end what has lagged, and waits a minute
 /// for one that lagged to read on.
-fn pauses(client: &mut Client, alloc: Global, lines: &mut Lines) -> bool {
-    match Client::connected(alloc, lines) {
-        Some(mut refused) => {
-            refused.asks(REFUSED.0, REFUSED.1) && is_given_up(&mut refused, client)
-        }
-        None => false,
-    }
+fn pauses(client: &mut Client, refused: &mut Client) -> bool {
+    refused.asks(REFUSED.0, REFUSED.1) && is_given_up(refused, client)
 }
 
 /// The last words to one that lagged.
-const LAGGED: &[u8] = b"ERROR\nmessage:74 Lagged\ncontent-length:0\n\n\0";
+const LAGGED: &[u8] = b"ERROR\nmessage:74 Lagged\ncontent-length:0\n\n\0\n";
 
 /// Whether all that comes ends with 74, behind fewer MESSAGEs than were sent.
 fn ends_lagged(client: &mut Client) -> bool {
@@ -95,10 +91,13 @@ fn ends_lagged(client: &mut Client) -> bool {
 
 /// Whether the one of these lags and the other reads what a new client sends.
 fn one_lags(alloc: Global, lines: &mut Lines, slow: &mut Client, reader: &mut Client) -> bool {
+    let Some(mut sender) = Client::connected(alloc, lines) else {
+        return false;
+    };
     match Client::connected(alloc, lines) {
-        Some(mut sender) => {
+        Some(mut refused) => {
             goes_on(&mut sender, reader, alloc)
-                && pauses(&mut sender, alloc, lines)
+                && pauses(&mut sender, &mut refused)
                 && ends_lagged(slow)
         }
         None => false,
@@ -135,7 +134,7 @@ struct ToItself;
 /// A SEND to B, and its RECEIPT; then the stamps of what is sent to A begin with 2.
 const FIRST: (&str, &str) = (
     "SEND\ndestination:B\nreceipt:f\n\nx\0",
-    "RECEIPT\nreceipt-id:f\n\n\0",
+    "RECEIPT\nreceipt-id:f\n\n\0\n",
 );
 
 /// A SUBSCRIBE of A, and so many SENDs there.
@@ -178,21 +177,26 @@ fn one_that_does_not_read_lags_alone(rt: HostRuntime) {
 /// A subscription `t` to B that asks for a receipt, and its RECEIPT.
 const TO_B: (&str, &str) = (
     "SUBSCRIBE\nid:t\ndestination:B\nreceipt:t\n\n\0",
-    "RECEIPT\nreceipt-id:t\n\n\0",
+    "RECEIPT\nreceipt-id:t\n\n\0\n",
 );
 
 /// A SEND to B that asks for a receipt, its RECEIPT, and its MESSAGE to the subscription `t`.
 const AT_B: (&str, &str) = (
     "SEND\ndestination:B\nreceipt:r\n\nhi\0",
-    "RECEIPT\nreceipt-id:r\n\n\0",
+    "RECEIPT\nreceipt-id:r\n\n\0\n",
 );
 
 const FROM_B: &[u8] =
-    b"MESSAGE\nsubscription:t\nmessage-id:1.1.0\ndestination:B\ncontent-length:2\n\nhi\0";
+    b"MESSAGE\nsubscription:t\nmessage-id:1.1.0\ndestination:B\ncontent-length:2\n\nhi\0\n";
 
-/// A frame without the NULL at its end.
+/// A frame without the NULL and the LF at its end.
 fn without_end(frame: &[u8]) -> Option<&[u8]> {
-    frame.get(..frame.len().saturating_sub(1))
+    frame.get(..frame.len().saturating_sub(2))
+}
+
+/// What stands before a NULL, without the LF that stands behind the one before.
+fn without_eol(piece: &[u8]) -> &[u8] {
+    piece.strip_prefix(b"\n".as_slice()).unwrap_or(piece)
 }
 
 /// Whether the one of these frames is among those once, and the other once; no body has a NULL.
@@ -200,11 +204,12 @@ fn each_is_once(octets: &[u8], one: &[u8], other: &[u8]) -> bool {
     let (one, other) = (without_end(one), without_end(other));
     let mut ones = 0u32;
     let mut others = 0u32;
-    for frame in octets.split(|octet| *octet == 0) {
-        if Some(frame) == one {
+    for piece in octets.split(|octet| *octet == 0) {
+        let frame = Some(without_eol(piece));
+        if frame == one {
             ones = ones.saturating_add(1);
         }
-        if Some(frame) == other {
+        if frame == other {
             others = others.saturating_add(1);
         }
     }
@@ -273,8 +278,11 @@ impl Peers for NeverReads {
         let Some(_never) = Client::subscribed(alloc, lines) else {
             return false;
         };
+        let Some(mut sender) = Client::connected(alloc, lines) else {
+            return false;
+        };
         match Client::connected(alloc, lines) {
-            Some(mut sender) => bursts(&mut sender, alloc) && pauses(&mut sender, alloc, lines),
+            Some(mut refused) => bursts(&mut sender, alloc) && pauses(&mut sender, &mut refused),
             None => false,
         }
     }
@@ -288,7 +296,7 @@ fn a_burst_lags_one_of_two_subscriptions(rt: HostRuntime) {
 /// What leaves no row, and its RECEIPTs.
 const IDLE: (&str, &str) = (
     "BEGIN\ntransaction:x\nreceipt:b\n\n\0ABORT\ntransaction:x\nreceipt:a\n\n\0",
-    "RECEIPT\nreceipt-id:b\n\n\0RECEIPT\nreceipt-id:a\n\n\0",
+    "RECEIPT\nreceipt-id:b\n\n\0\nRECEIPT\nreceipt-id:a\n\n\0\n",
 );
 
 /// How often another asks for that, at most.
@@ -320,7 +328,7 @@ const LARGE: usize = 150_000;
 /// Whether the MESSAGE of the SEND to B of this number comes next.
 fn hears_at_b(client: &mut Client, alloc: Global, number: u64) -> bool {
     let text = format!(in alloc;
-        "MESSAGE\nsubscription:t\nmessage-id:{number}.1.0\ndestination:B\ncontent-length:2\n\nhi\0"
+        "MESSAGE\nsubscription:t\nmessage-id:{number}.1.0\ndestination:B\ncontent-length:2\n\nhi\0\n"
     );
     match text {
         Ok(text) => client.hears(text.as_str()),

@@ -2,9 +2,9 @@ use Rattle.std.proofs.Common.{ℕ, Bool, true, List, [], ◌∷◌, ◌++◌, in
 use Rattle.std.specs.List.{flat_map}
 use Rattle.std.specs.Option.{option_map}
 use Rattle.stomp_frame.specs.ServerFrames.{error_frame}
-use Rattle.stomp_frame.specs.Writing.{spelling_of}
 use Rattle.broker_server.specs.Conversations.{ConversationState}
 use Rattle.broker_server.specs.ConversationFaults.{conversation_title, told_error}
+use Rattle.broker_server.specs.Wires.{spelling_with_eol}
 use Rattle.broker_server.proofs.ConversationLemmas.{on_err, on_ok}
 use Rattle.broker_server.proofs.conversation.Conversation.fail.Goals as goal
 
@@ -29,10 +29,10 @@ returns-in-Ok-clause-fails g c =
       next = held.next;
     } in
     let was = c.self.view_is ∙ c.close.ensures.closed in
-    let told = ap (λ (t : List ℕ). held.wire ++ spelling_of (error_frame t receipt c.says_version.result)) c.title.ensures
-    ∙ ap (λ (v : Bool). held.wire ++ spelling_of (error_frame (conversation_title why) receipt v)) c.says_version.ensures
-    ∙ ap (λ (t : List ℕ). held.wire ++ t) (sym (append-nil (spelling_of frame))) in
-    let written = ap (λ (s : ConversationState). record s { wire = s.wire ++ flat_map spelling_of (frame ∷ []) }) was in
+    let told = ap (λ (t : List ℕ). held.wire ++ spelling_with_eol (error_frame t receipt c.says_version.result)) c.title.ensures
+    ∙ ap (λ (v : Bool). held.wire ++ spelling_with_eol (error_frame (conversation_title why) receipt v)) c.says_version.ensures
+    ∙ ap (λ (t : List ℕ). held.wire ++ t) (sym (append-nil (spelling_with_eol frame))) in
+    let written = ap (λ (s : ConversationState). record s { wire = s.wire ++ flat_map spelling_with_eol (frame ∷ []) }) was in
     let ok = on_ok c.put_frame.result _ _ c.in-Ok.is c.put_frame.ensures.ok in
     inl (ap with (ok ∙ told) ∙ written)
 

@@ -1,0 +1,25 @@
+use Rattle.std.proofs.Common.{◌≡◌, ◌++◌, ◌<◌, ℕ, List, Some, length, sym, ap, ◌∙◌, arith}
+use Rattle.std.specs.Prelude.{slice_get}
+use Rattle.stomp_frame.specs.ServerFrames.{message_frame, message_id}
+use Rattle.mcast_txn.specs.declared.parts.part.Part.{Part}
+use Rattle.mcast_txn.specs.declared.parts.part_message.PartMessage.{PartMessage}
+use Rattle.mcast_txn.specs.declared.stamp.Stamp.{Stamp}
+use Rattle.mcast_txn.specs.Span.{Item}
+use Rattle.broker_server.specs.Wires.{spelling_with_eol}
+use Rattle.broker_server.proofs.EolLemmas.{octets_put}
+use Rattle.broker_server.proofs.writing.put_item.Goals as goal
+
+pub loop-i-preserved : goal.loop-i-preserved
+loop-i-preserved c =
+    let item = c.args.item.now in
+    let p = c.get-send.result.now in
+    let sends : c.deref.result.now.sends ≡ item.sends = ap (λ (q : Part). q.sends) c.deref.ensures ∙ ap (λ (i : Item). i.sends) c.item.view_is in
+    let is : slice_get item.sends c.loop-i.i ≡ Some p = ap (λ (xs : List PartMessage). slice_get xs c.loop-i.i) (sym sends) ∙ c.get-send.ensures in
+    let there : c.loop-i.i < length item.sends = omega (arith, c.loop-i-test.true, c.loop-i.auto.i-end, c.len-i-end.ensures, ap (λ (xs : List PartMessage). length xs) sends) in
+    let put = c.in_ok-put_with_eol.ensures.ok in
+    let frame = λ (stamp : Stamp) (body : List ℕ). message_frame c.args.id.now (message_id stamp.n stamp.topic.0 p.index) p.headers body in
+    let stamp = ap (λ (i : Item). i.stamp) c.item.view_is in
+    let whole = put
+    ∙ (ap (λ (st : Stamp). c.loop-i.out ++ spelling_with_eol (frame st c.as_slice.result.now)) stamp
+    ∙ ap (λ (b : List ℕ). c.loop-i.out ++ spelling_with_eol (frame item.stamp b)) c.as_slice.ensures) in
+    record { written = octets_put c.args.id.now item.stamp item.sends c.loop-i.i p c.args.out.now c.loop-i.out c.put_with_eol.new.out there is c.loop-i.invariant.written whole }

@@ -1,0 +1,55 @@
+//! The log's lines of who came and who left.
+
+use crate::serving::hub::Hub;
+use crate::serving::line_rate::Admitted;
+use crate::serving::peer::Peer;
+use crate::serving::why_left::WhyLeft;
+use broker_locks::Side;
+use log::{Log, info, warn};
+use std::sync::Wait;
+use std::time::Clock;
+
+/// Says that this peer's connection came, unless too many lines do.
+pub(crate) fn say_came<R: Wait + Clock + Log, W: Side, T: Side>(
+    rt: &R,
+    hub: &Hub<R, W, T>,
+    peer: Peer,
+) {
+    if admits(rt, hub) {
+        info!(rt; target: "serve", "{peer} came");
+    }
+}
+
+/// Says why this peer's connection left, unless too many lines do. That of one which lagged and took nothing is always there.
+pub(crate) fn say_left<R: Wait + Clock + Log, W: Side, T: Side>(
+    rt: &R,
+    hub: &Hub<R, W, T>,
+    peer: Peer,
+    left: &WhyLeft,
+) {
+    match left {
+        WhyLeft::Untaken => warn!(rt; target: "serve", "{peer} left: {left}"),
+        _ if admits(rt, hub) => info!(rt; target: "serve", "{peer} left: {left}"),
+        _ => {}
+    }
+}
+
+/// One more such line comes; whether it is to be written. The accepting thread is told of the first that isn't, and says later
+/// how many weren't.
+fn admits<R: Wait + Clock, W: Side, T: Side>(rt: &R, hub: &Hub<R, W, T>) -> bool {
+    match hub.totals().admit(rt) {
+        Admitted::Written => true,
+        Admitted::FirstLeftOut => {
+            hub.door().ring();
+            false
+        }
+        Admitted::LeftOut => false,
+    }
+}
+
+/// Says how many such lines were left out, if any were.
+pub(crate) fn say_left_out<R: Log>(rt: &R, count: Option<u64>) {
+    if let Some(count) = count {
+        info!(rt; target: "serve", "{count} lines of who came or left were left out");
+    }
+}

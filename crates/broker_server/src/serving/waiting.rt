@@ -1,0 +1,456 @@
+//! A transaction that waits for room.
+
+ghost use Rattle.std.specs.Prelude.{◌≡◌, true, false, length, None, IfOk, OnErr};
+ghost use Rattle.std.specs.Option.{is_some};
+ghost use Rattle.broker_server.specs.Lines.{IsRoomAt};
+ghost use Rattle.broker_server.specs.declared.serving.waiting.Tried.TheVariants as tried;
+
+use crate::serving::asker::Asker;
+use crate::serving::line::Line;
+use crate::serving::mark::Mark;
+use crate::serving::room_step::{RoomFacts, RoomStep, Spot};
+use crate::serving::room_wait::RoomWait;
+use crate::serving::stand::Stand;
+use broker_locks::{NoRoom, Reserved, Side};
+use mcast_txn::Topic;
+use std::sync::Wait;
+use std::time::Clock;
+
+/// To what a try came.
+#[derive(Clone, Copy)]
+pub(crate) enum Tried {
+    /// There is room at all its topics.
+    Room,
+    /// It waits.
+    Waits,
+    /// There was no memory for a reservation.
+    NoMemory,
+}
+
+/// A connection's transaction that waits for room, if one does: where it stands, and what it keeps. What room it has is
+/// a value of its own, which is kept in the table of waiters while it sleeps. Who is the first of a line stays so for the
+/// next of its transactions that begin at that topic, as long as they were read already, and a number of times.
+#[derive(Drop)]
+pub(crate) struct Waiting {
+    /// Whether one does.
+    held: bool,
+    stand: Stand,
+    /// How often it found room as the first of the line where it stands.
+    found: u64,
+    /// At so many of its topics, the first, it has a place to keep the room that it has there.
+    places: usize,
+    /// The topic where it has a place, and no room yet.
+    ahead: Option<Topic>,
+    /// Whether it was refused room at the next topic, where it stands in the line then.
+    refused: bool,
+    /// The number of the subscription that lacked room there: the next look begins with it.
+    lacked: u64,
+    /// Whether its thread was woken by time alone.
+    timed: bool,
+    /// How many it passed over, and weren't counted.
+    passed_over: u64,
+    pub(crate) wait: RoomWait,
+}
+
+impl Waiting {
+    /// None does.
+    pub(crate) fn new() -> Waiting
+        ensures { result.wait ≡ record { counted_at = None; news = None } }
+    {
+        Waiting {
+            held: false,
+            stand: Stand::Nowhere,
+            found: 0,
+            places: 0,
+            ahead: None,
+            refused: false,
+            lacked: 0,
+            timed: false,
+            passed_over: 0,
+            wait: RoomWait::new(),
+        }
+    }
+
+    /// Whether one does.
+    pub(crate) fn is_held(&self) -> bool
+        ensures { result ≡ self.now.held }
+    {
+        self.held
+    }
+
+    /// Whether none does, and it stands nowhere.
+    #[inline(always)]
+    pub(crate) fn is_idle(&self) -> bool {
+        !self.held && matches!(self.stand, Stand::Nowhere)
+    }
+
+    /// Whether it is the first of this topic's line, and none waits.
+    fn is_first_at(&self, topic: Topic) -> bool {
+        match self.stand {
+            Stand::InLine(other) => !self.held && other.0 == topic.0,
+            _ => false,
+        }
+    }
+
+    /// One to these topics comes: where it stays the first of a line, that is the line of the first of these.
+    pub(crate) fn comes<R: Wait + Clock, W: Side, T: Side>(
+        &mut self,
+        asker: &Asker<'_, R, W, T>,
+        topics: &[Topic],
+    ) {
+        let stays = match topics.first() {
+            Some(topic) => self.is_first_at(*topic),
+            None => false,
+        };
+        if !stays {
+            self.rests(asker);
+        }
+    }
+
+    /// Where none waits, it leaves the line whose first it is, if it is one's.
+    #[inline(never)]
+    pub(crate) fn rests<R: Wait + Clock, W: Side, T: Side>(&mut self, asker: &Asker<'_, R, W, T>) {
+        if !self.held {
+            self.leaves(asker);
+        }
+    }
+
+    /// One does from now on.
+    pub(crate) fn begin(&mut self)
+        ensures { self.new ≡ record self.old { held = true } }
+    {
+        self.held = true;
+    }
+
+    /// Whether its thread was woken by time alone.
+    pub(crate) fn set_timed(&mut self, timed: bool)
+        ensures { self.new ≡ record self.old { timed = timed } }
+    {
+        self.timed = timed;
+    }
+
+    /// How many it passed over since this was asked last.
+    pub(crate) fn take_passed_over(&mut self) -> u64
+        ensures count { result ≡ self.old.passed_over }
+        ensures none { self.new ≡ record self.old { passed_over = 0 } }
+    {
+        let count = self.passed_over;
+        self.passed_over = 0;
+        count
+    }
+
+    /// Goes on with one to these topics that has room at the first of them, until it has room at all, or waits.
+    pub(crate) fn tries<R: Wait + Clock, W: Side, T: Side>(
+        &mut self,
+        asker: &Asker<'_, R, W, T>,
+        topics: &[Topic],
+        room: &mut Reserved,
+    ) -> Tried
+        requires { IsRoomAt topics.now room.old }
+        ensures { result ≡ tried.Room → room.new ≡ topics.now }
+    {
+        let rt = asker.rt;
+        for _ in rt.forever() {
+            let done = match self.next_step(asker, topics, room) {
+                RoomStep::Done => {
+                    self.finish(asker, room);
+                    return Tried::Room;
+                }
+                RoomStep::Sleep => return Tried::Waits,
+                RoomStep::Ask => self.asks(asker, topics, room),
+                RoomStep::TakePlace => self.takes_place(asker, topics, room),
+                RoomStep::Join => self.joins(asker, topics, room),
+                RoomStep::Look => self.looks(asker, topics, room),
+            };
+            if let Some(done) = done {
+                return done;
+            }
+        }
+        unreachable!()
+    }
+
+    /// What it does next.
+    fn next_step<R: Wait, W: Side, T: Side>(
+        &self,
+        asker: &Asker<'_, R, W, T>,
+        topics: &[Topic],
+        room: &Reserved,
+    ) -> RoomStep {
+        let facts = RoomFacts {
+            topics: topics.len(),
+            room: room.topics().len(),
+            places: self.places,
+            is_refused: self.refused || is_awaited(asker, topics, room),
+            spot: self.spot(asker, topics, room),
+        };
+        facts.next_step()
+    }
+
+    /// Where it stands, as it asks for room at the next topic: at the line of another it is the first, and doesn't wait.
+    fn spot<R: Wait, W: Side, T: Side>(
+        &self,
+        asker: &Asker<'_, R, W, T>,
+        topics: &[Topic],
+        room: &Reserved,
+    ) -> Spot {
+        let topic = match self.stand {
+            Stand::Nowhere => return Spot::Nowhere,
+            Stand::ForPlace(_) => return Spot::ForPlace,
+            Stand::InLine(topic) => topic,
+        };
+        match next_topic(topics, room) {
+            Some(next) if next.0 == topic.0 => {}
+            _ => return Spot::Nowhere,
+        }
+        match asker.hub.seats(topic) {
+            Some(seats) if seats.line().is_first(asker.rt, asker.desk) => Spot::First,
+            _ => Spot::Behind,
+        }
+    }
+
+    /// Asks for room at the next topic.
+    fn asks<R: Wait + Clock, W: Side, T: Side>(
+        &mut self,
+        asker: &Asker<'_, R, W, T>,
+        topics: &[Topic],
+        room: &mut Reserved,
+    ) -> Option<Tried>
+        requires { IsRoomAt topics.now room.old }
+        ensures { IsRoomAt topics.now room.new }
+    {
+        let topic = next_topic(topics, room)?;
+        match self.asks_at(asker, topic, room) {
+            Ok(()) => None,
+            Err(NoRoom::Full { topic: _, sub: _ }) => {
+                self.refused = true;
+                None
+            }
+            Err(NoRoom::NoMemory) => Some(Tried::NoMemory),
+        }
+    }
+
+    /// Asks for room at this topic; where there is some, it waits there no longer.
+    fn asks_at<R: Wait + Clock, W: Side, T: Side>(
+        &mut self,
+        asker: &Asker<'_, R, W, T>,
+        topic: Topic,
+        room: &mut Reserved,
+    ) -> Result<(), NoRoom> {
+        let broker = &asker.hub.running.broker;
+        broker.reserve_at(asker.rt, topic, self.lacked, room)?;
+        if self.ahead.take().is_some() {
+            self.places = self.places.saturating_add(1);
+        }
+        self.refused = false;
+        self.lacked = 0;
+        self.wait.end(asker.rt, asker.hub);
+        Ok(())
+    }
+
+    /// As the first of this line it found room there: it stays the first, or leaves where it was that so often.
+    fn finds<R: Wait + Clock, W: Side, T: Side>(
+        &mut self,
+        asker: &Asker<'_, R, W, T>,
+        line: &Line,
+    ) {
+        self.found = self.found.saturating_add(1);
+        if self.found < asker.most {
+            line.set_mark(Mark::Rung);
+        } else {
+            self.leaves(asker);
+        }
+    }
+
+    /// It stands nowhere from now on, and waits for nothing there.
+    fn leaves<R: Wait + Clock, W: Side, T: Side>(&mut self, asker: &Asker<'_, R, W, T>) {
+        let (rt, waiters, desk) = (asker.rt, asker.hub.waiters(), asker.desk);
+        match self.stand {
+            Stand::Nowhere => {}
+            Stand::InLine(topic) => {
+                if let Some(seats) = asker.hub.seats(topic) {
+                    seats.line().leave(rt, waiters, desk);
+                }
+            }
+            Stand::ForPlace(topic) => {
+                if let Some(seats) = asker.hub.seats(topic) {
+                    seats.keepers().leave(rt, waiters, desk);
+                }
+            }
+        }
+        self.stand = Stand::Nowhere;
+        self.found = 0;
+        self.refused = false;
+        self.lacked = 0;
+        self.wait.end(rt, asker.hub);
+    }
+
+    /// Takes a place to keep room at the first topic where it has none. Where none is left there, it gives its room
+    /// there back, and at the topics behind it, and waits for one.
+    fn takes_place<R: Wait + Clock, W: Side, T: Side>(
+        &mut self,
+        asker: &Asker<'_, R, W, T>,
+        topics: &[Topic],
+        room: &mut Reserved,
+    ) -> Option<Tried>
+        requires { IsRoomAt topics.now room.old }
+        ensures { IsRoomAt topics.now room.new }
+    {
+        let topic = *topics.get(self.places)?;
+        let Some(seats) = asker.hub.seats(topic) else {
+            return Some(Tried::Waits);
+        };
+        let keepers = seats.keepers();
+        let (rt, waiters, desk) = (asker.rt, asker.hub.waiters(), asker.desk);
+        if let Stand::ForPlace(_) = self.stand {
+            if !keepers.take_as_first(rt, waiters, desk) {
+                return Some(Tried::Waits);
+            }
+            self.stand = Stand::Nowhere;
+            self.ahead = Some(topic);
+            return None;
+        }
+        self.leaves(asker);
+        if keepers.take_or_join(rt, waiters, desk) {
+            self.places = self.places.saturating_add(1);
+            return None;
+        }
+        self.stand = Stand::ForPlace(topic);
+        let freed = topics.get(self.places..room.topics().len());
+        asker
+            .hub
+            .release_behind(rt, room, self.places, freed.unwrap_or(&[]));
+        Some(Tried::Waits)
+    }
+
+    /// It stands in the next topic's line from now on.
+    fn joins<R: Wait + Clock, W: Side, T: Side>(
+        &mut self,
+        asker: &Asker<'_, R, W, T>,
+        topics: &[Topic],
+        room: &Reserved,
+    ) -> Option<Tried> {
+        let topic = next_topic(topics, room)?;
+        let Some(seats) = asker.hub.seats(topic) else {
+            return Some(Tried::Waits);
+        };
+        self.leaves(asker);
+        seats.line().join(asker.rt, asker.hub.waiters(), asker.desk);
+        self.stand = Stand::InLine(topic);
+        None
+    }
+
+    /// As the first of the next topic's line it asks for room. Where there is none, and it owes no turns, it says there
+    /// for what it waits, and looks whom it waits for. Who makes room behind that asking finds that it waits for
+    /// anything, which is said before it, or for that, and rings it.
+    fn looks<R: Wait + Clock, W: Side, T: Side>(
+        &mut self,
+        asker: &Asker<'_, R, W, T>,
+        topics: &[Topic],
+        room: &mut Reserved,
+    ) -> Option<Tried>
+        requires { IsRoomAt topics.now room.old }
+        ensures { IsRoomAt topics.now room.new }
+    {
+        let topic = next_topic(topics, room)?;
+        let Some(seats) = asker.hub.seats(topic) else {
+            return Some(Tried::Waits);
+        };
+        let line = seats.line();
+        line.set_mark(Mark::Anything);
+        match self.asks_at(asker, topic, room) {
+            Ok(()) => {
+                self.finds(asker, line);
+                None
+            }
+            Err(NoRoom::Full { topic: _, sub }) => {
+                if !asker.owes_turns {
+                    self.marks(line, sub);
+                    self.looks_for_whom(asker, topic);
+                }
+                Some(Tried::Waits)
+            }
+            Err(NoRoom::NoMemory) => Some(Tried::NoMemory),
+        }
+    }
+
+    /// It says at the line whose first it is for what it waits: for this subscription, or for what is due.
+    fn marks(&mut self, line: &Line, sub: Option<u64>) {
+        match sub {
+            Some(sub) => {
+                self.lacked = sub;
+                line.set_mark(Mark::Sub(sub));
+            }
+            None => line.set_mark(Mark::Due),
+        }
+    }
+
+    /// It looks whom it waits for at this topic, where somebody may be waited for too long: some connection is behind,
+    /// its thread was woken by time alone, or it is counted as one that waits. Where some were passed over it looks
+    /// again.
+    fn looks_for_whom<R: Wait + Clock, W: Side, T: Side>(
+        &mut self,
+        asker: &Asker<'_, R, W, T>,
+        topic: Topic,
+    ) {
+        let was_timed = self.timed;
+        self.timed = false;
+        if !was_timed && !self.wait.is_counted() && !asker.hub.has_behind() {
+            return;
+        }
+        let count = self.wait.look(asker.rt, asker.alloc, asker.hub, topic);
+        if count > 0 {
+            self.passed_over = self.passed_over.saturating_add(count);
+            asker.hub.waiters().ring(asker.rt, asker.desk);
+        }
+    }
+
+    /// It has this room at all its topics, and waits no longer.
+    fn finish<R: Wait, W: Side, T: Side>(&mut self, asker: &Asker<'_, R, W, T>, room: &Reserved) {
+        self.gives_places_back(asker, room);
+        self.held = false;
+    }
+
+    /// Gives its places back.
+    fn gives_places_back<R: Wait, W: Side, T: Side>(
+        &mut self,
+        asker: &Asker<'_, R, W, T>,
+        room: &Reserved,
+    ) {
+        for topic in room.topics().iter().take(self.places) {
+            asker.hub.give_place_back(asker.rt, *topic);
+        }
+        self.places = 0;
+        if let Some(topic) = self.ahead.take() {
+            asker.hub.give_place_back(asker.rt, topic);
+        }
+    }
+
+    /// It isn't to wait any more: it leaves, and gives back this room, which it has, and its places.
+    pub(crate) fn gives_up<R: Wait + Clock, W: Side, T: Side>(
+        &mut self,
+        asker: &Asker<'_, R, W, T>,
+        room: Reserved,
+    ) {
+        self.leaves(asker);
+        self.gives_places_back(asker, &room);
+        asker.hub.release_room(asker.rt, room);
+        self.held = false;
+    }
+}
+
+/// The first of these topics at which there is no room.
+fn next_topic(topics: &[Topic], room: &Reserved) -> Option<Topic> {
+    topics.get(room.topics().len()).copied()
+}
+
+/// Whether others wait for room at the next topic.
+fn is_awaited<R: Wait, W: Side, T: Side>(
+    asker: &Asker<'_, R, W, T>,
+    topics: &[Topic],
+    room: &Reserved,
+) -> bool {
+    match next_topic(topics, room) {
+        Some(topic) => asker.hub.is_awaited(topic),
+        None => false,
+    }
+}
