@@ -329,7 +329,8 @@ impl<'a, R: Wait + Log + Clock, W: Side, T: Side> Calls<'a, R, W, T> {
     {
         if !self.waiting.is_idle() {
             let room = self.kept_room();
-            self.waiting.gives_up(&self.asker(), room);
+            let asker = self.asker();
+            self.waiting.gives_up(&asker, room);
         }
     }
 
@@ -339,7 +340,8 @@ impl<'a, R: Wait + Log + Clock, W: Side, T: Side> Calls<'a, R, W, T> {
         ensures { self.new ≡ record self.old { waiting = self.new.waiting } }
     {
         if !self.waiting.is_idle() {
-            self.waiting.rests(&self.asker());
+            let asker = self.asker();
+            self.waiting.rests(&asker);
         }
     }
 
@@ -373,6 +375,7 @@ impl<'a, R: Wait + Log + Clock, W: Side, T: Side> Calls<'a, R, W, T> {
 
     /// Room at these topics. Where there is none, and it owes no turns, it waits. Out of memory for the reservation it is
     /// room at none of them: a commit that lacks memory, too, says so, and waits for nothing.
+    #[tactic(auto, using(crate::proofs::LineLemmas::first_of))]
     fn room_at(&mut self, topics: &[Topic]) -> Option<Reserved>
         ensures { IfSome result (λ room. (room ≡ topics.now) ⊎ (room ≡ [])) }
     {
@@ -390,17 +393,14 @@ impl<'a, R: Wait + Log + Clock, W: Side, T: Side> Calls<'a, R, W, T> {
         }
     }
 
-    /// Room at these topics, for which it waits.
+    /// Room at these topics, for which it waits. (What it keeps is at the first of them; else it is given up.)
     #[inline(never)]
     fn room_after_wait(&mut self, topics: &[Topic]) -> Option<Reserved>
         ensures { IfSome result (λ room. (room ≡ topics.now) ⊎ (room ≡ [])) }
     {
-        let mut room = self.kept_room();
-        if !topics.starts_with(room.topics()) {
-            self.hub
-                .running
-                .broker
-                .release_behind(self.rt, &mut room, 0);
+        let room = self.kept_room();
+        if !is_at(topics, &room) {
+            return self.without_room(room);
         }
         self.tries(topics, room)
     }
@@ -410,7 +410,8 @@ impl<'a, R: Wait + Log + Clock, W: Side, T: Side> Calls<'a, R, W, T> {
     fn room_as_first(&mut self, topics: &[Topic]) -> Option<Reserved>
         ensures { IfSome result (λ room. (room ≡ topics.now) ⊎ (room ≡ [])) }
     {
-        self.waiting.comes(&self.asker(), topics);
+        let asker = self.asker();
+        self.waiting.comes(&asker, topics);
         if self.waiting.is_idle() {
             return self.room_at(topics);
         }
@@ -425,8 +426,10 @@ impl<'a, R: Wait + Log + Clock, W: Side, T: Side> Calls<'a, R, W, T> {
         ensures { IfSome result (λ room. (room ≡ topics.now) ⊎ (room ≡ [])) }
     {
         let mut room = room;
-        let tried = self.waiting.tries(&self.asker(), topics, &mut room);
-        self.activity.passes_over(self.waiting.take_passed_over());
+        let asker = self.asker();
+        let tried = self.waiting.tries(&asker, topics, &mut room);
+        let passed_over = self.waiting.take_passed_over();
+        self.activity.passes_over(passed_over);
         match tried {
             Tried::Room => Some(room),
             Tried::Waits => {
@@ -442,7 +445,8 @@ impl<'a, R: Wait + Log + Clock, W: Side, T: Side> Calls<'a, R, W, T> {
     fn without_room(&mut self, room: Reserved) -> Option<Reserved>
         ensures { result ≡ Some [] }
     {
-        self.waiting.gives_up(&self.asker(), room);
+        let asker = self.asker();
+        self.waiting.gives_up(&asker, room);
         Some(self.hub.running.broker.no_room())
     }
 
@@ -500,6 +504,14 @@ impl<'a, R: Wait + Log + Clock, W: Side, T: Side> Calls<'a, R, W, T> {
             self.turn_topics();
         }
     }
+}
+
+/// Whether this room is at the first of these topics.
+#[tactic(auto, using(trace_audit::proofs::Explaining::topics_equal))]
+fn is_at(topics: &[Topic], room: &Reserved) -> bool
+    ensures { result ≡ true → IsRoomAt topics.now room.now }
+{
+    topics.starts_with(room.topics())
 }
 
 impl<'a, R: Wait + Log + Clock, W: Side, T: Side> BrokerCalls for Calls<'a, R, W, T> {

@@ -1,8 +1,8 @@
 //! A transaction that waits for room.
 
-ghost use Rattle.std.specs.Prelude.{◌≡◌, true, false, length, None, IfOk, OnErr};
-ghost use Rattle.std.specs.Option.{is_some};
+ghost use Rattle.std.specs.Prelude.{◌≡◌, ◌≤◌, ◌++◌, ◌∷◌, [], true, length, slice_get, None, OnOk, OnErr};
 ghost use Rattle.broker_server.specs.Lines.{IsRoomAt};
+ghost use Rattle.broker_server.specs.declared.serving.room_step.RoomStep.TheVariants as step;
 ghost use Rattle.broker_server.specs.declared.serving.waiting.Tried.TheVariants as tried;
 
 use crate::serving::asker::Asker;
@@ -140,6 +140,7 @@ impl Waiting {
     }
 
     /// Goes on with one to these topics that has room at the first of them, until it has room at all, or waits.
+    #[tactic(auto, using(crate::proofs::LineLemmas::whole))]
     pub(crate) fn tries<R: Wait + Clock, W: Side, T: Side>(
         &mut self,
         asker: &Asker<'_, R, W, T>,
@@ -175,7 +176,9 @@ impl Waiting {
         asker: &Asker<'_, R, W, T>,
         topics: &[Topic],
         room: &Reserved,
-    ) -> RoomStep {
+    ) -> RoomStep
+        ensures { result ≡ step.Done → length topics.now ≤ length room.now }
+    {
         let facts = RoomFacts {
             topics: topics.len(),
             room: room.topics().len(),
@@ -209,6 +212,7 @@ impl Waiting {
     }
 
     /// Asks for room at the next topic.
+    #[tactic(auto, using(crate::proofs::LineLemmas::one_more))]
     fn asks<R: Wait + Clock, W: Side, T: Side>(
         &mut self,
         asker: &Asker<'_, R, W, T>,
@@ -235,7 +239,10 @@ impl Waiting {
         asker: &Asker<'_, R, W, T>,
         topic: Topic,
         room: &mut Reserved,
-    ) -> Result<(), NoRoom> {
+    ) -> Result<(), NoRoom>
+        ensures ok { OnOk result (room.new ≡ room.old ++ topic ∷ []) }
+        ensures err { OnErr result (room.new ≡ room.old) }
+    {
         let broker = &asker.hub.running.broker;
         broker.reserve_at(asker.rt, topic, self.lacked, room)?;
         if self.ahead.take().is_some() {
@@ -284,8 +291,10 @@ impl Waiting {
         self.wait.end(rt, asker.hub);
     }
 
-    /// Takes a place to keep room at the first topic where it has none. Where none is left there, it gives its room
-    /// there back, and at the topics behind it, and waits for one.
+    /// Takes a place to keep room at the first topic where it has none; it is the first of a line no longer, and asks
+    /// again at the next topic then. Where no place is left, it gives its room there back, and at the topics behind it,
+    /// and waits for one.
+    #[tactic(auto, using(crate::proofs::LineLemmas::fewer))]
     fn takes_place<R: Wait + Clock, W: Side, T: Side>(
         &mut self,
         asker: &Asker<'_, R, W, T>,
@@ -339,9 +348,10 @@ impl Waiting {
         None
     }
 
-    /// As the first of the next topic's line it asks for room. Where there is none, and it owes no turns, it says there
-    /// for what it waits, and looks whom it waits for. Who makes room behind that asking finds that it waits for
+    /// As the first of the next topic's line it asks for room. Where there is none, it says there for what it waits, and
+    /// looks whom it waits for; or, where it owes turns, that it will look again, as it does once it has turned. Who makes room behind that asking finds that it waits for
     /// anything, which is said before it, or for that, and rings it.
+    #[tactic(auto, using(crate::proofs::LineLemmas::one_more))]
     fn looks<R: Wait + Clock, W: Side, T: Side>(
         &mut self,
         asker: &Asker<'_, R, W, T>,
@@ -363,7 +373,9 @@ impl Waiting {
                 None
             }
             Err(NoRoom::Full { topic: _, sub }) => {
-                if !asker.owes_turns {
+                if asker.owes_turns {
+                    line.set_mark(Mark::Rung);
+                } else {
                     self.marks(line, sub);
                     self.looks_for_whom(asker, topic);
                 }
@@ -439,7 +451,9 @@ impl Waiting {
 }
 
 /// The first of these topics at which there is no room.
-fn next_topic(topics: &[Topic], room: &Reserved) -> Option<Topic> {
+fn next_topic(topics: &[Topic], room: &Reserved) -> Option<Topic>
+    ensures { result ≡ slice_get topics.now (length room.now) }
+{
     topics.get(room.topics().len()).copied()
 }
 
