@@ -23,7 +23,7 @@ byte backlog;                    /* connections that wait to be accepted */
 bool resting = true;             /* nothing happened since the figures were said */
 bool list;                       /* the lock of the hub's list of connections */
 bool there[CONNS] = true;
-byte shown[CONNS];               /* what each shows that it did */
+byte shown[CONNS];               /* what each shows that it did: one count */
 byte past;                       /* the totals: of those who left, and how many came */
 byte said;                       /* the figures, as they were said last */
 

@@ -948,7 +948,7 @@ looks:
   if
   :: why == 0 -> goto finds
 #ifndef M_WAITS_OWING
-  :: why > 0 && commits > 0 -> why = 0; t = 0; goto refused
+  :: why > 0 && commits > 0 -> mark[t] = Rung; why = 0; t = 0; goto refused
   :: why > 0 && commits == 0
 #else
   :: why > 0
