@@ -32,11 +32,19 @@ const BOTH_ASKED: &str = "BEGIN\ntransaction:x\n\n\0SEND\ndestination:A\ntransac
     SEND\ndestination:B\ntransaction:x\n\np\0COMMIT\ntransaction:x\nreceipt:r\n\n\0";
 
 /// How many octets each SEND has that fills what is on the way to one that doesn't read.
-const LARGE: usize = 40_000;
+const LARGE: usize = 500_000;
 
-/// How many of them are more than the systems on the way and a queue take: these take 4 MiB at most, and the queue 64. What
-/// is then left, the system of the sender takes.
-const FILLING: usize = 180;
+/// How many of them are more than the systems on the way take, which is 4 MiB and a little, and fewer than a queue takes.
+const LARGE_SENDS: usize = 18;
+
+/// How many small ones a queue takes, too, whatever it has of the large ones.
+const SMALL_SENDS: usize = 45;
+
+/// How many more are more than it takes.
+const LAST_SENDS: usize = 30;
+
+/// How many they are together.
+const FILLING: usize = LARGE_SENDS + SMALL_SENDS + LAST_SENDS;
 
 /// So many octets behind this text, and a NULL.
 fn padded(alloc: Global, text: &str, count: usize) -> Option<String> {
@@ -58,10 +66,18 @@ fn sends_often(client: &mut Client, text: &str, count: usize) -> bool {
     true
 }
 
-/// Whether a client sends so much to B that those who send there wait for one that doesn't read.
+/// Whether a client sends this large text to B, and then small ones, until those who send there wait for one that doesn't
+/// read: nobody waits before the last of them.
+fn fills_with(client: &mut Client, large: &str) -> bool {
+    asks_often(client, (large, AT_B.1), LARGE_SENDS)
+        && asks_often(client, AT_B, SMALL_SENDS)
+        && sends_often(client, "SEND\ndestination:B\n\nhi\0", LAST_SENDS)
+}
+
+/// Whether it does so.
 fn fills(client: &mut Client, alloc: Global) -> bool {
-    match padded(alloc, "SEND\ndestination:B\n\n", LARGE) {
-        Some(text) => sends_often(client, text.as_str(), FILLING),
+    match padded(alloc, "SEND\ndestination:B\nreceipt:r\n\n", LARGE) {
+        Some(text) => fills_with(client, text.as_str()),
         None => false,
     }
 }
@@ -111,15 +127,51 @@ const MANY: u64 = 70;
 /// How often one sends to A alone: in less time than that all of the others are heard.
 const ALONE: usize = 60;
 
-/// Whether what comes next are so many MESSAGEs whose body ends with this.
-fn hears_those(reader: &mut Client, last: u8, count: usize) -> bool {
-    for _ in 0..count {
-        match reader.frame() {
-            Some(frame) if frame.last() == Some(&last) => {}
-            _ => return false,
+/// So many of the others may find room at B before all is full there, at most.
+const EARLY: usize = 20;
+
+/// What one heard at A: how many MESSAGEs of those who send to both topics came, how many of the one that sends to A
+/// alone, and how many of the first before the last of these.
+#[derive(Clone, Copy)]
+struct Heard {
+    of_both: usize,
+    of_one: usize,
+    before: usize,
+}
+
+impl Heard {
+    /// One more comes, whose last octet is this.
+    fn adds(&mut self, last: u8) {
+        if last == b'p' {
+            self.of_both = self.of_both.saturating_add(1);
+        } else {
+            self.of_one = self.of_one.saturating_add(1);
+            self.before = self.of_both;
         }
     }
-    true
+}
+
+/// What comes at A.
+fn heard_by(reader: &mut Client) -> Option<Heard> {
+    let mut heard = Heard {
+        of_both: 0,
+        of_one: 0,
+        before: 0,
+    };
+    for _ in 0..MANY as usize + ALONE {
+        heard.adds(*reader.frame()?.last()?);
+    }
+    Some(heard)
+}
+
+/// Whether all comes at A, and that of the one before almost all of the others.
+fn hears_the_one_first(reader: &mut Client) -> bool {
+    match heard_by(reader) {
+        Some(heard) => {
+            heard.of_both == MANY as usize && heard.of_one == ALONE && heard.before <= EARLY
+        }
+        None => false,
+    }
 }
 
 /// One subscribes to B and doesn't read; more connections than A has room for parts wait at B with a transaction to both;
@@ -128,9 +180,8 @@ fn hears_those(reader: &mut Client, last: u8, count: usize) -> bool {
 struct KeptRoom;
 
 impl KeptRoom {
-    /// Whether the one that sends to A alone is answered while the others wait, and these are once that at B is gone: so the
-    /// reader hears first what that one sent. All of that is done within the second for which one is waited for that
-    /// doesn't read.
+    /// Whether the one that sends to A alone is answered while the others wait, and these are once that at B is gone. That is
+    /// within the second for which one is waited for that doesn't read.
     fn goes_on(
         &self,
         alloc: Global,
@@ -168,8 +219,7 @@ impl KeptRoom {
                     &mut filling,
                     &mut alone,
                     many.as_mut_slice(),
-                ) && hears_those(reader, b'i', ALONE)
-                    && hears_those(reader, b'p', MANY as usize)
+                ) && hears_the_one_first(reader)
             }
             None => false,
         }
