@@ -1,5 +1,5 @@
 -- Room at the first of a transaction's topics.
-use Rattle.std.proofs.Common.{◌≡◌, ◌≤◌, ◌<◌, ◌+◌, ◌⊎◌, inl, inr, ℕ, List, [], ◌∷◌, ◌++◌, Some, length, take, slice_get, suc, sym, ap, ◌∙◌, append-nil, append_assoc, arith}
+use Rattle.std.proofs.Common.{◌≡◌, ◌≤◌, ◌<◌, ◌+◌, ◌⊎◌, inl, inr, ℕ, List, [], ◌∷◌, ◌++◌, Some, length, take, slice_get, get_or, suc, sym, ap, ◌∙◌, append-nil, append_assoc, arith}
 use Rattle.std.proofs.lemmas.Bool.{cases_lt}
 use Rattle.std.proofs.Math.Seq.{take-suc}
 use Rattle.std.proofs.lemmas.List.{length-append, length-take, length-take-le, take-take, take_all, take_min}
@@ -16,7 +16,7 @@ one_more {X} all some x first is =
     let n = length some in
     let within : n < length all = slice_get_within all n x is in
     let next : take (suc n) all ≡ take n all ++ x ∷ [] = take-suc all n x within
-        ∙ ap (λ (y : X). take n all ++ y ∷ []) (get_or_from_slice_get all n x x is) in
+    ∙ ap (λ (y : X). take n all ++ y ∷ []) (get_or_from_slice_get all n x x is) in
     let long : length (some ++ x ∷ []) ≡ suc n = omega (arith, length-append some (x ∷ [])) in
     ap (λ (xs : List X). xs ++ x ∷ []) first ∙ (sym next ∙ sym (ap (λ (k : ℕ). take k all) long))
 
@@ -47,10 +47,19 @@ put_next {X} old now all i x is got =
     let within : i < length all = slice_get_within all i x got in
     let one : i + 1 ≡ suc i = omega arith in
     let next : take i all ++ x ∷ [] ≡ take (suc i) all = sym (take-suc all i x within
-        ∙ ap (λ (y : X). take i all ++ y ∷ []) (get_or_from_slice_get all i x x got)) in
+    ∙ ap (λ (y : X). take i all ++ y ∷ []) (get_or_from_slice_get all i x x got)) in
     ap (λ (xs : List X). xs ++ x ∷ []) is ∙ (append_assoc old (take i all) (x ∷ [])
-        ∙ (ap (λ (xs : List X). old ++ xs) next ∙ sym (ap (λ (k : ℕ). old ++ take k all) one)))
+    ∙ (ap (λ (xs : List X). old ++ xs) next ∙ sym (ap (λ (k : ℕ). old ++ take k all) one)))
 
 -- with all of these behind them
 pub put_all : {X : Type 0} (old now all : List X) (i : ℕ) → now ≡ old ++ take i all → length all ≤ i → now ≡ old ++ all
 put_all {X} old now all i is over = is ∙ ap (λ (xs : List X). old ++ xs) (take_all i all over)
+
+-- the same, where the next is the one at that index
+pub put_at : {X : Type 0} (old now all : List X) (i : ℕ) (d : X) → now ≡ old ++ take i all → i < length all
+    → now ++ get_or all i d ∷ [] ≡ old ++ take (i + 1) all
+put_at {X} old now all i d is within =
+    let one : i + 1 ≡ suc i = omega arith in
+    let next : take i all ++ get_or all i d ∷ [] ≡ take (suc i) all = sym (take-suc all i d within) in
+    ap (λ (xs : List X). xs ++ get_or all i d ∷ []) is ∙ (append_assoc old (take i all) (get_or all i d ∷ [])
+    ∙ (ap (λ (xs : List X). old ++ xs) next ∙ sym (ap (λ (k : ℕ). old ++ take k all) one)))

@@ -211,7 +211,7 @@ impl<R: Wait, W: Side, T: Side> Hub<R, W, T> {
     }
 
     /// Room at each of these topics, where nobody waits for it: at all of them, or at the first of them.
-    #[tactic(auto, using(crate::proofs::LineLemmas::put_none, crate::proofs::LineLemmas::put_next, crate::proofs::LineLemmas::put_all))]
+    #[tactic(auto, using(crate::proofs::LineLemmas::put_none, crate::proofs::LineLemmas::put_next, crate::proofs::LineLemmas::put_at, crate::proofs::LineLemmas::put_all))]
     pub(crate) fn reserve(
         &self,
         rt: &R,
