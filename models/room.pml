@@ -260,11 +260,15 @@ inline line_join(at, c) {
     some = len(line[at]) == 0; line[at] ! c; stands[c] = 1 + at;
     if :: some -> mark[at] = Anything :: else fi }
 }
-/* keepers.rt take_or_join: whether there was a place */
+/* keepers.rt take_or_join: whether there was a place, and nobody waited for one */
 inline take_or_join(at, c) {
+#ifdef M_PLACE_NEWCOMER
+  d_step { some = (keepers[at] < PLACES);
+#else
   d_step { some = (keepers[at] < PLACES && len(second[at]) == 0);
+#endif
     if
-    :: some -> keepers[at]++; kept[c] = kept[c] | BIT(at)
+    :: some -> assert(len(second[at]) == 0); keepers[at]++; kept[c] = kept[c] | BIT(at)
     :: else -> second[at] ! c; stands[c] = 1 + TOPICS + at
     fi }
 }
@@ -320,7 +324,7 @@ inline give_room_back(at, c) {
   line_ring(at, Any)
 #endif
 }
-/* calls.rt tell_taken: taker.rt tell, in place of what was told and isn't heard yet, and hub.rt ring_waiters */
+/* calls.rt tell_taken: taker.rt tell, in place of what was told and isn't heard yet, and hub.rt room_made */
 inline tell_taken(sub, is_rung) {
 #ifdef M_RINGS_BEFORE_TELL
   if
@@ -588,8 +592,8 @@ inline turn_owed(may_tell) {
   od;
   x = 0
 }
-/* waiting.rt looks_for_whom, room_wait.rt look: who lacks room at this topic may be passed over, room.rt pass_over behind its lock, and is told of
-   it, topic_seats.rt pass_over; then who waits for room */
+/* waiting.rt looks_for_whom, room_wait.rt look: who lacks room at this topic may be passed over, room.rt pass_over behind
+   its lock, and is told of it, topic_seats.rt pass_over; then it looks again */
 inline look_at_whom(at, c) {
 #if PASSES > 0
   do
@@ -663,6 +667,7 @@ inline cancel(c) {
 inline rest(c) {
   t = stands[c] - 1; line_leave(t, c); t = 0; found = 0
 }
+/* waiting.rt gives_places_back */
 inline give_places_back(c) {
   do
   :: t < TOPICS && (kept[c] & BIT(t)) -> give_place_back(t, c); t++
@@ -943,14 +948,14 @@ looks:
   if
   :: why == 0 -> goto finds
 #ifndef M_WAITS_OWING
-  :: why > 0 && commits > 0 -> why = 0; t = 0; goto refused
+  :: why > 0 && commits > 0 -> mark[t] = Rung; why = 0; t = 0; goto refused
   :: why > 0 && commits == 0
 #else
   :: why > 0
 #endif
   fi;
 #ifdef M_ALWAYS_DUE
-  d_step { mark[t] = Due; last = why; why = 0 };                 /* waiting.rt marks */
+  d_step { mark[t] = Due; last = why; why = 0 };
 #else
   d_step { mark[t] = why; last = why; why = 0 };                 /* waiting.rt marks */
 #endif
@@ -1055,10 +1060,11 @@ enter:
      :: t == 1 && (want & 1) -> d_step { !topic[0] -> pending[0]--; undecided[0]-- }
      :: else
      fi;
-     d_step { !topic[t] -> reserved[t]--; room[c] = room[c] - BIT(t) };  /* broker.rt release_room, of what is left */
+     d_step { !topic[t] ->                                       /* broker.rt release_room, of what is left */
+       reserved[t]--; room[c] = room[c] - BIT(t) };
      want = 0; t = 0;
 #ifndef M_REFUSED_SILENT
-     do                                                          /* calls.rt commit: hub.rt ring_all_waiters */
+     do                                                          /* calls.rt commit: hub.rt room_freed */
      :: t < TOPICS -> line_ring(t, Any); t++
      :: t >= TOPICS -> break
      od;
@@ -1077,7 +1083,7 @@ enter:
   :: bare ->
      bare = false;
 #ifndef M_BARE_SILENT
-     do                                                          /* calls.rt commit: hub.rt ring_all_waiters */
+     do                                                          /* calls.rt commit: hub.rt room_freed */
      :: t < TOPICS -> line_ring(t, Any); t++
      :: t >= TOPICS -> break
      od;
@@ -1226,8 +1232,8 @@ proctype Monitor() {
     assert((mark[t] == Nobody) == (len(line[t]) == 0));
     assert(len(line[t]) == 0 || !HAS_ROOM(t));
     assert(len(second[t]) == 0 || keepers[t] >= PLACES);
-    /* Where all that is there was taken, only room that is kept is waited for, and that is half of it. */
-    assert(len(line[t]) == 0 || !READ(0, t) || !READ(1, t) || reserved[t] >= CAPACITY)
+    /* Where all that is there was taken, only room that is kept may be waited for, and that is not more than half. */
+    assert(len(line[t]) == 0 || !READ(0, t) || !READ(1, t) || MOST >= CAPACITY)
   }
   for (i : 0 .. SUBS - 1) {
     if

@@ -113,7 +113,7 @@ def small_writes(trial, count=200, most=2.0):
             for topic in TOPICS[:2]:
                 it.send(send_frame(topic, b"small", b"transaction:x\n"))
             it.send(b"COMMIT\ntransaction:x\nreceipt:r%d\n\n\0" % at)
-            it.wait_for(b"receipt-id:r%d\n\n\0" % at)
+            it.wait_for(b"receipt-id:r%d\n\n\0\n" % at)
             times.append(1e3 * (time.monotonic() - begun))
     median = statistics.median(times)
     trial.expect(median <= most, f"half of the transactions took more than {median:.1f} ms")

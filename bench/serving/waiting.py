@@ -250,6 +250,7 @@ ROWS = [
     fast_enough,
     read_after_the_last,
     waiting_for_receipts,
+    sharing_a_slow_topic,
     bursts_of_many,
     busy_machine,
 ]

@@ -291,7 +291,7 @@ impl<'a, 'b, R: Wait + Log + Clock, W: Side, T: Side> Connection<'a, 'b, R, W, T
     fn look(&mut self, desk: &mut Desk<'a, R, W, T>) -> Result<(), WhyLeft> {
         self.wait(Some(Duration::from_millis(0)))?;
         desk.socket.note(&self.outfit.events);
-        if !desk.talk.is_connected() {
+        if !desk.talk.is_connected() && !desk.talk.is_leaving() {
             self.time_to_connect(desk)?;
         }
         Ok(())

@@ -82,8 +82,8 @@ impl<'a, R: Wait + Log + Clock, W: Side, T: Side> Desk<'a, R, W, T> {
         self.talk.deliver(&mut self.calls)
     }
 
-    /// Writes what waits, as far as the system takes it, and notes at what pace that is; how many octets went out. Where
-    /// nothing waits there is nothing to note, unless the system is behind.
+    /// Writes what waits, as far as the system takes it, and notes at what pace that is; how many octets went out.
+    /// Where nothing waits there is nothing to note, unless the system is behind.
     #[inline(always)]
     pub(crate) fn write(&mut self) -> usize
         ensures calls { self.new.calls ≡ self.old.calls }

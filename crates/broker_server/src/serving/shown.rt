@@ -3,9 +3,9 @@
 use crate::serving::activity::Activity;
 use std::sync::atomic::{AtomicU64, Ordering};
 
-/// What a connection did, and has, as it was shown last. Who works at its desk shows it, one at a time; anybody reads it,
-/// also while it is shown, and may then find some of it as it was before. Who shows it looks after that whether it is to
-/// be said anew: that needs all these steps in one order, so each is SeqCst.
+/// What a connection did, and has, as it was shown last. Who works at its desk shows it, one at a time. Anybody reads
+/// it, also while it is shown, and may then find some of it as it was before. Who shows it looks after that whether it
+/// is to be said anew: that needs all these steps in one order, so each is SeqCst.
 #[derive(Drop)]
 pub(crate) struct Shown {
     sends: AtomicU64,

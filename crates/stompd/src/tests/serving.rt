@@ -18,3 +18,4 @@ mod served;
 mod sizes;
 mod slow;
 mod unconnected;
+mod waiting;

@@ -175,11 +175,14 @@ fn topics_in(hand: &Option<Reserved>) -> Answer {
     match hand {
         Some(reserved) => {
             let topics = reserved.topics();
-            Answer::Topics(topics.len(), [
-                topics.first().copied(),
-                topics.get(1).copied(),
-                topics.get(2).copied(),
-            ])
+            Answer::Topics(
+                topics.len(),
+                [
+                    topics.first().copied(),
+                    topics.get(1).copied(),
+                    topics.get(2).copied(),
+                ],
+            )
         }
         None => Answer::Failed,
     }
@@ -708,11 +711,14 @@ fn who_is_waited_for_is_asked_from_a_number_on(rt: HostRuntime) -> Result<(), Fa
 
 /// These are the topics of the left hand.
 fn topics(numbers: &[u32]) -> Answer {
-    Answer::Topics(numbers.len(), [
-        topic_at(numbers, 0),
-        topic_at(numbers, 1),
-        topic_at(numbers, 2),
-    ])
+    Answer::Topics(
+        numbers.len(),
+        [
+            topic_at(numbers, 0),
+            topic_at(numbers, 1),
+            topic_at(numbers, 2),
+        ],
+    )
 }
 
 /// The topic of this index.
@@ -731,7 +737,10 @@ fn what_is_kept_stays_reserved(rt: HostRuntime) -> Result<(), Fail> {
         (Call::ReserveFrom(1, 0), Answer::Done),
         (Call::ReserveFrom(0, 0), Answer::Done),
         (Call::Keep(4), Answer::Done),
-        (Call::Topics, Answer::Topics(4, [Some(Topic(0)), Some(Topic(0)), Some(Topic(1))])),
+        (
+            Call::Topics,
+            Answer::Topics(4, [Some(Topic(0)), Some(Topic(0)), Some(Topic(1))]),
+        ),
         (Call::Keep(2), Answer::Done),
         (Call::Topics, topics(&[0, 0])),
         (Call::ReserveMore(&[0, 0, 1, 1, 1, 1]), Answer::Done),

@@ -181,21 +181,14 @@ fn left_out_by(line: &str) -> Option<usize> {
     count.parse::<usize>().ok()
 }
 
-/// How many lines there would be if none of those were left out; `None` where none was.
-fn count_with_left_out(lines: &[String]) -> Option<usize> {
+/// How many lines there would be if none of those were left out.
+fn count_with_left_out(lines: &[String]) -> usize {
     let mut count = 0usize;
-    let mut left_out = 0usize;
     for line in lines {
-        match left_out_by(line.as_str()) {
-            Some(more) => left_out = left_out.saturating_add(more),
-            None => count = count.saturating_add(1),
-        }
+        let more = left_out_by(line.as_str()).unwrap_or(1);
+        count = count.saturating_add(more);
     }
-    if left_out > 0 {
-        Some(count.saturating_add(left_out))
-    } else {
-        None
-    }
+    count
 }
 
 /// Whether these lines say that one connection was refused, and, in lines or as lines that were left out, that 256 came and left.
@@ -203,7 +196,7 @@ fn say_one_was_refused(lines: &[String]) -> bool {
     let refused = "[WARN  serve] refused 1 connections: 256 are there";
     between(lines, refused, "").is_some()
         && figures_have(lines, " came=257 refused=1 ")
-        && count_with_left_out(lines) == Some(515)
+        && count_with_left_out(lines) == 515
 }
 
 /// 256 are there, at once, and one more comes.

@@ -15,7 +15,7 @@ const BODY: usize = 100_000;
 const HEAD: &str = "SEND\ndestination:A\n\n";
 
 /// A SEND to A of so many octets.
-fn send_of(alloc: Global, count: usize) -> Option<String> {
+pub(super) fn send_of(alloc: Global, count: usize) -> Option<String> {
     let mut text = String::from_str(alloc, HEAD).ok()?;
     for _ in 0..count {
         text.push('x').ok()?;

@@ -1,9 +1,10 @@
 //! Connections that never say CONNECT.
 
-use super::client::Client;
+use super::client::{Client, SUBSCRIBE, SUBSCRIBED};
 use super::lines::Lines;
 use super::logged::Kept;
 use super::served::{Peers, serves};
+use super::slow::send_of;
 use log::{LevelFilter, Logged};
 use std::alloc::Global;
 use std::sync::Mutex;
@@ -22,7 +23,7 @@ const UNCONNECTED: [(&str, &str); 4] = [
     ),
 ];
 
-/// One that has connected, and then those.
+/// One that has connected, then those, and another that has connected.
 #[derive(Drop)]
 struct Unconnected;
 
@@ -49,22 +50,76 @@ fn all_are_closed(clients: &mut [Client]) -> bool {
     true
 }
 
+/// How many SENDs one sends to itself: fewer than a queue holds.
+const SENDS: u32 = 60;
+
+/// How many octets each has in its body. Together these are twice what the systems on the way take for one that reads nothing.
+const BODY: usize = 150_000;
+
+/// A DISCONNECT, and its RECEIPT.
+const LAST: (&str, &[u8]) = (
+    "DISCONNECT\nreceipt:bye\n\n\0",
+    b"RECEIPT\nreceipt-id:bye\n\n\0\n",
+);
+
+/// What another asks for meanwhile, so that the server has heard the one by then, and what it is told.
+const MEANWHILE: (&str, &str) = (
+    "BEGIN\ntransaction:x\nreceipt:b\n\n\0ABORT\ntransaction:x\n\n\0",
+    "RECEIPT\nreceipt-id:b\n\n\0\n",
+);
+
+/// How often.
+const ASKS: u32 = 2_000;
+
+/// Whether the one sends so much to itself, of which it reads nothing, and its DISCONNECT.
+fn sends_all(client: &mut Client, alloc: Global) -> bool {
+    let Some(text) = send_of(alloc, BODY) else {
+        return false;
+    };
+    for _ in 0..SENDS {
+        if !client.sends(text.as_str()) {
+            return false;
+        }
+    }
+    client.sends(LAST.0)
+}
+
+/// Whether the other is answered all that time.
+fn asks_meanwhile(other: &mut Client) -> bool {
+    for _ in 0..ASKS {
+        if !other.asks(MEANWHILE.0, MEANWHILE.1) {
+            return false;
+        }
+    }
+    true
+}
+
+/// Whether one that was connected for long, and of whose octets the system takes nothing when it leaves, is told its last words.
+fn leaves_late(client: &mut Client, other: &mut Client, alloc: Global) -> bool {
+    client.asks(SUBSCRIBE, SUBSCRIBED)
+        && sends_all(client, alloc)
+        && asks_meanwhile(other)
+        && client
+            .rest()
+            .is_some_and(|came| came.as_slice().ends_with(LAST.1))
+}
+
 impl Peers for Unconnected {
     fn count(&self) -> u64 {
-        5
+        6
     }
 
     fn meet(&self, alloc: Global, lines: &mut Lines) -> bool {
         let Some(mut connected) = Client::connected(alloc, lines) else {
             return false;
         };
-        match silent_clients(alloc, lines) {
-            Some(mut clients) => {
+        let Some(mut clients) = silent_clients(alloc, lines) else {
+            return false;
+        };
+        match Client::connected(alloc, lines) {
+            Some(mut other) => {
                 all_are_closed(clients.as_mut_slice())
-                    && connected.asks(
-                        "ACK\n\n\0",
-                        "ERROR\nmessage:21 Unsupported\ncontent-length:0\n\n\0",
-                    )
+                    && leaves_late(&mut connected, &mut other, alloc)
             }
             None => false,
         }
@@ -94,10 +149,10 @@ fn say_why(alloc: Global, lines: &[String]) -> bool {
 }
 
 #[test]
-fn who_never_says_connect_is_closed_and_another_stays(rt: HostRuntime) {
+fn who_never_says_connect_is_closed_and_others_stay(rt: HostRuntime) {
     let lines = Mutex::new(Vec::new(rt.alloc()));
     let kept = Kept::here(&rt, rt.alloc(), &lines);
     let logged = Logged::new(rt, LevelFilter::Info, kept);
-    assert!(rt; serves(&logged, rt.alloc(), &Unconnected, 0));
+    assert!(rt; serves(&logged, rt.alloc(), &Unconnected, 60));
     assert!(rt; say_why(rt.alloc(), lines.lock(&rt).as_slice()));
 }
