@@ -20,6 +20,16 @@ one_more {X} all some x first is =
     let long : length (some ++ x ∷ []) ≡ suc n = omega (arith, length-append some (x ∷ [])) in
     ap (λ (xs : List X). xs ++ x ∷ []) first ∙ (sym next ∙ sym (ap (λ (k : ℕ). take k all) long))
 
+-- the same of what that came to
+pub one_more_now : {X : Type 0} (all some now : List X) (x : X) → now ≡ some ++ x ∷ [] → some ≡ take (length some) all
+    → slice_get all (length some) ≡ Some x → now ≡ take (length now) all
+one_more_now {X} all some now x is first at =
+    is ∙ (one_more all some x first at ∙ sym (ap (λ (xs : List X). take (length xs) all) is))
+
+-- and where nothing came of it
+pub no_more_now : {X : Type 0} (all some now : List X) → now ≡ some → some ≡ take (length some) all → now ≡ take (length now) all
+no_more_now {X} all some now is first = is ∙ (first ∙ sym (ap (λ (xs : List X). take (length xs) all) is))
+
 -- the first of them are the first, too
 pub fewer : {X : Type 0} (all some : List X) (k : ℕ) → some ≡ take (length some) all → take k some ≡ take (length (take k some)) all
 fewer {X} all some k first = by (cases_lt (length some) k)

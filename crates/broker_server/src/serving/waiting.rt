@@ -212,7 +212,7 @@ impl Waiting {
     }
 
     /// Asks for room at the next topic.
-    #[tactic(auto, using(crate::proofs::LineLemmas::one_more))]
+    #[tactic(auto, using(crate::proofs::LineLemmas::one_more_now, crate::proofs::LineLemmas::no_more_now))]
     fn asks<R: Wait + Clock, W: Side, T: Side>(
         &mut self,
         asker: &Asker<'_, R, W, T>,
@@ -351,7 +351,7 @@ impl Waiting {
     /// As the first of the next topic's line it asks for room. Where there is none, it says there for what it waits, and
     /// looks whom it waits for; or, where it owes turns, that it will look again, as it does once it has turned. Who makes room behind that asking finds that it waits for
     /// anything, which is said before it, or for that, and rings it.
-    #[tactic(auto, using(crate::proofs::LineLemmas::one_more))]
+    #[tactic(auto, using(crate::proofs::LineLemmas::one_more_now, crate::proofs::LineLemmas::no_more_now))]
     fn looks<R: Wait + Clock, W: Side, T: Side>(
         &mut self,
         asker: &Asker<'_, R, W, T>,
