@@ -156,7 +156,7 @@ time_step fund_of pays back is purse now price order in_time =
 call_step : (fund_of : Purse → Fund) (pays : Purse → Price → Bool) (back : ℕ) → IsFund fund_of pays back
     → (purse : Purse) (call : PurseCall) → AreInOrder purse → (0 < purse.waiting → (moment_of call).0 ≤ purse.at.0 + tenth)
     → paid_rate (pays purse (price_until purse call)) (price_until purse call) * ((moment_of call).0 - purse.at.0) + (fund_of purse).lacks
-      ≤ (fund_of (after_call purse call)).lacks + back * ((after_call purse call).at.0 - purse.at.0)
+    ≤ (fund_of (after_call purse call)).lacks + back * ((after_call purse call).at.0 - purse.at.0)
 call_step fund_of pays back is purse call order in_time =
     let now = moment_of call in
     let price = price_until purse call in
@@ -177,7 +177,7 @@ calls_step fund_of pays back is purse (call ∷ calls) order in_time =
     let rest = calls_step fund_of pays back is next calls (call_in_order purse call) in_time.1 in
     let ends = (after_calls next calls).at.0 in
     let parts : back * (ends - purse.at.0) ≡ back * (next.at.0 - purse.at.0) + back * (ends - next.at.0) =
-        split back purse.at.0 next.at.0 ends (omega (arith, call_at purse call)) (later_calls next calls) in
+    split back purse.at.0 next.at.0 ends (omega (arith, call_at purse call)) (later_calls next calls) in
     omega (arith, first, rest, parts)
 
 -- a new purse
@@ -189,6 +189,7 @@ new_is_bounded purse common trust before calls in_time =
     let order : AreInOrder purse = record { common = rw common new_in_order; trust = rw trust new_in_order } in
     let begun : Purse = after_calls purse before in
     let sound : AreInOrder begun = calls_in_order purse before order in
-    let ends : AreInOrder (after_calls begun calls) = calls_in_order begun calls sound in
-    ( omega (arith, calls_step (λ purse. purse.common) common_pays common_back common_is_fund begun calls sound in_time, ends.common.within)
-    , omega (arith, calls_step (λ purse. purse.trust) trust_pays trust_back trust_is_fund begun calls sound in_time, ends.trust.within) )
+    let ends : AreInOrder (after_calls begun calls) = calls_in_order begun calls sound in (
+      omega (arith, calls_step (λ purse. purse.common) common_pays common_back common_is_fund begun calls sound in_time, ends.common.within),
+      omega (arith, calls_step (λ purse. purse.trust) trust_pays trust_back trust_is_fund begun calls sound in_time, ends.trust.within),
+    )

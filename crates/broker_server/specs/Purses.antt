@@ -325,9 +325,9 @@ waited_cost pays purse (call ∷ calls) =
 abbrev pub IsBounded : Purse → Type 0
 IsBounded purse = (before calls : List PurseCall) → AreInTime (after_calls purse before) calls
     → let begun = after_calls purse before in
-      let time = (after_calls begun calls).at.0 - begun.at.0 in
-      (waited_cost common_pays begun calls ≤ most_lacking + common_back * time)
-      × (waited_cost trust_pays begun calls ≤ most_lacking + trust_back * time)
+    let time = (after_calls begun calls).at.0 - begun.at.0 in
+    (waited_cost common_pays begun calls ≤ most_lacking + common_back * time)
+    × (waited_cost trust_pays begun calls ≤ most_lacking + trust_back * time)
 
 -- ---- what a subscription is spared
 

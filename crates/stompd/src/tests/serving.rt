@@ -13,6 +13,7 @@ mod many;
 mod memory;
 mod orders;
 mod peers;
+mod places;
 mod queued;
 mod served;
 mod sizes;

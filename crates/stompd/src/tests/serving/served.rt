@@ -27,8 +27,13 @@ pub(super) trait Peers: Drop {
     /// How many connections they make.
     fn count(&self) -> u64;
 
-    /// They talk to the server over these connections, of which there are as many; whether it answered as it should. Then
-    /// they are gone.
+    /// How many of these are made before the server begins. The others they make themselves.
+    fn ready(&self) -> u64 {
+        self.count()
+    }
+
+    /// They talk to the server, over these connections first, which were ready; whether it answered as it should. Then they
+    /// are gone.
     fn meet(&self, alloc: Global, lines: &mut Lines) -> bool;
 }
 
@@ -157,7 +162,7 @@ where
     W: Side + Send + Sync + 'static,
     T: Side + Send + Sync + 'static,
 {
-    let (listener, lines) = opened(rt, alloc, peers.count())?;
+    let (listener, lines) = opened(rt, alloc, peers.ready())?;
     Some(served_by(rt, alloc, peers, broker, listener, lines))
 }
 

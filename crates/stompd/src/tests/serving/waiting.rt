@@ -1,4 +1,4 @@
-//! Transactions that wait for room, behind one that doesn't read.
+//! Transactions that wait for room, behind one that doesn't read yet, or never.
 
 use super::client::{Came, Client};
 use super::lines::Lines;
@@ -17,19 +17,9 @@ const AT_B: (&str, &str) = (
     "RECEIPT\nreceipt-id:r\n\n\0\n",
 );
 
-/// The same at A.
-const AT_A: (&str, &str) = (
-    "SEND\ndestination:A\nreceipt:r\n\nhi\0",
-    "RECEIPT\nreceipt-id:r\n\n\0\n",
-);
-
 /// A transaction with a SEND to A and one to B.
 const BOTH: &str = "BEGIN\ntransaction:x\n\n\0SEND\ndestination:A\ntransaction:x\n\np\0\
     SEND\ndestination:B\ntransaction:x\n\np\0COMMIT\ntransaction:x\n\n\0";
-
-/// The same, which asks for a receipt.
-const BOTH_ASKED: &str = "BEGIN\ntransaction:x\n\n\0SEND\ndestination:A\ntransaction:x\n\np\0\
-    SEND\ndestination:B\ntransaction:x\n\np\0COMMIT\ntransaction:x\nreceipt:r\n\n\0";
 
 /// How many octets each SEND has that fills what is on the way to one that doesn't read.
 const LARGE: usize = 500_000;
@@ -101,16 +91,6 @@ fn all_send(clients: &mut [Client], text: &str) -> bool {
     true
 }
 
-/// Whether each of them hears this next.
-fn all_hear(clients: &mut [Client], wanted: &str) -> bool {
-    for client in clients {
-        if !client.hears(wanted) {
-            return false;
-        }
-    }
-    true
-}
-
 /// Whether it asks this so often, and hears that.
 fn asks_often(client: &mut Client, asked: (&str, &str), count: usize) -> bool {
     for _ in 0..count {
@@ -119,133 +99,6 @@ fn asks_often(client: &mut Client, asked: (&str, &str), count: usize) -> bool {
         }
     }
     true
-}
-
-/// More connections than a topic has room for parts.
-const MANY: u64 = 70;
-
-/// How often one sends to A alone: in less time than that all of the others are heard.
-const ALONE: usize = 60;
-
-/// So many of the others may find room at B before all is full there, at most.
-const EARLY: usize = 20;
-
-/// What one heard at A: how many MESSAGEs of those who send to both topics came, how many of the one that sends to A
-/// alone, and how many of the first before the last of these.
-#[derive(Clone, Copy)]
-struct Heard {
-    of_both: usize,
-    of_one: usize,
-    before: usize,
-}
-
-impl Heard {
-    /// One more comes, whose last octet is this.
-    fn adds(&mut self, last: u8) {
-        if last == b'p' {
-            self.of_both = self.of_both.saturating_add(1);
-        } else {
-            self.of_one = self.of_one.saturating_add(1);
-            self.before = self.of_both;
-        }
-    }
-}
-
-/// What comes at A.
-fn heard_by(reader: &mut Client) -> Option<Heard> {
-    let mut heard = Heard {
-        of_both: 0,
-        of_one: 0,
-        before: 0,
-    };
-    for _ in 0..MANY as usize + ALONE {
-        heard.adds(*reader.frame()?.last()?);
-    }
-    Some(heard)
-}
-
-/// Whether all comes at A, and that of the one before almost all of the others.
-fn hears_the_one_first(reader: &mut Client) -> bool {
-    match heard_by(reader) {
-        Some(heard) => {
-            heard.of_both == MANY as usize && heard.of_one == ALONE && heard.before <= EARLY
-        }
-        None => false,
-    }
-}
-
-/// One subscribes to B and doesn't read; more connections than A has room for parts wait at B with a transaction to both;
-/// and one sends to A alone. Then the one at B is gone. Another subscribes to A.
-#[derive(Drop)]
-struct KeptRoom;
-
-impl KeptRoom {
-    /// Whether the one that sends to A alone is answered while the others wait, and these are once that at B is gone. That is
-    /// within the second for which one is waited for that doesn't read.
-    fn goes_on(
-        &self,
-        alloc: Global,
-        stalled: Client,
-        filling: &mut Client,
-        alone: &mut Client,
-        many: &mut [Client],
-    ) -> bool {
-        let are_waiting = fills(filling, alloc)
-            && all_send(many, BOTH_ASKED)
-            && asks_often(alone, AT_A, ALONE);
-        drop(stalled);
-        are_waiting && all_hear(many, AT_B.1) && filling.asks(AT_B.0, AT_B.1)
-    }
-
-    /// Whether it is so with these, and new ones.
-    fn is_kept(
-        &self,
-        alloc: Global,
-        lines: &mut Lines,
-        stalled: Client,
-        reader: &mut Client,
-    ) -> bool {
-        let Some(mut filling) = Client::connected(alloc, lines) else {
-            return false;
-        };
-        let Some(mut alone) = Client::connected(alloc, lines) else {
-            return false;
-        };
-        match clients(alloc, lines, MANY) {
-            Some(mut many) => {
-                self.goes_on(
-                    alloc,
-                    stalled,
-                    &mut filling,
-                    &mut alone,
-                    many.as_mut_slice(),
-                ) && hears_the_one_first(reader)
-            }
-            None => false,
-        }
-    }
-}
-
-impl Peers for KeptRoom {
-    fn count(&self) -> u64 {
-        MANY.saturating_add(4)
-    }
-
-    fn meet(&self, alloc: Global, lines: &mut Lines) -> bool {
-        let Some(mut reader) = Client::subscribed(alloc, lines) else {
-            return false;
-        };
-        match Client::told(alloc, lines, TO_B.0, TO_B.1) {
-            Some(stalled) => self.is_kept(alloc, lines, stalled, &mut reader),
-            None => false,
-        }
-    }
-}
-
-#[test]
-fn who_sends_to_one_topic_goes_on_beside_those_who_wait_at_another(rt: HostRuntime) {
-    let rows = FILLING + MANY as usize + ALONE + 1;
-    assert!(rt; serves(&quiet(rt), rt.alloc(), &KeptRoom, rows));
 }
 
 /// How many connections are gone behind their transactions.
