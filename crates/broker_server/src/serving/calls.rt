@@ -17,7 +17,7 @@ use crate::serving::seat::Seat;
 use crate::serving::shortened::Shortened;
 use crate::serving::unturned::Unturned;
 use crate::serving::wait_news::WaitNews;
-use crate::serving::waiting::{Tried, Waiting};
+use crate::serving::waiting::{Stop, Waiting};
 use crate::spelled::Spelled;
 use broker_locks::{CommitFault, NoRoom, Reserved, Side, Subscribed, Worker};
 use log::{Log, info, warn};
@@ -431,12 +431,12 @@ impl<'a, R: Wait + Log + Clock, W: Side, T: Side> Calls<'a, R, W, T> {
         let passed_over = self.waiting.take_passed_over();
         self.activity.passes_over(passed_over);
         match tried {
-            Tried::Room => Some(room),
-            Tried::Waits => {
+            Ok(()) => Some(room),
+            Err(Stop::Waits) => {
                 self.keep_room(room);
                 None
             }
-            Tried::NoMemory => self.without_room(room),
+            Err(Stop::NoMemory) => self.without_room(room),
         }
     }
 

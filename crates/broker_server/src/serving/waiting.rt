@@ -3,7 +3,6 @@
 ghost use Rattle.std.specs.Prelude.{◌≡◌, ◌≤◌, ◌++◌, ◌∷◌, [], true, length, slice_get, None, OnOk, OnErr};
 ghost use Rattle.broker_server.specs.Lines.{IsRoomAt};
 ghost use Rattle.broker_server.specs.declared.serving.room_step.RoomStep.TheVariants as step;
-ghost use Rattle.broker_server.specs.declared.serving.waiting.Tried.TheVariants as tried;
 
 use crate::serving::asker::Asker;
 use crate::serving::line::Line;
@@ -16,11 +15,9 @@ use mcast_txn::Topic;
 use std::sync::Wait;
 use std::time::Clock;
 
-/// To what a try came.
+/// Why a try ends before there is room at all its topics.
 #[derive(Clone, Copy)]
-pub(crate) enum Tried {
-    /// There is room at all its topics.
-    Room,
+pub(crate) enum Stop {
     /// It waits.
     Waits,
     /// There was no memory for a reservation.
@@ -146,25 +143,22 @@ impl Waiting {
         asker: &Asker<'_, R, W, T>,
         topics: &[Topic],
         room: &mut Reserved,
-    ) -> Tried
+    ) -> Result<(), Stop>
         requires { IsRoomAt topics.now room.old }
-        ensures { result ≡ tried.Room → room.new ≡ topics.now }
+        ensures { OnOk result (room.new ≡ topics.now) }
     {
         let rt = asker.rt;
         for _ in rt.forever() {
-            let done = match self.next_step(asker, topics, room) {
+            match self.next_step(asker, topics, room) {
                 RoomStep::Done => {
                     self.finish(asker, room);
-                    return Tried::Room;
+                    return Ok(());
                 }
-                RoomStep::Sleep => return Tried::Waits,
-                RoomStep::Ask => self.asks(asker, topics, room),
-                RoomStep::TakePlace => self.takes_place(asker, topics, room),
-                RoomStep::Join => self.joins(asker, topics, room),
-                RoomStep::Look => self.looks(asker, topics, room),
-            };
-            if let Some(done) = done {
-                return done;
+                RoomStep::Sleep => return Err(Stop::Waits),
+                RoomStep::Ask => self.asks(asker, topics, room)?,
+                RoomStep::TakePlace => self.takes_place(asker, topics, room)?,
+                RoomStep::Join => self.joins(asker, topics, room)?,
+                RoomStep::Look => self.looks(asker, topics, room)?,
             }
         }
         unreachable!()
@@ -218,18 +212,20 @@ impl Waiting {
         asker: &Asker<'_, R, W, T>,
         topics: &[Topic],
         room: &mut Reserved,
-    ) -> Option<Tried>
+    ) -> Result<(), Stop>
         requires { IsRoomAt topics.now room.old }
         ensures { IsRoomAt topics.now room.new }
     {
-        let topic = next_topic(topics, room)?;
+        let Some(topic) = next_topic(topics, room) else {
+            return Ok(());
+        };
         match self.asks_at(asker, topic, room) {
-            Ok(()) => None,
+            Ok(()) => Ok(()),
             Err(NoRoom::Full { topic: _, sub: _ }) => {
                 self.refused = true;
-                None
+                Ok(())
             }
-            Err(NoRoom::NoMemory) => Some(Tried::NoMemory),
+            Err(NoRoom::NoMemory) => Err(Stop::NoMemory),
         }
     }
 
@@ -300,35 +296,37 @@ impl Waiting {
         asker: &Asker<'_, R, W, T>,
         topics: &[Topic],
         room: &mut Reserved,
-    ) -> Option<Tried>
+    ) -> Result<(), Stop>
         requires { IsRoomAt topics.now room.old }
         ensures { IsRoomAt topics.now room.new }
     {
-        let topic = *topics.get(self.places)?;
+        let Some(&topic) = topics.get(self.places) else {
+            return Ok(());
+        };
         let Some(seats) = asker.hub.seats(topic) else {
-            return Some(Tried::Waits);
+            return Err(Stop::Waits);
         };
         let keepers = seats.keepers();
         let (rt, waiters, desk) = (asker.rt, asker.hub.waiters(), asker.desk);
         if let Stand::ForPlace(_) = self.stand {
             if !keepers.take_as_first(rt, waiters, desk) {
-                return Some(Tried::Waits);
+                return Err(Stop::Waits);
             }
             self.stand = Stand::Nowhere;
             self.ahead = Some(topic);
-            return None;
+            return Ok(());
         }
         self.leaves(asker);
         if keepers.take_or_join(rt, waiters, desk) {
             self.places = self.places.saturating_add(1);
-            return None;
+            return Ok(());
         }
         self.stand = Stand::ForPlace(topic);
         let freed = topics.get(self.places..room.topics().len());
         asker
             .hub
             .release_behind(rt, room, self.places, freed.unwrap_or(&[]));
-        Some(Tried::Waits)
+        Err(Stop::Waits)
     }
 
     /// It stands in the next topic's line from now on.
@@ -337,40 +335,44 @@ impl Waiting {
         asker: &Asker<'_, R, W, T>,
         topics: &[Topic],
         room: &Reserved,
-    ) -> Option<Tried> {
-        let topic = next_topic(topics, room)?;
+    ) -> Result<(), Stop> {
+        let Some(topic) = next_topic(topics, room) else {
+            return Ok(());
+        };
         let Some(seats) = asker.hub.seats(topic) else {
-            return Some(Tried::Waits);
+            return Err(Stop::Waits);
         };
         self.leaves(asker);
         seats.line().join(asker.rt, asker.hub.waiters(), asker.desk);
         self.stand = Stand::InLine(topic);
-        None
+        Ok(())
     }
 
     /// As the first of the next topic's line it asks for room. Where there is none, it says there for what it waits, and
-    /// looks whom it waits for; or, where it owes turns, that it will look again, as it does once it has turned. Who makes room behind that asking finds that it waits for
-    /// anything, which is said before it, or for that, and rings it.
+    /// looks whom it waits for; or, where it owes turns, that it will look again, as it does once it has turned. Who makes
+    /// room behind that asking finds that it waits for anything, which is said before it, or for that, and rings it.
     #[tactic(auto, using(crate::proofs::LineLemmas::one_more_now, crate::proofs::LineLemmas::no_more_now))]
     fn looks<R: Wait + Clock, W: Side, T: Side>(
         &mut self,
         asker: &Asker<'_, R, W, T>,
         topics: &[Topic],
         room: &mut Reserved,
-    ) -> Option<Tried>
+    ) -> Result<(), Stop>
         requires { IsRoomAt topics.now room.old }
         ensures { IsRoomAt topics.now room.new }
     {
-        let topic = next_topic(topics, room)?;
+        let Some(topic) = next_topic(topics, room) else {
+            return Ok(());
+        };
         let Some(seats) = asker.hub.seats(topic) else {
-            return Some(Tried::Waits);
+            return Err(Stop::Waits);
         };
         let line = seats.line();
         line.set_mark(Mark::Anything);
         match self.asks_at(asker, topic, room) {
             Ok(()) => {
                 self.finds(asker, line);
-                None
+                Ok(())
             }
             Err(NoRoom::Full { topic: _, sub }) => {
                 if asker.owes_turns {
@@ -379,9 +381,9 @@ impl Waiting {
                     self.marks(line, sub);
                     self.looks_for_whom(asker, topic);
                 }
-                Some(Tried::Waits)
+                Err(Stop::Waits)
             }
-            Err(NoRoom::NoMemory) => Some(Tried::NoMemory),
+            Err(NoRoom::NoMemory) => Err(Stop::NoMemory),
         }
     }
 
