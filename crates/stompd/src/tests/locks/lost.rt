@@ -32,7 +32,7 @@ const COMMIT: &[u8] =
     b"BEGIN\ntransaction:x\n\n\0SEND\ndestination:A\ntransaction:x\n\nm\0SEND\ndestination:B\ntransaction:x\n\nm\0COMMIT\ntransaction:x\nreceipt:r\n\n\0";
 
 /// All that its peer reads.
-const CONNECTED: &[u8] = b"CONNECTED\nversion:1.2\nheart-beat:0,0\n\n\0";
+const CONNECTED: &[u8] = b"CONNECTED\nversion:1.2\nheart-beat:0,0\n\n\0\n";
 
 /// An open subscription of the connection.
 #[derive(Drop)]
