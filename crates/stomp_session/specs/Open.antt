@@ -16,8 +16,8 @@ use Rattle.stomp_session.specs.declared.phase.Phase.TheVariants.{New, Connected,
 use Rattle.stomp_session.specs.Names.{is_known}
 use Rattle.stomp_session.specs.Frames.{field, has_destination, topic_of, id_of, transaction_of, is_subscribe, is_begin, is_disconnect, names_subscription, names_transaction, is_send_in, send_of, wants_parts}
 
--- The subscriptions that SUBSCRIBEs of these frames left open, in order, each with this of its SUBSCRIBE: of each
--- subscription the last frame that names it is a SUBSCRIBE.
+-- The subscriptions that SUBSCRIBEs of these frames left open, in order, each with this of its SUBSCRIBE: of
+-- each subscription the last frame that names it is a SUBSCRIBE.
 abbrev pub subscribed_with : {X : Type 0} → (RawFrame → X) → List RawFrame → List (List ℕ × X)
 subscribed_with value [] = []
 subscribed_with value (f ∷ after) =
@@ -103,8 +103,8 @@ state_of s = record {
   transactions = s.transactions;
 }
 
--- Whether the open subscription of this id asked for parts; not where none is open. So after a SUBSCRIBE of `a`
--- with `part:yes`, an UNSUBSCRIBE of it and a SUBSCRIBE of it without, `a` doesn't, and nor does `b`.
+-- Whether the open subscription of this id asked for parts; not where none is open. So after a SUBSCRIBE of
+-- `a` with `part:yes` it did; after an UNSUBSCRIBE of it and a SUBSCRIBE of it without, it didn't.
 abbrev pub asks_parts : List ℕ → SessionState → Bool
 asks_parts id s = unwrap_or (lookup (bytes_eq id) s.parts) false
 
@@ -125,7 +125,8 @@ LaterNamesStand =
     (s : SessionState) (names more : List (List ℕ)) (frames : List RawFrame) → StandsFor s names frames
     → StandsFor s (names ++ more) frames
 
--- After a SUBSCRIBE that it accepted, a session that isn't closed says of its subscription what the SUBSCRIBE wants.
+-- After a SUBSCRIBE that it accepted, a session that isn't closed says of its subscription what the SUBSCRIBE
+-- wants.
 abbrev pub AsksAsWanted : Type 0
 AsksAsWanted =
     (s : SessionState) (names : List (List ℕ)) (frames : List RawFrame) (f : RawFrame)
