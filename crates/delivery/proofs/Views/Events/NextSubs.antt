@@ -1,8 +1,8 @@
 -- A Next whose frame is a SUBSCRIBE or an UNSUBSCRIBE.
-use Rattle.std.proofs.Common.{◌≡◌, ◌≢◌, ℕ, ◌<◌, Bool, true, false, cond, inl, inr, List, [], ◌∷◌, length, get_or, Option, Some, None, refl, sym, ap, subst, ◌∙◌, arith}
+use Rattle.std.proofs.Common.{◌≡◌, ◌≢◌, ℕ, ◌<◌, Bool, true, false, cond, inl, inr, List, [], ◌∷◌, ◌++◌, length, get_or, Option, Some, None, codes, refl, sym, ap, subst, ◌∙◌, arith}
 use Rattle.std.specs.Option.{is_some, option_map}
 use Rattle.std.proofs.lemmas.Bool.{ltb-true}
-use Rattle.std.proofs.lemmas.List.{get_or-map, length-map}
+use Rattle.std.proofs.lemmas.List.{get_or-map, get_or-set_same, length-map}
 use Rattle.mcast_txn.specs.Lists.{In}
 use Rattle.mcast_txn.specs.declared.id.Topic.{Topic}
 use Rattle.mcast_txn.specs.declared.stamp.Stamp.{Stamp}
@@ -12,12 +12,15 @@ use Rattle.mcast_group.proofs.Parts.{some_same}
 use Rattle.stomp_frame.specs.declared.command.Command.{Command}
 use Rattle.stomp_frame.specs.declared.command.Command.TheVariants as commands
 use Rattle.stomp_frame.specs.declared.raw_frame.RawFrame.{RawFrame}
+use Rattle.stomp_frame.specs.Headers.{first_of}
 use Rattle.stomp_frame.specs.Reader.{Unread}
 use Rattle.stomp_session.specs.declared.action.Action.TheVariants as actions
 use Rattle.stomp_session.specs.Answers.{action_by}
 use Rattle.stomp_session.proofs.Later.{with_destination-none}
-use Rattle.stomp_session.specs.Frames.{has_destination, id_of}
-use Rattle.stomp_session.proofs.Asked.{begins, begins_at, ends}
+use Rattle.stomp_session.specs.Frames.{has_destination, id_of, is_subscribe, transaction_of, wants_parts}
+use Rattle.stomp_session.specs.Open.{Held, asks_parts, held_after, state_of}
+use Rattle.stomp_session.specs.Refusals.{sends_in}
+use Rattle.stomp_session.proofs.Asked.{begins, begins_at, ends, sent_subscribes, committed_subscribes}
 use Rattle.delivery.specs.declared.event.Event.{Event}
 use Rattle.delivery.specs.declared.outcome.Outcome.{Outcome}
 use Rattle.delivery.specs.Machine.World.{subscription_at, topic_at}
@@ -26,24 +29,50 @@ use Rattle.delivery.specs.Theorem.Laws.{final_world}
 use Rattle.delivery.specs.Core.Steps.{Reading, accepted_of, has_effect, number_by}
 use Rattle.delivery.specs.Core.Output.{subscribe_frame, text_out}
 use Rattle.delivery.specs.Core.State.{Core, core_for, names_at, session_at, unread_at}
-use Rattle.delivery.specs.Inner.Nexts.{Asks, receipt_text}
+use Rattle.delivery.specs.Inner.Nexts.{Asks, accepted_stage, receipt_text, staged_endpoint}
 use Rattle.delivery.specs.Inner.Stands.{IsReached, Makes}
 use Rattle.delivery.specs.Inner.Subscriptions.{closed_view, left_at, number_in, parts_in, stage_parts, subscribed_view}
-use Rattle.delivery.specs.Inner.View.{View, EndpointView, LeftView, group_view, no_group, view_after, view_with, written_endpoint, group_in}
+use Rattle.delivery.specs.Inner.View.{View, EndpointView, LeftView, group_view, no_endpoint, no_group, view_after, view_with, written_endpoint, group_in}
 use Rattle.delivery.proofs.Views.Subscriptions.ClosedIsDropped.{closed_is, closed_end}
 use Rattle.delivery.proofs.Views.Endpoints.EndpointChanges.{with_endpoint}
-use Rattle.delivery.proofs.Views.Events.NextFrames.{move_makes, names_for, receipt_is, replied_view, there_for}
+use Rattle.delivery.proofs.Views.Events.NextFrames.{changed_view, move_makes, names_for, receipt_is, replied_view, there_for}
+use Rattle.delivery.proofs.Views.Events.NextFaults.{endpoint_of, within_endpoints}
 use Rattle.delivery.proofs.Core.FrameWorld.{by_use, framed_none, idle_for}
 use Rattle.delivery.proofs.Machine.SubscriptionSteps.{at_added}
 use Rattle.delivery.proofs.Theorem.AcceptedIsDue.{reached}
 use Rattle.delivery.proofs.Views.Endpoints.StandingOfConnection.{differ}
 use Rattle.delivery.proofs.Views.Runs.ByRunOfCore.{by_world}
 use Rattle.delivery.proofs.Views.Senders.SendsAreToTopics.{topic_made}
-use Rattle.delivery.proofs.Views.Events.NextStep.{held_still, idle_reads, idle_there, next_of, text_added}
-use Rattle.delivery.proofs.Views.Subscriptions.OpenIsLive.{names_live, subscribe_free, unsubscribe_free}
+use Rattle.delivery.proofs.Views.Events.NextStep.{held_still, idle_reads, idle_there, next_of, text_added, view_by}
+use Rattle.delivery.proofs.Views.Subscriptions.OpenIsLive.{names_live, not_ended, subscribe_free, unsubscribe_free}
 use Rattle.delivery.proofs.Views.Subscriptions.NewSubscription.{begun_as, new_frame, old_frames, subscribed_is}
 
 -- ---- SUBSCRIBE
+
+-- it asks for a subscription
+subscribes : (command : Command) (s : Held) (f : RawFrame) (id : List ℕ) (t : Topic) → action_by command s f ≡ actions.Subscribe id t
+    → command ≡ commands.Subscribe
+subscribes commands.Subscribe s f id t e = refl
+subscribes commands.Send s f id t e = sent_subscribes s f (first_of (codes "transaction") f.headers) id t e
+subscribes commands.Commit s f id t e = committed_subscribes (sends_in (transaction_of f) s.transactions) id t e
+subscribes _ s f id t e = absurd (cc)
+
+-- the session says of its id what it asked for
+parts_asked : (k : Core) (c : ℕ) (f : RawFrame) (left : Unread) (id : List ℕ) (t : Topic) (receipt : Option (List ℕ)) (held mid : View) (d : EndpointView)
+    → Asks k c f left (actions.Subscribe id t) receipt held
+    → mid ≡ with_endpoint held c (written_endpoint (receipt_text receipt) (get_or held.endpoints c d))
+    → parts_in mid c id ≡ wants_parts f
+parts_asked k c f left id t receipt held mid d asks written =
+    let names = names_for k f in let q = core_for k f in
+    let v = view_by names q in
+    let accepted = accepted_of c k.steps in
+    let endpoint = written_endpoint (receipt_text receipt) (staged_endpoint (accepted_stage k c f left) (endpoint_of names q c)) in
+    let command = subscribes f.command (session_at k c) f id t asks.does in
+    let going = not_ended k c asks.reached (idle_reads k.world c asks.idle) in
+    ap (λ (x : View). parts_in x c id) (changed_view k c f left (actions.Subscribe id t) receipt held mid (written_endpoint (receipt_text receipt)) d asks written)
+    ∙ (ap (λ (l : EndpointView). stage_parts id l.stage) (get_or-set_same v.endpoints c endpoint no_endpoint (within_endpoints names q c (there_for k f c asks.idle)))
+    ∙ (ap (λ (z : List ℕ). asks_parts z (state_of (held_after names (accepted ++ f ∷ [])))) (sym (begins f.command (session_at k c) f id t asks.does))
+    ∙ asked_parts names accepted f going (ap is_subscribe command)))
 
 -- its RECEIPT is written, and the subscription begins
 pub next_subscribes : (k : Core) (c : ℕ) (f : RawFrame) (left : Unread) (id : List ℕ) (t : Topic) (receipt : Option (List ℕ)) (held mid new : View) (s : ℕ) (from : Stamp) (d : EndpointView)

@@ -16,8 +16,7 @@ use Rattle.delivery.specs.declared.outcome.Outcome.{Outcome}
 use Rattle.delivery.specs.declared.refusal.Refusal.{Refusal}
 use Rattle.delivery.specs.Machine.Objections.{Objection, refusal_of}
 use Rattle.delivery.specs.Machine.World.{is_in_use}
-use Rattle.delivery.specs.Machine.Moves.{Answer, Move}
-use Rattle.delivery.specs.Machine.Runs.{answer_to}
+use Rattle.delivery.specs.Machine.Moves.{Answer, Move, answer_to}
 use Rattle.delivery.specs.Core.Claims.{claims_of, claimed_sender, is_one_too_many}
 use Rattle.delivery.specs.Core.Output.{says_version}
 use Rattle.delivery.specs.Core.State.{Core, core_for, frame_move, session_at}
@@ -25,7 +24,7 @@ use Rattle.delivery.specs.Core.Outcomes.{accepted_outcomes, claim_fault, fault_o
 use Rattle.delivery.specs.Inner.Nexts.{MayEnd}
 use Rattle.delivery.proofs.Views.Events.NextFaults.{asked_objection, fault_of_frame}
 
--- the outcome is an ERROR of this frame that says the version
+-- the outcome is an ERROR of this frame, which says the version
 abbrev tells : RawFrame → Outcome → Bool
 tells f (Outcome.Faulted fault cut) = says_version (Some f) fault
 tells f o = false

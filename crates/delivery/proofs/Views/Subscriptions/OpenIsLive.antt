@@ -411,7 +411,8 @@ reached_agrees k c reached reading =
     subst (λ (z : Core). Agrees z c) (sym reached.is)
     (agrees_run reached.topics reached.capacity reached.steps reached.run c (subst (λ (z : Core). open_in z.world.connections c ≡ true) reached.is reading))
 
-not_ended : (k : Core) (c : ℕ) → IsReached k → is_reading (connection_at k.world c).standing ≡ true → is_ended (accepted_of c k.steps) ≡ false
+-- no DISCONNECT was accepted of an open connection
+pub not_ended : (k : Core) (c : ℕ) → IsReached k → is_reading (connection_at k.world c).standing ≡ true → is_ended (accepted_of c k.steps) ≡ false
 not_ended k c reached reading = any_none (λ f. is_disconnect f.command) (accepted_of c k.steps) (not_parting k c reached reading)
 
 -- the open subscriptions of an open connection's session are the live ones of the connection

@@ -1,6 +1,7 @@
-use Rattle.std.proofs.Common.{None, sym, ap, ◌∙◌}
+use Rattle.std.proofs.Common.{Option, None, sym, ap, ◌∙◌}
 use Rattle.std.specs.Option.{option_map}
-use Rattle.delivery.specs.Core.Output.{receipt_asked}
+use Rattle.stomp_frame.specs.declared.raw_frame.RawFrame.{RawFrame}
+use Rattle.delivery.specs.Core.Output.{receipt_asked, says_version}
 use Rattle.delivery.specs.Core.State.{is_faulted}
 use Rattle.delivery.specs.Inner.View.{no_endpoint}
 use Rattle.delivery.proofs.Views.Events.NextFaults.{next_fails}
