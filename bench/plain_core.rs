@@ -450,7 +450,7 @@ impl Core {
         self.queues.push(Queue {
             connection: c,
             id: id.to_vec(),
-            says_part: frame.first(b"part") == Some(b"yes"),
+            says_part: frame.first(b"part") == Some(&b"yes"[..]),
             topic,
             from,
             items: Vec::new(),

@@ -481,7 +481,7 @@ impl Core {
                 match connection.subscriptions.len() {
                     OPEN_LIMIT => Err("69 TooManySubs"),
                     _ => {
-                        let says_part = frame.first("part") == Some(b"yes");
+                        let says_part = frame.first("part") == Some(&b"yes"[..]);
                         Ok(Action::Subscribe(header("id").to_vec(), topic, says_part))
                     }
                 }
