@@ -33,8 +33,8 @@ message_id n topic index = decimal n ++ codes "." ++ decimal topic ++ codes "." 
 abbrev pub optional_header : List ℕ → Option (List ℕ) → List Header
 optional_header name value = option_map_or (λ v. (name, v) ∷ []) value []
 
--- These headers behind those that a MESSAGE has of its own, where its SEND has such headers and a body of this
--- size (STOMP 1.2, "MESSAGE"). That destination is left out where the SEND has none is (own).
+-- These headers behind those that a MESSAGE has of its own, where its SEND has such headers and a body of
+-- this size (STOMP 1.2, "MESSAGE"). That destination is left out where the SEND has none is (own).
 abbrev pub with_own_headers : List ℕ → List ℕ → List Header → ℕ → List Header → List Header
 with_own_headers subscription id sent size others =
     (codes "subscription", subscription) ∷ (codes "message-id", id)
@@ -55,19 +55,20 @@ message_frame subscription id sent body = record {
   body = body;
 }
 
--- The value of a header `part`: which of its transaction's MESSAGEs at its topic a MESSAGE is, from 1, and how
--- many these are (own). So the second of three has `2/3`.
+-- The value of a header `part`: which of its transaction's MESSAGEs at its topic a MESSAGE is, from 1, and
+-- how many these are (own). So the second of three has `2/3`.
 abbrev pub part_value : ℕ → ℕ → List ℕ
 part_value at count = decimal at ++ codes "/" ++ decimal count
 
--- The headers of a MESSAGE that says which it is (own): `part` is first behind those that each MESSAGE has, and
--- the SEND's own `part` is withheld, too.
+-- The headers of a MESSAGE that says which it is (own): `part` is first behind those that each MESSAGE has,
+-- and the SEND's own `part` is withheld, too.
 abbrev pub part_headers : ℕ → ℕ → List ℕ → List ℕ → List Header → ℕ → List Header
 part_headers at count subscription id sent size =
     with_own_headers subscription id sent size
     ((codes "part", part_value at count) ∷ first_entries (codes "part" ∷ withheld) sent)
 
--- A SEND as a subscriber gets it that asked for parts (own): those headers and its body. Example: `second_of_three`.
+-- A SEND as a subscriber gets it that asked for parts (own): those headers and its body. Example:
+-- `second_of_three`.
 abbrev pub part_message_frame : ℕ → ℕ → List ℕ → List ℕ → List Header → List ℕ → RawFrame
 part_message_frame at count subscription id sent body = record {
   command = commands.Message;
@@ -116,10 +117,11 @@ raw_of_server (Error message receipt version) =
 -- The raw frame of a MESSAGE that says which it is.
 abbrev pub part_message_of : PartMessage → RawFrame
 part_message_of m =
-    part_message_frame m.at m.count m.subscription.now (message_id m.n m.topic m.index) m.headers.now m.body.now
+    part_message_frame m.at m.count m.subscription.now (message_id m.n m.topic m.index)
+    m.headers.now m.body.now
 
--- A MESSAGE that says which it is can be written, so that a reader reads it as itself, where its subscription is
--- text, its SEND's headers may be headers, and its numbers are of 64 bits.
+-- A MESSAGE that says which it is can be written, so that a reader reads it as itself, where its subscription
+-- is text, its SEND's headers may be headers, and its numbers are of 64 bits.
 abbrev pub PartsAreWritable : Type 0
 PartsAreWritable =
     (at count n topic index : ℕ) (subscription : List ℕ) (sent : List Header) (body : List ℕ)

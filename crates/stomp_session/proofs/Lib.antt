@@ -4,4 +4,6 @@ pub mod LeftOpen
 pub mod History
 pub mod Later
 pub mod Taken
+pub mod Parts
+pub mod Kept
 pub mod Examples

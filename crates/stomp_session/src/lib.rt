@@ -11,6 +11,8 @@ mod opened;
 mod phase;
 mod route;
 mod session;
+mod subscription;
+mod subscriptions;
 mod transactions;
 mod versions;
 
@@ -19,6 +21,7 @@ pub use fault::SessionFault;
 pub use names::{MAX_TOPICS, Names, is_name};
 pub use phase::Phase;
 pub use session::Session;
+pub use versions::has_version;
 
 #[cfg(test)]
 mod tests;
