@@ -39,14 +39,14 @@ fn put_parts(id: &[u8], item: &Released, out: &mut Octets) -> Result<(), NoMemor
     let sends = &item.part.sends;
     let count = sends.len();
     for i in 0..count {
-        let send = sends.get(i);
+        let sent = sends.get(i);
         let message = PartMessage {
             subscription: id,
             n: item.stamp.n,
             topic: item.stamp.topic.0,
-            index: send.index,
-            headers: &send.headers,
-            body: send.body.as_slice(),
+            index: sent.index,
+            headers: &sent.headers,
+            body: sent.body.as_slice(),
             at: i as u64 + 1,
             count: count as u64,
         };

@@ -1,5 +1,5 @@
 -- A Next whose frame is a SUBSCRIBE or an UNSUBSCRIBE.
-use Rattle.std.proofs.Common.{◌≡◌, ◌≢◌, ℕ, ◌<◌, Bool, true, false, cond, inl, inr, List, [], ◌∷◌, ◌++◌, length, get_or, Option, Some, None, codes, refl, sym, ap, subst, ◌∙◌, arith}
+use Rattle.std.proofs.Common.{◌≡◌, ◌≢◌, ℕ, ◌<◌, ◌||◌, Bool, true, false, cond, inl, inr, List, [], ◌∷◌, ◌++◌, length, get_or, Option, Some, None, codes, refl, sym, ap, subst, ◌∙◌, arith}
 use Rattle.std.specs.Option.{is_some, option_map}
 use Rattle.std.proofs.lemmas.Bool.{ltb-true}
 use Rattle.std.proofs.lemmas.List.{get_or-map, get_or-set_same, length-map}
@@ -17,9 +17,11 @@ use Rattle.stomp_frame.specs.Reader.{Unread}
 use Rattle.stomp_session.specs.declared.action.Action.TheVariants as actions
 use Rattle.stomp_session.specs.Answers.{action_by}
 use Rattle.stomp_session.proofs.Later.{with_destination-none}
-use Rattle.stomp_session.specs.Frames.{has_destination, id_of, is_subscribe, transaction_of, wants_parts}
-use Rattle.stomp_session.specs.Open.{Held, asks_parts, held_after, state_of}
+use Rattle.stomp_session.specs.Frames.{has_destination, id_of, is_disconnect, is_subscribe, transaction_of, wants_parts}
+use Rattle.stomp_session.specs.Open.{Held, asks_parts, held_after, is_ended, state_of}
 use Rattle.stomp_session.specs.Refusals.{sends_in}
+use Rattle.stomp_session.proofs.LeftOpen.{list_any-push}
+use Rattle.stomp_session.proofs.Parts.{held_asks}
 use Rattle.stomp_session.proofs.Asked.{begins, begins_at, ends, sent_subscribes, committed_subscribes}
 use Rattle.delivery.specs.declared.event.Event.{Event}
 use Rattle.delivery.specs.declared.outcome.Outcome.{Outcome}
@@ -68,11 +70,13 @@ parts_asked k c f left id t receipt held mid d asks written =
     let accepted = accepted_of c k.steps in
     let endpoint = written_endpoint (receipt_text receipt) (staged_endpoint (accepted_stage k c f left) (endpoint_of names q c)) in
     let command = subscribes f.command (session_at k c) f id t asks.does in
-    let going = not_ended k c asks.reached (idle_reads k.world c asks.idle) in
+    let going : is_ended (accepted ++ f ∷ []) ≡ false =
+    list_any-push (λ g. is_disconnect g.command) accepted f
+    ∙ (λ i. not_ended k c asks.reached (idle_reads k.world c asks.idle) i || is_disconnect (command i)) in
     ap (λ (x : View). parts_in x c id) (changed_view k c f left (actions.Subscribe id t) receipt held mid (written_endpoint (receipt_text receipt)) d asks written)
     ∙ (ap (λ (l : EndpointView). stage_parts id l.stage) (get_or-set_same v.endpoints c endpoint no_endpoint (within_endpoints names q c (there_for k f c asks.idle)))
     ∙ (ap (λ (z : List ℕ). asks_parts z (state_of (held_after names (accepted ++ f ∷ [])))) (sym (begins f.command (session_at k c) f id t asks.does))
-    ∙ asked_parts names accepted f going (ap is_subscribe command)))
+    ∙ held_asks names accepted f (ap is_subscribe command) going))
 
 -- its RECEIPT is written, and the subscription begins
 pub next_subscribes : (k : Core) (c : ℕ) (f : RawFrame) (left : Unread) (id : List ℕ) (t : Topic) (receipt : Option (List ℕ)) (held mid new : View) (s : ℕ) (from : Stamp) (d : EndpointView)

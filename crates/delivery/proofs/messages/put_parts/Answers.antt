@@ -14,11 +14,11 @@ use Rattle.delivery.proofs.messages.put_parts.Goals as goal
 pub loop-i-preserved : goal.loop-i-preserved
 loop-i-preserved c =
     let item = c.args.item.now in
-    let p = c.get-send.result.now in
+    let p = c.get-sent.result.now in
     let i = c.loop-i.i in
     let sends : c.deref.result.now.sends ≡ item.sends = ap (λ (q : Part). q.sends) c.deref.ensures ∙ ap (λ (x : Item). x.sends) c.item.view_is in
     let many : c.len-count.result ≡ length item.sends = c.len-count.ensures ∙ ap (λ (xs : List PartMessage). length xs) sends in
-    let is : slice_get item.sends i ≡ Some p = ap (λ (xs : List PartMessage). slice_get xs i) (sym sends) ∙ c.get-send.ensures in
+    let is : slice_get item.sends i ≡ Some p = ap (λ (xs : List PartMessage). slice_get xs i) (sym sends) ∙ c.get-sent.ensures in
     let there : i < length item.sends = omega (arith, c.loop-i-test.true, c.loop-i.auto.i-end, many) in
     let placed : i < length (enumerate_from 1 item.sends) = omega (arith, there, length-enumerate_from 1 item.sends) in
     let put = c.in_ok-write_part_message.ensures.ok in
