@@ -76,9 +76,7 @@ fn drain_all<C: BrokerCalls>(
         match end {
             Taking::Emptied => left = left.saturating_sub(1),
             Taking::Halfway => return (Drained { any, end }, left),
-            Taking::Stopped | Taking::Failed(_) => {
-                return (Drained { any, end }, left.saturating_sub(1));
-            }
+            _ => return (Drained { any, end }, left.saturating_sub(1)),
         }
     }
     let end = Taking::Emptied;
