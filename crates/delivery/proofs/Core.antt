@@ -7,6 +7,7 @@ pub mod ClaimRows
 pub mod InUseRows
 pub mod MoreRows
 pub mod OctetsRow
+pub mod PartRows
 pub mod ToldEnds
 pub mod QueueOfReport
 pub mod DeliveredRow

@@ -7,6 +7,7 @@ mod histories;
 mod made;
 mod memory;
 mod names;
+mod parts;
 mod plain;
 mod session;
 mod transactions;

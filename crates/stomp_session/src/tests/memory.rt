@@ -116,6 +116,23 @@ fn a_subscribe_without_memory(rt: HostRuntime) {
     is_refused_once(&rt, rt.alloc(), &row);
 }
 
+/// One that asks for parts.
+#[test]
+fn a_subscribe_for_parts_without_memory(rt: HostRuntime) {
+    let row = Row {
+        script: b"c..",
+        command: Command::Subscribe,
+        pairs: &[
+            (b"id", LONG),
+            (b"destination", b"A"),
+            (b"part", b"yes"),
+            (b"receipt", LONG),
+        ],
+        body: b"",
+    };
+    is_refused_once(&rt, rt.alloc(), &row);
+}
+
 /// A SUBSCRIBE that makes its topic.
 #[test]
 fn a_subscribe_to_a_new_topic_without_memory(rt: HostRuntime) {
