@@ -1,6 +1,7 @@
 -- Worked examples of what a connection asks of the broker, and what it takes of its queues.
-use Rattle.std.proofs.Common.{◌≡◌, ℕ, ◌<◌, ◌≤◌, nat_lt, true, false, List, [], ◌∷◌, ◌++◌, length, map, codes, Option, Some, None, Ok, inl, inr, refl, ap, ◌∙◌, arith}
+use Rattle.std.proofs.Common.{◌≡◌, ℕ, ◌<◌, ◌≤◌, nat_lt, Bool, true, false, List, [], ◌∷◌, ◌++◌, length, map, codes, Option, Some, None, Ok, inl, inr, refl, ap, ◌∙◌, arith}
 use Rattle.std.proofs.lemmas.Bool.Decides.{nat_tests}
+use Rattle.mcast_txn.specs.Span.{Item}
 use Rattle.mcast_txn.specs.declared.stamp.Stamp.{Stamp}
 use Rattle.sender_gate.specs.Gate.{FlightState, GateState, gate_after}
 use Rattle.stomp_frame.specs.declared.case_fault.CaseFault.{CaseFault}
@@ -8,6 +9,7 @@ use Rattle.stomp_frame.specs.declared.case_fault.RequiredHeader.{RequiredHeader}
 use Rattle.stomp_frame.specs.declared.command.Command.TheVariants as commands
 use Rattle.stomp_frame.specs.declared.raw_frame.RawFrame.{RawFrame}
 use Rattle.stomp_frame.specs.ServerFrames.{receipt_frame}
+use Rattle.delivery.specs.Core.Output.{messages_for}
 use Rattle.delivery.specs.declared.connection_fault.ConnectionFault.TheVariants as connection
 use Rattle.broker_server.specs.declared.conversation.conversation_fault.ConversationFault.{ConversationFault}
 use Rattle.broker_server.specs.declared.conversation.conversation_fault.ConversationFault.TheVariants as fault
@@ -15,7 +17,7 @@ use Rattle.broker_server.specs.declared.conversation.drained.Taking.TheVariants.
 use Rattle.broker_server.specs.BrokerRows.{AsksLag, GivesBack, IsGateAfter, SubName, Takes, Unsubscribes}
 use Rattle.broker_server.specs.ConversationFaults.{tells_version}
 use Rattle.broker_server.specs.Conversations.{ConversationState, EndsSub, OpenSubState, begun_sub, closing_rows, gate_rows, next_without}
-use Rattle.broker_server.specs.Delivering.{Drains, DrainsAll, DrainsOn, DrainsQueues, IsLag, begins_at, full_wire, has_room, left_behind, with_messages}
+use Rattle.broker_server.specs.Delivering.{Drains, DrainsAll, DrainsOn, DrainsQueues, IsLag, begins_at, full_wire, has_room, left_behind, taken_messages, with_messages}
 use Rattle.broker_server.specs.Judging.{Grows}
 use Rattle.broker_server.specs.Wires.{spelling_with_eol}
 
@@ -140,3 +142,7 @@ missing_host = fault.Connection (connection.Frame (CaseFault.Missing RequiredHea
 
 pub host_is_missing : (tells_version (Some (connecting (codes "1.1,1.2"))) missing_host ≡ false) × (tells_version (Some (connecting (codes "1.1"))) missing_host ≡ true)
 host_is_missing = (refl, refl)
+
+-- what is taken of two items: the MESSAGEs of the first, and then those of the second
+pub two_items : (parts : Bool) (id : List ℕ) (first second : Item) (n : SubName) → taken_messages parts id (Takes n (Some first) ∷ Takes n (Some second) ∷ Takes n None ∷ []) ≡ messages_for parts id first ++ (messages_for parts id second ++ [])
+two_items parts id first second n = refl

@@ -30,14 +30,14 @@ drains_half waits capacity calls o next wire item sub room same next_is end new 
 -- ---- the MESSAGEs of an item
 
 -- where there is room, the next is written
-room_for : (waits : Bool) (f : RawFrame) (fs : List RawFrame) (wire : List ℕ) → has_room waits wire ≡ true → (left_behind waits (f ∷ fs) wire ≡ left_behind waits fs (wire ++ spelling_with_eol f)) × (with_messages waits (f ∷ fs) wire ≡ with_messages waits fs (wire ++ spelling_with_eol f))
+pub room_for : (waits : Bool) (f : RawFrame) (fs : List RawFrame) (wire : List ℕ) → has_room waits wire ≡ true → (left_behind waits (f ∷ fs) wire ≡ left_behind waits fs (wire ++ spelling_with_eol f)) × (with_messages waits (f ∷ fs) wire ≡ with_messages waits fs (wire ++ spelling_with_eol f))
 room_for waits f fs wire room = (
   ap (λ (b : Bool). if b then left_behind waits fs (wire ++ spelling_with_eol f) else f ∷ fs) room,
   ap (λ (b : Bool). if b then with_messages waits fs (wire ++ spelling_with_eol f) else wire) room,
 )
 
 -- where there is none, it is left
-no_room_for : (waits : Bool) (f : RawFrame) (fs : List RawFrame) (wire : List ℕ) → has_room waits wire ≡ false → (left_behind waits (f ∷ fs) wire ≡ f ∷ fs) × (with_messages waits (f ∷ fs) wire ≡ wire)
+pub no_room_for : (waits : Bool) (f : RawFrame) (fs : List RawFrame) (wire : List ℕ) → has_room waits wire ≡ false → (left_behind waits (f ∷ fs) wire ≡ f ∷ fs) × (with_messages waits (f ∷ fs) wire ≡ wire)
 no_room_for waits f fs wire none = (
   ap (λ (b : Bool). if b then left_behind waits fs (wire ++ spelling_with_eol f) else f ∷ fs) none,
   ap (λ (b : Bool). if b then with_messages waits fs (wire ++ spelling_with_eol f) else wire) none,

@@ -1,6 +1,6 @@
 -- What one connection of the server takes of its queues.
 use Rattle.std.specs.Prelude.{◌≡◌, ◌⊎◌, ℕ, ◌+◌, ◌-◌, ◌<◌, ◌≤◌, nat_lt, Bool, true, false, not, ◌&&◌, ◌||◌, List, [], ◌∷◌, ◌++◌, length, Some, None, IsSome, if◌then◌else◌}
-use Rattle.std.specs.List.{list_any}
+use Rattle.std.specs.List.{flat_map, list_any}
 use Rattle.std.specs.Option.{is_none, is_some}
 use Rattle.stomp_frame.specs.declared.raw_frame.RawFrame.{RawFrame}
 use Rattle.mcast_txn.specs.Span.{Item}
@@ -232,3 +232,26 @@ DeliversRound old asked result new =
     × DrainsQueues (is_some old.held) old.capacity old.next first old.subs old.wire end subs wire next
     × Settles end (has_item first || writes_on old) (record old { subs = subs; wire = wire; next = next }) rest
     result new)
+
+-- ---- a law
+
+-- the MESSAGEs of the items that these calls took, for a subscription of this id, which asked for parts or
+-- didn't
+abbrev pub taken_messages : Bool → List ℕ → List BrokerRow → List RawFrame
+taken_messages parts id [] = []
+taken_messages parts id (Takes sub (Some item) ∷ rows) =
+    messages_for parts id item ++ taken_messages parts id rows
+taken_messages parts id (_ ∷ rows) = taken_messages parts id rows
+
+-- What was left of a queue's item, and then what was taken of the queue, is what was written, and then what is
+-- left of it now: each MESSAGE once, in order, and nothing else. What is left is lost only where there was no
+-- memory for it, and some is left only where it stopped halfway. So whatever pieces an item was written in, they
+-- are the whole item.
+abbrev pub ItemsAreWhole : Type 0
+ItemsAreWhole =
+    (waits : Bool) (capacity : ℕ) (asked : List BrokerRow) (o : OpenSubState) (wire : List ℕ) (end : Taking)
+    (new : OpenSubState) (after : List ℕ)
+    → DrainsOn waits capacity asked o wire end new after
+    → (out rest : List RawFrame) × (after ≡ wire ++ flat_map spelling_with_eol out)
+    × (o.left ++ taken_messages o.parts o.id asked ≡ out ++ rest)
+    × ((end ≡ Failed fault.NoReply) ⊎ (rest ≡ new.left)) × (is_any new.left ≡ true → end ≡ Halfway)
