@@ -19,4 +19,5 @@ mod served;
 mod sizes;
 mod slow;
 mod unconnected;
+mod unread;
 mod waiting;

@@ -3,7 +3,7 @@ use Rattle.broker_server.specs.declared.conversation.drained.Taking.{Taking}
 use Rattle.broker_server.specs.BrokerRows.{AsksInOrder, BrokerRow}
 use Rattle.broker_server.specs.Conversations.{OpenSubState}
 use Rattle.broker_server.specs.Delivering.{Drains, has_item}
-use Rattle.broker_server.proofs.conversation.drain_queue.Given as goal
+use Rattle.broker_server.proofs.conversation.taking.take_items.Given as goal
 
 -- the calls so far are a beginning: whatever is taken from here on is taken behind them
 abbrev pub invariant-loop-call : goal.invariant-loop-call

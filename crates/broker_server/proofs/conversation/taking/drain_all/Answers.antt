@@ -7,8 +7,8 @@ use Rattle.broker_server.specs.Conversations.{OpenSubState}
 use Rattle.broker_server.specs.Delivering.{DrainsAll, has_item}
 use Rattle.broker_server.proofs.ConversationLemmas.{asks_on}
 use Rattle.broker_server.proofs.DeliveringLemmas.{GoesOn, either_item, goes_no_further, goes_on}
-use Rattle.broker_server.proofs.conversation.drain_all.Goals as goal
-use Rattle.broker_server.proofs.conversation.drain_all.Goals.{then-any, else-any}
+use Rattle.broker_server.proofs.conversation.taking.drain_all.Goals as goal
+use Rattle.broker_server.proofs.conversation.taking.drain_all.Goals.{then-any, else-any}
 
 pub loop-queue-init : goal.loop-queue-init
 loop-queue-init g c = record {

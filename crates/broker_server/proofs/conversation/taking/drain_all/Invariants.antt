@@ -2,7 +2,7 @@ use Rattle.std.proofs.Common.{◌≡◌, ◌+◌, List, length, take, drop}
 use Rattle.broker_server.specs.BrokerRows.{AsksInOrder, BrokerRow}
 use Rattle.broker_server.specs.Delivering.{has_item}
 use Rattle.broker_server.proofs.DeliveringLemmas.{GoesOn}
-use Rattle.broker_server.proofs.conversation.drain_all.Given as goal
+use Rattle.broker_server.proofs.conversation.taking.drain_all.Given as goal
 
 -- the queues so far were emptied, by calls that are a beginning; the others are as they were
 abbrev pub invariant-loop-queue : goal.invariant-loop-queue

@@ -3,7 +3,7 @@ use Rattle.std.specs.Prelude.{◌||◌}
 use Rattle.broker_server.specs.Delivering.{begins_at, has_item}
 use Rattle.broker_server.proofs.ConversationLemmas.{asks_on}
 use Rattle.broker_server.proofs.DeliveringLemmas.{drains_back, drains_both, either_item}
-use Rattle.broker_server.proofs.conversation.drain_queues.Goals as goal
+use Rattle.broker_server.proofs.conversation.taking.drain_queues.Goals as goal
 
 pub returns-in_default : goal.returns-in_default
 returns-in_default g c =

@@ -9,8 +9,8 @@ use Rattle.broker_server.specs.Delivering.{Drains, nearer_lag, with_pushed}
 use Rattle.broker_server.specs.Wires.{spelling_with_eol}
 use Rattle.broker_server.proofs.ConversationLemmas.{asks_on, asks_one}
 use Rattle.broker_server.proofs.DeliveringLemmas.{drains_behind, drains_item, drains_lag, full_of, no_item, on_err, on_ok, room_of, some_item, some_left}
-use Rattle.broker_server.proofs.conversation.drain_queue.Goals as goal
-use Rattle.broker_server.proofs.conversation.drain_queue.Goals.{in-Some+else-is_err, in-None-2, then-queue-eq0+else-has_lagged, else-queue-eq0}
+use Rattle.broker_server.proofs.conversation.taking.take_items.Goals as goal
+use Rattle.broker_server.proofs.conversation.taking.take_items.Goals.{in-Some+else-is_err, in-None-2, then-queue-eq0+else-has_lagged, else-queue-eq0}
 
 pub returns-then-is_err : goal.returns-then-is_err
 returns-then-is_err g c =
