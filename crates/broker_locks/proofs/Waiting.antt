@@ -257,12 +257,10 @@ err_one (Err e) f p = f e p
 -- what is answered where so many places are wanted
 abbrev pub answer_at : ℕ → ℕ → ℕ → RoomState → GroupState → Result Unit (Option ℕ)
 answer_at capacity places start state g =
-    if nat_lt capacity places
-    then Err None
-    else elim (find (λ number. not (fits places g number)) (asked_from start state.waited)) [
+    cond (nat_lt capacity places) (Err None) (elim (find (λ number. not (fits places g number)) (asked_from start state.waited)) [
       | None ↦ Ok tt
       | Some number ↦ Err (Some number)
-    ]
+    ])
 
 -- where a queue has fewer, nobody is asked
 pub many_refuse : (capacity places start : ℕ) (state : RoomState) (g : GroupState) → capacity < places → Err None ≡ answer_at capacity places start state g
@@ -383,7 +381,7 @@ any_filtered p n (x ∷ xs) = go (p x) refl (x == n) refl (p n) refl (any_filter
 
 -- those that lack room where so many places are wanted
 abbrev pub lacking_at : ℕ → ℕ → GroupState → RoomState → List ℕ
-lacking_at capacity places g state = if nat_lt capacity places then [] else filter (λ number. not (fits places g number)) state.waited
+lacking_at capacity places g state = cond (nat_lt capacity places) [] (filter (λ number. not (fits places g number)) state.waited)
 
 -- who lacks room, of whom this is known
 pub lacks : (capacity places : ℕ) (g : GroupState) (state : RoomState) (n : ℕ) → list_any (λ (m : ℕ). m == n) (lacking_at capacity places g state) ≡ (not (nat_lt capacity places) && (not (fits places g n) && is_waited_for n state))
