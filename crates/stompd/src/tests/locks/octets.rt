@@ -60,6 +60,11 @@ struct Done {
     sender: u64,
 }
 
+/// What a call answers that was made, or was refused as it must not be.
+fn done_if(is: bool) -> Answer {
+    if is { Answer::Done } else { Answer::Failed }
+}
+
 /// What a call answers that was made so often before it was refused.
 fn refused(fault: NoRoom, index: usize) -> Answer {
     match fault {
@@ -117,8 +122,7 @@ fn enter<R: Wait, W: Side, T: Side>(
 ) -> Answer {
     let mut room = broker.no_room();
     match broker.reserve_at(rt, Topic(0), PartOctets(octets), 0, &mut room) {
-        Ok(()) if is_entered(rt, alloc, broker, worker, sender, room) => Answer::Done,
-        Ok(()) => Answer::Failed,
+        Ok(()) => done_if(is_entered(rt, alloc, broker, worker, sender, room)),
         Err(fault) => {
             broker.release_room(rt, room);
             refused(fault, 0)
