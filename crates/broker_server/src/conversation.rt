@@ -404,7 +404,7 @@ impl<C: BrokerCalls> Conversation<C> {
         ensures { (asked : List BrokerRow) × AsksInOrder C.called calls.old asked calls.new
             × Acts (record { action = actions.Commit txn; receipt = receipt }) self.old asked self.new }
     {
-        match calls.reserve(txn.topics().as_slice()) {
+        match calls.reserve(&txn) {
             Some(room) => {
                 let done = self.commit(calls, txn, room);
                 self.conclude(calls, done, false, &receipt);

@@ -12,6 +12,7 @@ mod held;
 mod jobs;
 mod lost;
 mod memory;
+mod octets;
 mod places;
 mod room;
 mod room_memory;
