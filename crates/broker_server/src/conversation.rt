@@ -6,7 +6,7 @@ ghost use Rattle.std.specs.Option.{is_none, is_some, option_map};
 ghost use Rattle.stomp_frame.specs.declared.fault.FrameFault.{FrameFault};
 ghost use Rattle.stomp_frame.specs.declared.raw_frame.RawFrame.{RawFrame};
 ghost use Rattle.stomp_frame.specs.ClientFrames.{raw_of};
-ghost use Rattle.broker_server.specs.BrokerRows.{AsksInOrder, BrokerRow, Unsubscribes};
+ghost use Rattle.broker_server.specs.BrokerRows.{AsksInOrder, BrokerRow};
 ghost use Rattle.broker_server.specs.Conversations.{PutsFrames, EndsByError, Connects, Begins, EndsSub, CommitsSends, CommitsBy, Acts, Answers, Concludes, IsLost};
 ghost use Rattle.broker_server.specs.Delivering.{DeliversRound, Drains, DrainsAll, DrainsQueues, TellsLag, begins_at, has_item, may_read};
 ghost use Rattle.delivery.specs.Core.Outcomes.{is_any};
@@ -17,6 +17,7 @@ ghost use Rattle.broker_server.specs.Conversations.{closed, IsNew, closing_rows,
 ghost use Rattle.stomp_session.specs.declared.action.Action.TheVariants as actions;
 
 mod broker_calls;
+mod closing;
 mod conversation_fault;
 mod drained;
 mod exit;
@@ -27,6 +28,7 @@ use crate::draining::drain_wire;
 use crate::program_fault::ProgramFault;
 use crate::wire::Wire;
 pub use broker_calls::BrokerCalls;
+use closing::end_subs;
 pub use conversation_fault::ConversationFault;
 use drained::{Drained, Taking};
 pub use exit::Exit;
@@ -569,7 +571,8 @@ impl<C: BrokerCalls> Conversation<C> {
         self.held = None;
         self.more = false;
         self.session.end();
-        end_subs(calls, mem::replace(&mut self.subs, Vec::new(self.alloc)));
+        let subs = mem::replace(&mut self.subs, Vec::new(self.alloc));
+        end_subs(self.alloc, calls, subs);
         give_up(calls, self.gate.take());
     }
 
@@ -771,15 +774,6 @@ fn end_of_lag(topic: Topic, items: u64, waits: bool) -> Taking
         return Taking::Emptied;
     }
     Taking::Failed(ConversationFault::Lagged { topic, items })
-}
-
-/// Ends these subscriptions, in order.
-fn end_subs<C: BrokerCalls>(calls: &mut C, subs: Vec<OpenSub<C>>)
-    ensures { AsksInOrder C.called calls.old (map (λ o. Unsubscribes o.sub) subs.items) calls.new }
-{
-    for open in subs {
-        calls.unsubscribe(open.sub);
-    }
 }
 
 /// Gives the gate back, if there is one.
