@@ -18,5 +18,6 @@ mod queued;
 mod served;
 mod sizes;
 mod slow;
+mod subscribed;
 mod unconnected;
 mod waiting;
