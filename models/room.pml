@@ -396,7 +396,7 @@ inline wait_again(sub) {
   fi
 }
 
-/* calls.rt end: the seat, then the subscription, then who waits for room */
+/* calls.rt end_at, of one: the seat, then the subscription, then who waits for room */
 inline sub_end(sub) {
 #ifdef M_RINGS_BEFORE_END
   line_ring(TOPIC(sub), Sub(sub));
@@ -407,13 +407,28 @@ inline sub_end(sub) {
   line_ring(TOPIC(sub), Sub(sub))
 #endif
 }
-/* conversation.rt close: all that is open ends */
+#define EACH_OF(c, at, does) for (s : 0 .. SUBS - 1) { if :: TOPIC(s) == at && TAKER(s) == c && has[s] -> does :: else fi } s = 0
+/* conversation.rt close, calls.rt end_all: all that is open ends, that of one topic at once, calls.rt end_at: the seats,
+   topic_seats.rt remove_all, then the subscriptions, broker.rt unsubscribe_all, then who waits for room */
 inline talk_close(c) {
   leaving[c] = true;
   do
-  :: d_step { e < SUBS && TAKER(e) == c && has[e] -> has[e] = false; more[c] = false }; sub_end(e); e++
-  :: e < SUBS && !(TAKER(e) == c && has[e]) -> e++
-  :: e >= SUBS -> break
+  :: d_step { e < TOPICS -> more[c] = false; n = 0; x = 0; EACH_OF(c, e, n++; x = s) };
+     if
+     :: n > 0 ->
+#ifdef M_RINGS_BEFORE_END
+        line_ring(e, (n == 1 -> Sub(x) : Any));
+#endif
+        d_step { !seats[e] -> EACH_OF(c, e, seated[s] = false) };
+        d_step { !topic[e] -> EACH_OF(c, e, open_[s] = false; waited[s] = false) };
+#if !defined(M_RINGS_BEFORE_END) && !defined(M_END_SILENT)
+        line_ring(e, (n == 1 -> Sub(x) : Any));
+#endif
+        d_step { EACH_OF(c, e, has[s] = false); n = 0; x = 0 }
+     :: n == 0
+     fi;
+     e++
+  :: e >= TOPICS -> break
   od;
   e = 0
 }

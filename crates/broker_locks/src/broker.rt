@@ -1,6 +1,7 @@
 //! A broker's topics, each behind a lock of its own.
 
-ghost use Rattle.std.specs.Prelude.{◌≡◌, ◌≤◌, ◌<◌, ◌+◌, ◌*◌, ◌∷◌, ◌++◌, ℕ, List, [], false, length, map, take, vec_len, None, Ok, Err, IfOk, IfErr, OnOk, OnErr, IsErr};
+ghost use Rattle.std.specs.Prelude.{◌≡◌, ◌≤◌, ◌<◌, ◌+◌, ◌*◌, ◌∷◌, ◌++◌, ℕ, List, [], false, length, map, take, vec_capacity, vec_len, None, Ok, Err, IfOk, IfErr, OnOk, OnErr, IsErr};
+ghost use Rattle.std.specs.List.{AllByRecursion};
 ghost use Rattle.std.specs.Option.{option_map};
 ghost use Rattle.crossbeam_utils.specs.Padded.{padded_value};
 ghost use Rattle.delivery.specs.Topics.{max_topics};
@@ -264,6 +265,30 @@ impl<R: Wait, W: Side, T: Side> Broker<R, W, T> {
         let ended = locked.unsubscribe(sub)?;
         self.opens.note(topic, locked.open_len());
         Ok(ended)
+    }
+
+    /// Ends the topic's subscriptions of these numbers, in order, in one hold of the lock: what `unsubscribe` answers for
+    /// each. Memory for the answers is made before the lock; out of memory nothing has ended.
+    pub fn unsubscribe_all(
+        &self,
+        rt: &R,
+        topic: Topic,
+        numbers: &[u64],
+    ) -> Result<Vec<Result<Ended<Source<R>>, NoSub>>, NoMemory>
+        ensures each { IfOk result (λ answers. length answers.items ≡ length numbers.now) }
+        ensures nowhere { max_topics ≤ topic.0
+            → IfOk result (λ answers. AllByRecursion (λ answer. IsErr answer) answers.items) }
+    {
+        let mut answers = Vec::with_capacity(self.alloc, numbers.len())?;
+        let Some(lock) = self.lock_of(topic) else {
+            refuse_all(numbers.len(), &mut answers);
+            return Ok(answers);
+        };
+        let mut locked = lock.lock(rt);
+        locked.unsubscribe_all(numbers, &mut answers);
+        self.opens.note(topic, locked.open_len());
+        drop(locked);
+        Ok(answers)
     }
 
     /// Whether the topic's subscription of this number is open or has lagged, if there is one.
@@ -650,6 +675,18 @@ fn locks_of<R: Wait, T: Side>(
         locks.push(CachePadded::new(Mutex::new(topic)))?;
     }
     Ok(locks)
+}
+
+/// So many answers that there is no subscription, in a list that has room for them.
+fn refuse_all<T>(count: usize, answers: &mut Vec<Result<T, NoSub>>)
+    requires empty { answers.old.items ≡ [] }
+    requires room { count ≤ vec_capacity answers.old }
+    ensures each { length answers.new.items ≡ count }
+    ensures nobody { AllByRecursion (λ answer. IsErr answer) answers.new.items }
+{
+    for _ in 0..count {
+        answers.push_reserved(Err(NoSub));
+    }
 }
 
 /// The counts of all topics, where these shares are of all workers that joined.

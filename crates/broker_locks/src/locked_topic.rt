@@ -1,6 +1,6 @@
 //! What one topic's lock guards.
 
-ghost use Rattle.std.specs.Prelude.{◌≡◌, ◌≢◌, ◌⊎◌, ◌+◌, ◌++◌, ◌*◌, ◌<◌, ◌==◌, ℕ, [], true, false, None, Some, IfOk, IfErr, IfSome, OnOk, OnErr};
+ghost use Rattle.std.specs.Prelude.{◌≡◌, ◌≢◌, ◌⊎◌, ◌+◌, ◌++◌, ◌*◌, ◌<◌, ◌≤◌, ◌==◌, ℕ, [], length, true, false, None, Some, IfOk, IfErr, IfSome, OnOk, OnErr, vec_capacity};
 ghost use Rattle.std.specs.List.{list_any};
 ghost use Rattle.sub_queue.specs.Ends.{shown_of_source};
 ghost use Rattle.mcast_group.specs.CellGroup.{open_count};
@@ -9,7 +9,8 @@ ghost use Rattle.mcast_group.specs.declared.fault.ProposeFault.TheVariants.{Cloc
 ghost use Rattle.mcast_group.specs.Machine.{cancel_fault, next_number};
 ghost use Rattle.delivery.specs.Topics.{max_topics};
 ghost use Rattle.trace_audit.specs.declared.fault.AddFault.TheVariants.{Misfit};
-ghost use Rattle.broker_locks.specs.Place.{HasDoneNothing, HasTurned, IsIdle, new_place, place_after_cancel, place_after_propose, place_after_subscribe, place_after_unsubscribe, place_fault, place_subscribe_fault, topic_limit};
+ghost use Rattle.broker_locks.specs.Inner.Waited.{waiting_without_each};
+ghost use Rattle.broker_locks.specs.Place.{EndsInOrder, EndsOne, HasDoneNothing, HasTurned, IsIdle, new_place, place_after_cancel, place_after_propose, place_after_subscribe, place_after_unsubscribe, place_fault, place_subscribe_fault, topic_limit};
 ghost use Rattle.broker_locks.specs.Room.{HasHeard, IsFirstOfLacking, KeepsRoom, fits, is_waited_for, lacking_room, more_reserved, one_given_back, one_reserved, reserve_answer, room_after_enter, waiting_for, waiting_without};
 
 use crate::counts::Counts;
@@ -240,6 +241,7 @@ impl<R: Wait, T: Side> LockedTopic<R, T> {
 
     /// Ends the subscription of this number, as the place does. It isn't waited for any more.
     pub(crate) fn unsubscribe(&mut self, number: u64) -> Result<Ended<Source<R>>, NoSub>
+        ensures ends { EndsOne shown_of_source number result self.old.place self.new.place }
         ensures ok { OnOk result (self.new.place ≡ place_after_unsubscribe number self.old.place) }
         ensures err { OnErr result (self.new.place ≡ self.old.place) }
         ensures room { self.new.room ≡ waiting_without number self.old.room }
@@ -247,6 +249,23 @@ impl<R: Wait, T: Side> LockedTopic<R, T> {
         self.place.balanced();
         self.room.forget(number);
         self.place.unsubscribe(number)
+    }
+
+    /// Ends the subscriptions of these numbers, in order, and puts what each end answers into a list, which has room for
+    /// that. They aren't waited for any more.
+    pub(crate) fn unsubscribe_all(
+        &mut self,
+        numbers: &[u64],
+        answers: &mut Vec<Result<Ended<Source<R>>, NoSub>>,
+    )
+        requires empty { answers.old.items ≡ [] }
+        requires room { length numbers.now ≤ vec_capacity answers.old }
+        ensures ends { EndsInOrder shown_of_source numbers.now answers.new.items self.old.place self.new.place }
+        ensures room { self.new.room ≡ waiting_without_each numbers.now self.old.room }
+    {
+        for &number in numbers {
+            answers.push_reserved(self.unsubscribe(number));
+        }
     }
 
     /// Reserves room for one part more, of so many octets, where queues are of this capacity. Refused by the first of the

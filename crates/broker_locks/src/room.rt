@@ -236,8 +236,10 @@ impl Room {
     pub(crate) fn forget(&mut self, number: u64)
         ensures { self.new ≡ waiting_without number self.old }
     {
-        self.waited.retain(|other| *other != number);
-        self.free_empty();
+        if let Ok(index) = self.search(number) {
+            self.waited.remove(index);
+            self.free_empty();
+        }
     }
 
     /// Adds the numbers of those that are waited for and lack room for one part more, of so many octets, to a list, where

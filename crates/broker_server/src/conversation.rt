@@ -6,7 +6,7 @@ ghost use Rattle.std.specs.Option.{is_none, is_some, option_map};
 ghost use Rattle.stomp_frame.specs.declared.fault.FrameFault.{FrameFault};
 ghost use Rattle.stomp_frame.specs.declared.raw_frame.RawFrame.{RawFrame};
 ghost use Rattle.stomp_frame.specs.ClientFrames.{raw_of};
-ghost use Rattle.broker_server.specs.BrokerRows.{AsksInOrder, BrokerRow, Unsubscribes};
+ghost use Rattle.broker_server.specs.BrokerRows.{AsksInOrder, BrokerRow};
 ghost use Rattle.broker_server.specs.Conversations.{PutsFrames, EndsByError, EndsSaying, Connects, Begins, EndsSub, CommitsSends, CommitsBy, Acts, Answers, Concludes, IsLost};
 ghost use Rattle.broker_server.specs.ConversationFaults.{tells_version};
 ghost use Rattle.broker_server.specs.Delivering.{DeliversRound, may_read};
@@ -18,6 +18,7 @@ ghost use Rattle.broker_server.specs.Conversations.{closed, IsNew, closing_rows,
 ghost use Rattle.stomp_session.specs.declared.action.Action.TheVariants as actions;
 
 mod broker_calls;
+mod closing;
 mod conversation_fault;
 mod drained;
 mod exit;
@@ -30,6 +31,7 @@ use crate::draining::drain_wire;
 use crate::program_fault::ProgramFault;
 use crate::wire::Wire;
 pub use broker_calls::BrokerCalls;
+use closing::end_subs;
 pub use conversation_fault::ConversationFault;
 use drained::Taking;
 pub use exit::Exit;
@@ -581,7 +583,8 @@ impl<C: BrokerCalls> Conversation<C> {
         self.more = false;
         self.half = false;
         self.session.end();
-        end_subs(calls, mem::replace(&mut self.subs, Vec::new(self.alloc)));
+        let subs = mem::replace(&mut self.subs, Vec::new(self.alloc));
+        end_subs(self.alloc, calls, subs);
         give_up(calls, self.gate.take());
     }
 
@@ -671,15 +674,6 @@ fn next_without(next: usize, index: usize) -> usize
     ensures { result ≡ next_without index next }
 {
     if index < next { next - 1 } else { next }
-}
-
-/// Ends these subscriptions, in order.
-fn end_subs<C: BrokerCalls>(calls: &mut C, subs: Vec<OpenSub<C>>)
-    ensures { AsksInOrder C.called calls.old (map (λ o. Unsubscribes o.sub) subs.items) calls.new }
-{
-    for open in subs {
-        calls.unsubscribe(open.sub);
-    }
 }
 
 /// Gives the gate back, if there is one.

@@ -6,7 +6,6 @@ ghost use Rattle.broker_server.specs.Lines.{IsRoomAt};
 ghost use Rattle.broker_server.specs.UnturnedTopics.{none_unturned};
 
 use crate::conversation::{BrokerCalls, ConversationFault};
-use crate::serving::account::Account;
 use crate::serving::activity::Activity;
 use crate::serving::asker::Asker;
 use crate::serving::bell::Bell;
@@ -15,18 +14,19 @@ use crate::serving::moment::Moment;
 use crate::serving::peer::Peer;
 use crate::serving::room_made::RoomMade;
 use crate::serving::seat::Seat;
+use crate::serving::seated_sub::SeatedSub;
 use crate::serving::shortened::Shortened;
 use crate::serving::unturned::Unturned;
 use crate::serving::wait_news::WaitNews;
 use crate::serving::waiting::{Stop, Waiting};
 use crate::spelled::Spelled;
-use broker_locks::{CommitFault, NoRoom, Reserved, Side, Subscribed, Worker};
+use broker_locks::{CommitFault, NoRoom, Reserved, Side, Worker};
 use log::{Log, info, warn};
 use mcast_group::{SubFault, SubState};
-use mcast_txn::{Released, Topic, Txn};
+use mcast_txn::{NoMemory, Released, Topic, Txn};
 use sender_gate::{ClaimFault, Flying, Gate};
 use std::alloc::{AllocError, Global};
-use std::sync::atomic::{AtomicBool, Ordering};
+use std::slice::from_ref;
 use std::sync::{Arc, Wait};
 use std::time::Clock;
 use stomp_frame::ClientFrame;
@@ -38,20 +38,6 @@ const AT_ONCE: u64 = 16;
 
 /// The most octets of a topic's name: as many as a line has.
 const MOST_NAMED: usize = 4_096;
-
-/// An open subscription of a connection, with its seat.
-#[derive(Drop)]
-pub(crate) struct SeatedSub {
-    topic: Topic,
-    begun: Subscribed,
-    seat: Arc<Seat>,
-    /// How many items were taken since the topic was told how many were.
-    untold: u64,
-    /// Whether it has ended at its topic.
-    over: AtomicBool,
-    /// Whether it was said that it has lagged.
-    said: AtomicBool,
-}
 
 /// What one connection asks of the broker, and which topics it still has to turn.
 #[derive(Drop)]
@@ -179,42 +165,60 @@ impl<'a, R: Wait + Log + Clock, W: Side, T: Side> Calls<'a, R, W, T> {
     /// tells itself. Whether it has lagged.
     pub(crate) fn end_lagged(&mut self, sub: &SeatedSub) -> bool {
         let has_lagged = self.has_lagged(sub);
-        if has_lagged && !sub.over.load(Ordering::SeqCst) {
-            self.end(sub);
+        if has_lagged && sub.end() {
+            self.end_at(sub.topic, from_ref(sub));
             self.bell.ring();
         }
         has_lagged
     }
 
-    /// Ends this subscription at its topic, unless it has ended there. That may make room there.
-    fn end(&self, sub: &SeatedSub) {
-        if sub.over.swap(true, Ordering::SeqCst) {
-            return;
+    /// Ends these subscriptions of this topic: their seats are taken out, and then they end, all of them at once where there
+    /// is memory for that. That may make room there.
+    fn end_at(&self, topic: Topic, subs: &[SeatedSub]) {
+        self.take_seats(topic, subs);
+        if self.unsubscribe_at(topic, subs).is_err() {
+            self.unsubscribe_each(topic, subs);
         }
-        if let Some(account) = self.hub.unlisten(self.rt, sub.topic, &sub.seat) {
-            self.settle(sub.topic, &account);
-        }
-        let _ = self
-            .hub
-            .running
-            .broker
-            .unsubscribe(self.rt, sub.topic, sub.begun.sub);
-        self.room_made(sub);
+        self.hub.room_made(self.rt, topic, made_by_ends(subs));
     }
 
-    /// A subscription to this topic ends that had this account: where its client is behind, it pays what it was spared.
-    fn settle(&self, topic: Topic, account: &Account) {
+    /// Takes the seats of these subscriptions out of this topic: where their client is behind, each pays what it was
+    /// spared.
+    fn take_seats(&self, topic: Topic, subs: &[SeatedSub]) {
+        let Some(seats) = self.hub.seats(topic) else {
+            return;
+        };
         let intake = self.bell.intake();
-        if intake.is_behind()
-            && let Some(seats) = self.hub.seats(topic)
-        {
-            seats.settle(self.rt, Moment::now(self.rt), account, intake);
+        if intake.is_behind() {
+            seats.remove_behind(self.rt, Moment::now(self.rt), subs, intake);
+        } else {
+            seats.remove_all(self.rt, subs);
+        }
+    }
+
+    /// Ends these subscriptions at the topic, in one hold of its lock; out of memory, none of them.
+    fn unsubscribe_at(&self, topic: Topic, subs: &[SeatedSub]) -> Result<(), NoMemory> {
+        let mut numbers = Vec::with_capacity(self.alloc, subs.len())?;
+        for sub in subs {
+            numbers.push(sub.begun.sub)?;
+        }
+        let broker = &self.hub.running.broker;
+        let ended = broker.unsubscribe_all(self.rt, topic, numbers.as_slice())?;
+        drop(ended);
+        Ok(())
+    }
+
+    /// Ends these subscriptions at the topic, one by one.
+    fn unsubscribe_each(&self, topic: Topic, subs: &[SeatedSub]) {
+        let broker = &self.hub.running.broker;
+        for sub in subs {
+            let _ = broker.unsubscribe(self.rt, topic, sub.begun.sub);
         }
     }
 
     /// This subscription was found to have lagged: it is said and counted, once.
     fn note_lag(&mut self, sub: &SeatedSub) {
-        if sub.said.swap(true, Ordering::SeqCst) {
+        if !sub.say_lagged() {
             return;
         }
         self.activity.lags();
@@ -486,7 +490,7 @@ impl<'a, R: Wait + Log + Clock, W: Side, T: Side> Calls<'a, R, W, T> {
         if sub.untold > 0 {
             self.tell_taken(sub);
         }
-        if sub.seat.take_passed_over() && !sub.over.load(Ordering::SeqCst) {
+        if sub.seat.take_passed_over() && !sub.is_over() {
             let broker = &self.hub.running.broker;
             if !broker.wait_for(self.rt, sub.topic, sub.begun.sub) {
                 sub.seat.set_passed_over();
@@ -504,6 +508,14 @@ impl<'a, R: Wait + Log + Clock, W: Side, T: Side> Calls<'a, R, W, T> {
         if self.commits >= self.most {
             self.turn_topics();
         }
+    }
+}
+
+/// By what room may have been made where these subscriptions ended.
+fn made_by_ends(subs: &[SeatedSub]) -> RoomMade {
+    match subs {
+        [sub] => RoomMade::At(sub.begun.sub),
+        _ => RoomMade::Freed,
     }
 }
 
@@ -569,30 +581,42 @@ impl<'a, R: Wait + Log + Clock, W: Side, T: Side> BrokerCalls for Calls<'a, R, W
                     seat.set_passed_over();
                 }
                 self.subs = self.subs.saturating_add(1);
-                Ok(SeatedSub {
-                    topic,
-                    begun,
-                    seat,
-                    untold: 0,
-                    over: AtomicBool::new(false),
-                    said: AtomicBool::new(false),
-                })
+                Ok(SeatedSub::new(topic, begun, seat))
             }
             Err(fault) => {
-                let _ = self.hub.unlisten(self.rt, topic, &seat);
+                self.hub.unlisten(self.rt, topic, &seat);
                 Err(fault)
             }
         }
     }
 
     fn unsubscribe(&mut self, sub: SeatedSub) {
-        self.end(&sub);
+        if sub.end() {
+            self.end_at(sub.topic, from_ref(&sub));
+        }
         self.subs = self.subs.saturating_sub(1);
         drop(sub);
     }
 
+    /// Those of one topic end there together.
+    fn end_all(&mut self, subs: Vec<SeatedSub>) {
+        if subs.is_empty() {
+            return;
+        }
+        self.subs = self.subs.saturating_sub(subs.len() as u64);
+        let mut subs = subs;
+        subs.retain(|sub| sub.end());
+        subs.sort_unstable_by_key(|sub| sub.topic.0);
+        for at_one in subs.chunk_by(|sub, other| sub.topic.0 == other.topic.0) {
+            if let Some(sub) = at_one.first() {
+                self.end_at(sub.topic, at_one);
+            }
+        }
+        drop(subs);
+    }
+
     fn has_lagged(&mut self, sub: &SeatedSub) -> bool {
-        if sub.over.load(Ordering::SeqCst) {
+        if sub.is_over() {
             return true;
         }
         let state = self

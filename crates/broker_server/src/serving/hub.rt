@@ -1,11 +1,10 @@
 //! What the server's threads share.
 
-ghost use Rattle.std.specs.Prelude.{◌≡◌, ◌≤◌, ◌++◌, length, take, Ok, None, OnOk, OnErr, slice_get};
+ghost use Rattle.std.specs.Prelude.{◌≡◌, ◌≤◌, ◌++◌, length, take, Ok, OnOk, OnErr, slice_get};
 ghost use Rattle.std.specs.Option.{option_map};
 ghost use Rattle.mcast_txn.specs.Transaction.{topics_of};
 ghost use Rattle.broker_server.specs.Lines.{IsRoomFrom};
 
-use crate::serving::account::Account;
 use crate::serving::bell::Bell;
 use crate::serving::figures::Figures;
 use crate::serving::head::Head;
@@ -302,13 +301,10 @@ impl<R: Wait, W: Side, T: Side> Hub<R, W, T> {
         }
     }
 
-    /// Who has this seat is told no longer. What waiting for it has cost.
-    pub(crate) fn unlisten(&self, rt: &R, topic: Topic, seat: &Seat) -> Option<Account>
-        ensures { length self.now.topics.items ≤ topic.0 → result ≡ None }
-    {
-        match self.topics.get(topic.0 as usize) {
-            Some(topic) => topic.remove(rt, seat),
-            None => None,
+    /// Who has this seat is told no longer.
+    pub(crate) fn unlisten(&self, rt: &R, topic: Topic, seat: &Seat) {
+        if let Some(topic) = self.topics.get(topic.0 as usize) {
+            topic.remove(rt, seat);
         }
     }
 

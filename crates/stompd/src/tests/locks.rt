@@ -4,6 +4,7 @@ mod audited;
 mod broker;
 mod commits;
 mod crowd;
+mod ends;
 mod fake;
 mod faults;
 mod flights;

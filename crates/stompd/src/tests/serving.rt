@@ -19,6 +19,7 @@ mod queued;
 mod served;
 mod sizes;
 mod slow;
+mod subscribed;
 mod unconnected;
 mod unread;
 mod waiting;

@@ -4,7 +4,7 @@ use Rattle.std.specs.Vec.Iter.{into_iter_items}
 use Rattle.broker_server.specs.BrokerRows.{AsksInOrder, BrokerRow, SubName, Unsubscribes}
 use Rattle.broker_server.specs.Conversations.{OpenSubState}
 use Rattle.broker_server.proofs.ConversationLemmas.{asks_on, asks_one}
-use Rattle.broker_server.proofs.conversation.end_subs.Goals as goal
+use Rattle.broker_server.proofs.conversation.closing.end_each.Goals as goal
 
 pub loop-open-preserved : goal.loop-open-preserved
 loop-open-preserved g c =

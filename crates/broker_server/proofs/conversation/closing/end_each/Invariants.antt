@@ -2,7 +2,7 @@ use Rattle.std.proofs.Common.{◌≡◌, ◌++◌, map}
 use Rattle.std.specs.Vec.Iter.{into_iter_items}
 use Rattle.broker_server.specs.BrokerRows.{AsksInOrder, Unsubscribes}
 use Rattle.broker_server.specs.Conversations.{OpenSubState}
-use Rattle.broker_server.proofs.conversation.end_subs.Given as goal
+use Rattle.broker_server.proofs.conversation.closing.end_each.Given as goal
 
 -- those so far were ended
 abbrev pub invariant-loop-open : goal.invariant-loop-open
