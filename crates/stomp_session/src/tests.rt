@@ -9,4 +9,5 @@ mod memory;
 mod names;
 mod plain;
 mod session;
+mod shared;
 mod transactions;
