@@ -4,6 +4,7 @@ mod ends;
 mod eols;
 mod fake;
 mod faults;
+mod ignored;
 mod items;
 mod pieces;
 mod talk;
