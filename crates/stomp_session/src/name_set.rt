@@ -65,10 +65,10 @@ impl NameSet {
         ensures { result ≡ position (bytes_eq text.now) self.now }
     {
         let first = *self.firsts.get(&fingerprint(text))?;
-        if self.name(first) == Some(text) {
-            return Some(first);
+        match self.name(first) {
+            Some(name) if name == text => Some(first),
+            _ => walk(self.names.as_slice(), text),
         }
-        self.names.iter().position(|name| name.octets() == text)
     }
 
     /// Puts a name behind the others.
@@ -83,14 +83,14 @@ impl NameSet {
         Ok(())
     }
 
-    /// The first `count` of these names, which stay shared, with room for one more.
+    /// The first `count` of these names, which both share.
     pub(crate) fn copy(&self, alloc: Global, count: usize) -> Result<NameSet, NoMemory>
         requires { count ≤ length self.now }
         ensures { IfOk result (λ set. set ≡ take count self.now) }
     {
         let mut copy = NameSet::new(alloc);
-        for name in &self.names[..count] {
-            copy.add(Arc::try_clone(name)?)?;
+        for index in 0..count {
+            copy.add(Arc::try_clone(&self.names[index])?)?;
         }
         Ok(copy)
     }
@@ -106,8 +106,16 @@ fn note_first(
         ≡ option_or (get nat_eq firsts.old f) (cond (nat_eq f fingerprint) (Some at) None)) }
     ensures err { OnErr result (firsts.new.entries ≡ firsts.old.entries) }
 {
-    if !firsts.contains_key(&fingerprint) {
-        firsts.insert(fingerprint, at)?;
+    if firsts.contains_key(&fingerprint) {
+        return Ok(());
     }
+    firsts.insert(fingerprint, at)?;
     Ok(())
+}
+
+/// The index of the first of these names that has these octets.
+fn walk(names: &[Arc<Name>], text: &[u8]) -> Option<usize>
+    ensures { result ≡ position (λ name. bytes_eq (arc_value name) text.now) names.now }
+{
+    names.iter().position(|name| name.octets() == text)
 }
