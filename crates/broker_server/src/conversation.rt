@@ -22,6 +22,8 @@ mod closing;
 mod conversation_fault;
 mod drained;
 mod exit;
+mod ignored;
+mod ignored_so_far;
 mod item_rest;
 mod named_last;
 mod open_sub;
@@ -35,6 +37,8 @@ use closing::end_subs;
 pub use conversation_fault::ConversationFault;
 use drained::Taking;
 pub use exit::Exit;
+pub use ignored::Ignored;
+use ignored_so_far::IgnoredSoFar;
 use mcast_txn::{Topic, Txn};
 use named_last::NamedLast;
 use open_sub::OpenSub;
@@ -84,6 +88,8 @@ pub struct Conversation<C: BrokerCalls> {
     sends: u64,
     /// The topics that frames' destinations named last. No contract speaks of them.
     named: NamedLast,
+    /// What it asked for that is ignored, for the log: no contract speaks of it.
+    ignored: IgnoredSoFar,
 }
 
 impl<C: BrokerCalls> Drop for Conversation<C> {
@@ -106,6 +112,7 @@ impl<C: BrokerCalls> Drop for Conversation<C> {
             capacity: _,
             sends: _,
             named: _,
+            ignored: _,
         } = self;
         drop(reader);
         drop(session);
@@ -161,6 +168,7 @@ impl<C: BrokerCalls> Conversation<C> {
             capacity,
             sends: 0,
             named: NamedLast::new(),
+            ignored: IgnoredSoFar::new(),
         }
     }
 
@@ -185,6 +193,18 @@ impl<C: BrokerCalls> Conversation<C> {
     /// How many SENDs it committed.
     pub(crate) fn sends(&self) -> u64 {
         self.sends
+    }
+
+    /// What it asked for so far that is ignored.
+    pub(crate) fn ignored(&self) -> Ignored {
+        self.ignored.asked
+    }
+
+    /// Notes what a frame asks for that is ignored.
+    fn note_ignored(&mut self, frame: &RawFrame)
+        ensures { self.new ≡ self.old }
+    {
+        self.ignored.look(frame);
     }
 
     /// What waits to be written.
@@ -329,6 +349,7 @@ impl<C: BrokerCalls> Conversation<C> {
         ensures { (asked : List BrokerRow) × AsksInOrder C.called calls.old asked calls.new
             × TakesFrame frame self.old asked self.new }
     {
+        self.note_ignored(&frame);
         let frame = match classify(frame) {
             Ok(frame) => frame,
             Err((frame, fault)) => {

@@ -5,6 +5,7 @@ mod drawn;
 mod ending;
 mod errors;
 mod figures;
+mod ignored;
 mod large;
 mod lines;
 mod log_lines;
