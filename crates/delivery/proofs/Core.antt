@@ -27,6 +27,8 @@ pub mod AccountOfRun
 pub mod SaidParts
 pub mod AtNext
 pub mod LagsAsTold
+pub mod Moments
+pub mod BoundedAtEach
 pub mod Tells
 pub mod ToldSettled
 pub mod ToldOfSteps
