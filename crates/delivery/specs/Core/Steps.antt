@@ -124,12 +124,9 @@ number_by c id (step ∷ older) =
 -- the fault is of a frame that was read
 abbrev pub has_frame : ConnectionFault → Bool
 has_frame (ConnectionFault.Stream k) = false
-has_frame (ConnectionFault.Frame k) = true
-has_frame (ConnectionFault.Session k) = true
-has_frame ConnectionFault.SenderInUse = true
-has_frame ConnectionFault.TooManyClients = true
 has_frame ConnectionFault.Lagged = false
 has_frame ConnectionFault.ReaderNoMemory = false
+has_frame fault = true
 
 -- the outcome of a Next says that a frame was read
 abbrev pub says_frame : Outcome → Bool
