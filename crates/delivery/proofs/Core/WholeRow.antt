@@ -23,6 +23,7 @@ use Rattle.mcast_txn.specs.Transaction.{topics_of}
 use Rattle.mcast_group.specs.declared.cause.Cause.TheVariants.{Asked, Lag}
 use Rattle.mcast_group.proofs.Parts.{some_same, none_some}
 use Rattle.delivery.specs.declared.event.Event.{Event}
+use Rattle.delivery.specs.declared.outcome.Outcome.{Outcome}
 use Rattle.delivery.specs.declared.outcome.Outcome.TheVariants.{Opened, Fed, Done, Subscribed, Unsubscribed, Flying, Proposed, Decided, Turned, Handed}
 use Rattle.delivery.specs.Topics.{TopicList}
 use Rattle.delivery.specs.Theorem.Due.{log_row, item_at, is_due}
@@ -30,7 +31,7 @@ use Rattle.delivery.specs.Theorem.Laws.{shared_marks}
 use Rattle.delivery.specs.Theorem.Settled.{SilentAfterClose}
 use Rattle.delivery.specs.Machine.Moves.{Answer}
 use Rattle.delivery.specs.Machine.Runs.{commits_of, delivered_items}
-use Rattle.delivery.specs.Core.Steps.{CoreStep, BeginsWithFrames, fed_octets, frames_of, frame_in, is_fed, reader_limits}
+use Rattle.delivery.specs.Core.Steps.{CoreStep, BeginsWithFrames, fed_octets, frames_of, frame_in, reader_limits}
 use Rattle.delivery.specs.Core.Account.{account_of, released_log, released_frontier}
 use Rattle.delivery.specs.Core.Output.{text_out}
 use Rattle.delivery.specs.Core.State.{new_core}
@@ -136,13 +137,13 @@ unfolding checked line_at after_eols command_of field_of header_of headers_at co
 eight_is = refl
 
 -- what was fed to a connection and read of it, where it is connection 0, and where it isn't
-abbrev piece_if : Bool → Event → List ℕ
-piece_if b (Event.Piece d octets) = if b then octets else []
-piece_if b e = []
+abbrev piece_if : Bool → Event → Outcome → List ℕ
+piece_if b (Event.Piece d octets) Outcome.Fed = if b then octets else []
+piece_if b e o = []
 
 abbrev fed_if : Bool → List CoreStep → List ℕ
 fed_if b [] = []
-fed_if b (step ∷ older) = fed_if b older ++ (if is_fed step.outcome then piece_if b step.event else [])
+fed_if b (step ∷ older) = fed_if b older ++ piece_if b step.event step.outcome
 
 abbrev next_if : Bool → Event → Bool
 next_if b (Event.Next d) = b
