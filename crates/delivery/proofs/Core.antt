@@ -16,6 +16,7 @@ pub mod WholeRow
 pub mod SteppedRows
 -- The delivery of every run.
 pub mod Said
+pub mod SenderPlaces
 pub mod ClaimsStand
 pub mod Speaking
 pub mod ByRun
