@@ -51,13 +51,13 @@ always_one P Q f (x ∷ xs) h = (f (x ∷ xs) h.0, always_one P Q f xs h.1)
 -- each moment of what an account says is one of the answers
 pub always_said : (P : List Answer → Type 0) → ((past : List Answer) → P past → P (said past)) → (past : List Answer) → Always P past → Always P (said past)
 always_said P f [] h = h
-always_said P f (o ∷ past) h = by_case (is_said o) refl
+always_said P f (o ∷ past) h = by_case (is_said o) refl (always_said P f past h.1)
   where
-    by_case : (b : Bool) → is_said o ≡ b → Always P (said (o ∷ past))
-    by_case true e =
+    by_case : (b : Bool) → is_said o ≡ b → Always P (said past) → Always P (said (o ∷ past))
+    by_case true e k =
         subst (λ (z : List Answer). Always P z) (sym (said_kept o past e))
-        (subst P (said_kept o past e) (f (o ∷ past) h.0), always_said P f past h.1)
-    by_case false e = subst (λ (z : List Answer). Always P z) (sym (unsaid_same o past e)) (always_said P f past h.1)
+        (subst P (said_kept o past e) (f (o ∷ past) h.0), k)
+    by_case false e k = subst (λ (z : List Answer). Always P z) (sym (unsaid_same o past e)) k
 
 -- each moment of what is told is one of the answers, or one between what a withdrawal tells
 pub always_told : (P : List Told → Type 0) → ((txn : Transaction) (told : List Told) → P told → P (Told.Withdrawn txn ∷ told))
