@@ -17,6 +17,7 @@ pub mod WholeRow
 pub mod SteppedRows
 -- The delivery of every run.
 pub mod Said
+pub mod SenderPlaces
 pub mod ClaimsStand
 pub mod Speaking
 pub mod ByRun
@@ -28,6 +29,8 @@ pub mod AccountOfRun
 pub mod SaidParts
 pub mod AtNext
 pub mod LagsAsTold
+pub mod Moments
+pub mod BoundedAtEach
 pub mod Tells
 pub mod ToldSettled
 pub mod ToldOfSteps
