@@ -52,6 +52,13 @@ fn new_name<'a>(all: &Names, frame: &'a ClientFrame) -> Option<&'a [u8]>
     }
 }
 
+/// Whether a frame may make a topic, where these are the names of all.
+pub(crate) fn may_make(all: &Names, frame: &ClientFrame) -> bool
+    ensures { result ≡ true → length all.now < max_topics }
+{
+    new_name(all, frame).is_some()
+}
+
 /// Puts the name of the topic that a frame may make behind those of all topics; whether there is one.
 fn add_new(all: &mut Names, frame: &ClientFrame) -> Result<bool, NoMemory>
     ensures made { IfOk result (λ made. made ≡ true
@@ -67,7 +74,7 @@ fn add_new(all: &mut Names, frame: &ClientFrame) -> Result<bool, NoMemory>
 }
 
 /// Has the session take a frame by the names of all topics, which the connection knows then where it is accepted.
-fn step_by(
+pub(crate) fn step_by(
     all: &Names,
     session: &mut Session,
     frame: ClientFrame,
