@@ -206,7 +206,7 @@ inline turn_now(at) {
 #endif
 }
 
-/* calls.rt end: the flag, then hub.rt unlisten, then the broker */
+/* calls.rt end_at, of one: the flag, then the seat, topic_seats.rt remove_all, then the broker */
 inline sub_end(sub) {
   if
   :: over[sub] -> skip
@@ -240,14 +240,26 @@ inline sub_has_lagged(sub, is) {
   fi
 }
 
-/* conversation.rt close: all that is open ends */
+#define EACH_OF(c, at, does) for (s : 0 .. SUBS - 1) { if :: TOPIC(s) == at && TAKER(s) == c && held[s] -> does :: else fi } s = 0
+/* conversation.rt close, calls.rt end_all: all that is open ends, that of one topic at once, calls.rt end_at: the seats,
+   topic_seats.rt remove_all, then the subscriptions, broker.rt unsubscribe_all */
 inline talk_close(c, why) {
   d_step { exit[c] = why; more[c] = false };
-  for (e : 0 .. SUBS - 1) {
+  for (e : 0 .. TOPICS - 1) {
+    d_step { EACH_OF(c, e, some = some || !over[s]; over[s] = true) };
     if
-    :: held[e] && TAKER(e) == c -> held[e] = false; sub_end(e)
+    :: some ->
+       some = false;
+#ifdef M_ENDS_BEFORE_SEAT
+       LOCK(topic[e]); d_step { EACH_OF(c, e, open_[s] = false) }; UNLOCK(topic[e]);
+       LOCK(seats[e]); d_step { EACH_OF(c, e, seated[s] = false) }; UNLOCK(seats[e]);
+#else
+       LOCK(seats[e]); d_step { EACH_OF(c, e, seated[s] = false) }; UNLOCK(seats[e]);
+       LOCK(topic[e]); d_step { EACH_OF(c, e, open_[s] = false) }; UNLOCK(topic[e]);
+#endif
     :: else
-    fi
+    fi;
+    d_step { EACH_OF(c, e, held[s] = false) }
   }
   e = 0
 }

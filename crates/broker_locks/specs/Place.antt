@@ -1,5 +1,5 @@
 -- What one topic's lock guards: the topic, and beside it counts and, if one is kept, a trace.
-use Rattle.std.specs.Prelude.{◌≡◌, ◌==◌, ◌&&◌, ◌+◌, ◌-◌, ◌≤◌, nat_lt, ℕ, Bool, false, List, [], length}
+use Rattle.std.specs.Prelude.{◌≡◌, ◌==◌, ◌&&◌, ◌+◌, ◌-◌, ◌≤◌, ◌∷◌, nat_lt, ℕ, Bool, false, List, [], length}
 use Rattle.std.specs.Prelude.{Option, Some, None, IfSome, if◌then◌else◌, Result, Ok, Err}
 use Rattle.std.specs.Option.{option_map}
 use Rattle.mcast_txn.specs.declared.id.Topic.{Topic}
@@ -16,11 +16,13 @@ use Rattle.mcast_group.specs.declared.fault.ProposeFault.{ProposeFault}
 use Rattle.mcast_group.specs.declared.fault.ProposeFault.TheVariants.{Twice}
 use Rattle.mcast_group.specs.CellGroup.{CellGroupState, CellTurns, ProposalState}
 use Rattle.mcast_group.specs.CellGroup.{cell_group_after_cancel, cell_group_after_propose, new_cell_group, open_count}
-use Rattle.mcast_group.specs.Group.{group_after_subscribe, group_after_unsubscribe}
+use Rattle.mcast_group.specs.Group.{HasLeft, group_after_subscribe, group_after_unsubscribe}
+use Rattle.mcast_group.specs.declared.ended.Ended.{Ended}
+use Rattle.mcast_group.specs.declared.fault.NoSub.{NoSub}
 use Rattle.mcast_group.specs.declared.fault.SubFault.{SubFault}
 use Rattle.mcast_group.specs.declared.turned.Turned.{Turned}
 use Rattle.mcast_group.specs.declared.fault.SubFault.TheVariants.{SubInUse}
-use Rattle.mcast_group.specs.Machine.{after_drain, due_part, propose_fault, subscribe_fault}
+use Rattle.mcast_group.specs.Machine.{after_drain, due_part, propose_fault, subscribe_fault, unsubscribe_fault}
 use Rattle.mcast_group.specs.Sound.{IsSound}
 use Rattle.trace_audit.specs.declared.row.TraceRow.{TraceRow}
 use Rattle.broker_locks.specs.KeptTrace.{KeptTrace, KeepsTrace, no_trace, rows_kept, was_used}
@@ -180,3 +182,22 @@ place_after_unsubscribe number place = record place {
   cells = record place.cells { group = group_after_unsubscribe number place.cells.group };
   kept = option_map (kept_after_unsubscribe number place.cells.group.topic) place.kept;
 }
+
+-- The subscription of this number was asked to end: it left this, and was ended; or there is none, and the place is
+-- as it was.
+abbrev pub EndsOne : {Q : Type 0} → (Q → Shown) → ℕ → Result (Ended Q) NoSub → PlaceState → PlaceState → Type 0
+EndsOne shown number (Ok left) old new =
+    HasLeft number old.cells.group (shown left.outlet) left.to left.cause
+    × (new ≡ place_after_unsubscribe number old)
+EndsOne shown number (Err fault) old new =
+    (unsubscribe_fault number old.cells.group.topic ≡ Some fault) × (new ≡ old)
+
+-- The subscriptions of these numbers were asked to end, one after the other, each with its answer.
+-- So where 5 is asked to end twice, the second answer is that there is none.
+abbrev pub EndsInOrder : {Q : Type 0} → (Q → Shown) → List ℕ → List (Result (Ended Q) NoSub) → PlaceState → PlaceState
+    → Type 0
+EndsInOrder shown [] [] old new = new ≡ old
+EndsInOrder shown (number ∷ numbers) (answer ∷ answers) old new =
+    (between : PlaceState) × EndsOne shown number answer old between × EndsInOrder shown numbers answers between new
+EndsInOrder shown [] (answer ∷ answers) old new = Prim.⊥
+EndsInOrder shown (number ∷ numbers) [] old new = Prim.⊥

@@ -48,6 +48,7 @@ mod running;
 mod said;
 mod seat;
 mod seat_entry;
+mod seated_sub;
 mod second_line;
 mod seldom;
 mod shortened;

@@ -3,7 +3,7 @@
 use crate::conversation::conversation_fault::ConversationFault;
 use broker_locks::CommitFault;
 use mcast_group::SubFault;
-use mcast_txn::{Released, Topic};
+use mcast_txn::{Released, Topic, Txn};
 use sender_gate::{ClaimFault, Flying, Gate};
 use stomp_frame::ClientFrame;
 use stomp_session::{Names, Session, Step};
@@ -12,12 +12,13 @@ use stomp_session::{Names, Session, Step};
 /// a call makes of it is the implementation's to say: where nothing need be said, `ghost called = { λ old row new. Unit
 /// {0} };`, and where the calls are kept, that the list of them has grown by this one.
 pub trait BrokerCalls {
-    ghost use Rattle.std.specs.Prelude.{◌≡◌, ℕ, List, Ok, Err, IfOk, IfErr};
+    ghost use Rattle.std.specs.Prelude.{◌≡◌, ℕ, List, map, Ok, Err, IfOk, IfErr};
     ghost use Rattle.std.specs.Option.{is_some, option_map};
     ghost use Rattle.stomp_frame.specs.ClientFrames.{raw_of};
+    ghost use Rattle.mcast_txn.specs.Transaction.{topics_of};
     ghost use Rattle.broker_locks.specs.Commits.{IsUntouched};
     ghost use Rattle.broker_server.specs.Judging.{Grows, IsFrameAccepted, IsFrameRefused};
-    ghost use Rattle.broker_server.specs.BrokerRows.{BrokerRow, IsGateAfter, SubName, LooksUp, Claims, GivesBack, Subscribes, Unsubscribes, AsksLag, Takes, AsksRoom, GivesRoomBack, Commits};
+    ghost use Rattle.broker_server.specs.BrokerRows.{AsksInOrder, BrokerRow, IsGateAfter, SubName, LooksUp, Claims, GivesBack, Subscribes, Unsubscribes, AsksLag, Takes, AsksRoom, GivesRoomBack, Commits};
 
     /// An open subscription: its topic, its number, and the end of its queue that takes.
     type Sub: Drop;
@@ -67,6 +68,15 @@ pub trait BrokerCalls {
     fn unsubscribe(&mut self, sub: Self::Sub)
         ensures { called self.old (Unsubscribes (name sub)) self.new };
 
+    /// Ends these subscriptions, in order.
+    fn end_all(&mut self, subs: Vec<Self::Sub>)
+        ensures { AsksInOrder called self.old (map (λ sub. Unsubscribes (name sub)) subs.items) self.new }
+    {
+        for sub in subs {
+            self.unsubscribe(sub);
+        }
+    }
+
     /// Whether a subscription has lagged.
     fn has_lagged(&mut self, sub: &Self::Sub) -> bool
         ensures { called self.old (AsksLag (name sub.now) result) self.new };
@@ -76,9 +86,9 @@ pub trait BrokerCalls {
         ensures taken { called self.old (Takes (name sub.old) result) self.new }
         ensures same { name sub.new ≡ name sub.old };
 
-    /// Asks for room at these topics: there is some at each of them, or none is reserved.
-    fn reserve(&mut self, topics: &[Topic]) -> Option<Self::Room>
-        ensures { called self.old (AsksRoom topics.now (is_some result)) self.new };
+    /// Asks for room at the topics of a transaction: there is some at each of them, or none is reserved.
+    fn reserve(&mut self, txn: &Txn) -> Option<Self::Room>
+        ensures { called self.old (AsksRoom (topics_of txn.now) (is_some result)) self.new };
 
     /// Gives room back that isn't used.
     fn give_room_back(&mut self, room: Self::Room)

@@ -1,11 +1,11 @@
 //! What one connection asks of the broker.
 
 ghost use Rattle.std.specs.Prelude.{◌≡◌, ◌<◌, ◌⊎◌, ◌==◌, [], true, IfSome, None, Some};
+ghost use Rattle.mcast_txn.specs.Transaction.{topics_of};
 ghost use Rattle.broker_server.specs.Lines.{IsRoomAt};
 ghost use Rattle.broker_server.specs.UnturnedTopics.{none_unturned};
 
 use crate::conversation::{BrokerCalls, ConversationFault};
-use crate::serving::account::Account;
 use crate::serving::activity::Activity;
 use crate::serving::asker::Asker;
 use crate::serving::bell::Bell;
@@ -14,18 +14,19 @@ use crate::serving::moment::Moment;
 use crate::serving::peer::Peer;
 use crate::serving::room_made::RoomMade;
 use crate::serving::seat::Seat;
+use crate::serving::seated_sub::SeatedSub;
 use crate::serving::shortened::Shortened;
 use crate::serving::unturned::Unturned;
 use crate::serving::wait_news::WaitNews;
 use crate::serving::waiting::{Stop, Waiting};
 use crate::spelled::Spelled;
-use broker_locks::{CommitFault, NoRoom, Reserved, Side, Subscribed, Worker};
+use broker_locks::{CommitFault, NoRoom, Reserved, Side, Worker};
 use log::{Log, info, warn};
 use mcast_group::{SubFault, SubState};
-use mcast_txn::{Released, Topic};
+use mcast_txn::{NoMemory, Released, Topic, Txn};
 use sender_gate::{ClaimFault, Flying, Gate};
 use std::alloc::{AllocError, Global};
-use std::sync::atomic::{AtomicBool, Ordering};
+use std::slice::from_ref;
 use std::sync::{Arc, Wait};
 use std::time::Clock;
 use stomp_frame::ClientFrame;
@@ -37,20 +38,6 @@ const AT_ONCE: u64 = 16;
 
 /// The most octets of a topic's name: as many as a line has.
 const MOST_NAMED: usize = 4_096;
-
-/// An open subscription of a connection, with its seat.
-#[derive(Drop)]
-pub(crate) struct SeatedSub {
-    topic: Topic,
-    begun: Subscribed,
-    seat: Arc<Seat>,
-    /// How many items were taken since the topic was told how many were.
-    untold: u64,
-    /// Whether it has ended at its topic.
-    over: AtomicBool,
-    /// Whether it was said that it has lagged.
-    said: AtomicBool,
-}
 
 /// What one connection asks of the broker, and which topics it still has to turn.
 #[derive(Drop)]
@@ -178,42 +165,60 @@ impl<'a, R: Wait + Log + Clock, W: Side, T: Side> Calls<'a, R, W, T> {
     /// tells itself. Whether it has lagged.
     pub(crate) fn end_lagged(&mut self, sub: &SeatedSub) -> bool {
         let has_lagged = self.has_lagged(sub);
-        if has_lagged && !sub.over.load(Ordering::SeqCst) {
-            self.end(sub);
+        if has_lagged && sub.end() {
+            self.end_at(sub.topic, from_ref(sub));
             self.bell.ring();
         }
         has_lagged
     }
 
-    /// Ends this subscription at its topic, unless it has ended there. That may make room there.
-    fn end(&self, sub: &SeatedSub) {
-        if sub.over.swap(true, Ordering::SeqCst) {
-            return;
+    /// Ends these subscriptions of this topic: their seats are taken out, and then they end, all of them at once where there
+    /// is memory for that. That may make room there.
+    fn end_at(&self, topic: Topic, subs: &[SeatedSub]) {
+        self.take_seats(topic, subs);
+        if self.unsubscribe_at(topic, subs).is_err() {
+            self.unsubscribe_each(topic, subs);
         }
-        if let Some(account) = self.hub.unlisten(self.rt, sub.topic, &sub.seat) {
-            self.settle(sub.topic, &account);
-        }
-        let _ = self
-            .hub
-            .running
-            .broker
-            .unsubscribe(self.rt, sub.topic, sub.begun.sub);
-        self.room_made(sub);
+        self.hub.room_made(self.rt, topic, made_by_ends(subs));
     }
 
-    /// A subscription to this topic ends that had this account: where its client is behind, it pays what it was spared.
-    fn settle(&self, topic: Topic, account: &Account) {
+    /// Takes the seats of these subscriptions out of this topic: where their client is behind, each pays what it was
+    /// spared.
+    fn take_seats(&self, topic: Topic, subs: &[SeatedSub]) {
+        let Some(seats) = self.hub.seats(topic) else {
+            return;
+        };
         let intake = self.bell.intake();
-        if intake.is_behind()
-            && let Some(seats) = self.hub.seats(topic)
-        {
-            seats.settle(self.rt, Moment::now(self.rt), account, intake);
+        if intake.is_behind() {
+            seats.remove_behind(self.rt, Moment::now(self.rt), subs, intake);
+        } else {
+            seats.remove_all(self.rt, subs);
+        }
+    }
+
+    /// Ends these subscriptions at the topic, in one hold of its lock; out of memory, none of them.
+    fn unsubscribe_at(&self, topic: Topic, subs: &[SeatedSub]) -> Result<(), NoMemory> {
+        let mut numbers = Vec::with_capacity(self.alloc, subs.len())?;
+        for sub in subs {
+            numbers.push(sub.begun.sub)?;
+        }
+        let broker = &self.hub.running.broker;
+        let ended = broker.unsubscribe_all(self.rt, topic, numbers.as_slice())?;
+        drop(ended);
+        Ok(())
+    }
+
+    /// Ends these subscriptions at the topic, one by one.
+    fn unsubscribe_each(&self, topic: Topic, subs: &[SeatedSub]) {
+        let broker = &self.hub.running.broker;
+        for sub in subs {
+            let _ = broker.unsubscribe(self.rt, topic, sub.begun.sub);
         }
     }
 
     /// This subscription was found to have lagged: it is said and counted, once.
     fn note_lag(&mut self, sub: &SeatedSub) {
-        if sub.said.swap(true, Ordering::SeqCst) {
+        if !sub.say_lagged() {
             return;
         }
         self.activity.lags();
@@ -373,18 +378,16 @@ impl<'a, R: Wait + Log + Clock, W: Side, T: Side> Calls<'a, R, W, T> {
         self.hub.release_room(self.rt, other);
     }
 
-    /// Room at these topics. Where there is none, and it owes no turns, it waits. Out of memory for the reservation it is
-    /// room at none of them: a commit that lacks memory, too, says so, and waits for nothing.
+    /// Room at the topics of this transaction. Where there is none, and it owes no turns, it waits. Out of memory for the
+    /// reservation it is room at none of them: a commit that lacks memory, too, says so, and waits for nothing.
     #[tactic(auto, using(crate::proofs::LineLemmas::first_of))]
-    fn room_at(&mut self, topics: &[Topic]) -> Option<Reserved>
-        ensures { IfSome result (λ room. (room ≡ topics.now) ⊎ (room ≡ [])) }
+    fn room_at(&mut self, txn: &Txn) -> Option<Reserved>
+        ensures { IfSome result (λ room. (room ≡ topics_of txn.now) ⊎ (room ≡ [])) }
     {
         let mut room = self.hub.running.broker.no_room();
-        match self.hub.reserve(self.rt, topics, &mut room) {
+        match self.hub.reserve(self.rt, txn, &mut room) {
             Ok(()) => Some(room),
-            Err(NoRoom::Full { topic: _, sub: _ }) if self.commits == 0 => {
-                self.tries(topics, room)
-            }
+            Err(NoRoom::Full { topic: _, sub: _ }) if self.commits == 0 => self.tries(txn, room),
             Err(NoRoom::Full { topic: _, sub: _ }) => {
                 self.keep_room(room);
                 None
@@ -393,41 +396,43 @@ impl<'a, R: Wait + Log + Clock, W: Side, T: Side> Calls<'a, R, W, T> {
         }
     }
 
-    /// Room at these topics, for which it waits. (What it keeps is at the first of them; else it is given up.)
+    /// Room at the topics of this transaction, for which it waits. (What it keeps is at the first of them; else it is given
+    /// up.)
     #[inline(never)]
-    fn room_after_wait(&mut self, topics: &[Topic]) -> Option<Reserved>
-        ensures { IfSome result (λ room. (room ≡ topics.now) ⊎ (room ≡ [])) }
+    fn room_after_wait(&mut self, txn: &Txn) -> Option<Reserved>
+        ensures { IfSome result (λ room. (room ≡ topics_of txn.now) ⊎ (room ≡ [])) }
     {
         let room = self.kept_room();
-        if !is_at(topics, &room) {
+        if !is_at(txn.topics().as_slice(), &room) {
             return self.without_room(room);
         }
-        self.tries(topics, room)
+        self.tries(txn, room)
     }
 
-    /// Room at these topics, where it is the first of a line: it stays so, if it is that of the first of these.
+    /// Room at the topics of this transaction, where it is the first of a line: it stays so, if it is that of the first of
+    /// these.
     #[inline(never)]
-    fn room_as_first(&mut self, topics: &[Topic]) -> Option<Reserved>
-        ensures { IfSome result (λ room. (room ≡ topics.now) ⊎ (room ≡ [])) }
+    fn room_as_first(&mut self, txn: &Txn) -> Option<Reserved>
+        ensures { IfSome result (λ room. (room ≡ topics_of txn.now) ⊎ (room ≡ [])) }
     {
         let asker = self.asker();
-        self.waiting.comes(&asker, topics);
+        self.waiting.comes(&asker, txn.topics().as_slice());
         if self.waiting.is_idle() {
-            return self.room_at(topics);
+            return self.room_at(txn);
         }
         let none = self.hub.running.broker.no_room();
-        self.tries(topics, none)
+        self.tries(txn, none)
     }
 
-    /// Room at these topics, of which it has this at the first of them; or it waits.
+    /// Room at the topics of this transaction, of which it has this at the first of them; or it waits.
     #[inline(never)]
-    fn tries(&mut self, topics: &[Topic], room: Reserved) -> Option<Reserved>
-        requires { IsRoomAt topics.now room }
-        ensures { IfSome result (λ room. (room ≡ topics.now) ⊎ (room ≡ [])) }
+    fn tries(&mut self, txn: &Txn, room: Reserved) -> Option<Reserved>
+        requires { IsRoomAt (topics_of txn.now) room }
+        ensures { IfSome result (λ room. (room ≡ topics_of txn.now) ⊎ (room ≡ [])) }
     {
         let mut room = room;
         let asker = self.asker();
-        let tried = self.waiting.tries(&asker, topics, &mut room);
+        let tried = self.waiting.tries(&asker, txn, &mut room);
         let passed_over = self.waiting.take_passed_over();
         self.activity.passes_over(passed_over);
         match tried {
@@ -485,7 +490,7 @@ impl<'a, R: Wait + Log + Clock, W: Side, T: Side> Calls<'a, R, W, T> {
         if sub.untold > 0 {
             self.tell_taken(sub);
         }
-        if sub.seat.take_passed_over() && !sub.over.load(Ordering::SeqCst) {
+        if sub.seat.take_passed_over() && !sub.is_over() {
             let broker = &self.hub.running.broker;
             if !broker.wait_for(self.rt, sub.topic, sub.begun.sub) {
                 sub.seat.set_passed_over();
@@ -503,6 +508,14 @@ impl<'a, R: Wait + Log + Clock, W: Side, T: Side> Calls<'a, R, W, T> {
         if self.commits >= self.most {
             self.turn_topics();
         }
+    }
+}
+
+/// By what room may have been made where these subscriptions ended.
+fn made_by_ends(subs: &[SeatedSub]) -> RoomMade {
+    match subs {
+        [sub] => RoomMade::At(sub.begun.sub),
+        _ => RoomMade::Freed,
     }
 }
 
@@ -568,30 +581,42 @@ impl<'a, R: Wait + Log + Clock, W: Side, T: Side> BrokerCalls for Calls<'a, R, W
                     seat.set_passed_over();
                 }
                 self.subs = self.subs.saturating_add(1);
-                Ok(SeatedSub {
-                    topic,
-                    begun,
-                    seat,
-                    untold: 0,
-                    over: AtomicBool::new(false),
-                    said: AtomicBool::new(false),
-                })
+                Ok(SeatedSub::new(topic, begun, seat))
             }
             Err(fault) => {
-                let _ = self.hub.unlisten(self.rt, topic, &seat);
+                self.hub.unlisten(self.rt, topic, &seat);
                 Err(fault)
             }
         }
     }
 
     fn unsubscribe(&mut self, sub: SeatedSub) {
-        self.end(&sub);
+        if sub.end() {
+            self.end_at(sub.topic, from_ref(&sub));
+        }
         self.subs = self.subs.saturating_sub(1);
         drop(sub);
     }
 
+    /// Those of one topic end there together.
+    fn end_all(&mut self, subs: Vec<SeatedSub>) {
+        if subs.is_empty() {
+            return;
+        }
+        self.subs = self.subs.saturating_sub(subs.len() as u64);
+        let mut subs = subs;
+        subs.retain(|sub| sub.end());
+        subs.sort_unstable_by_key(|sub| sub.topic.0);
+        for at_one in subs.chunk_by(|sub, other| sub.topic.0 == other.topic.0) {
+            if let Some(sub) = at_one.first() {
+                self.end_at(sub.topic, at_one);
+            }
+        }
+        drop(subs);
+    }
+
     fn has_lagged(&mut self, sub: &SeatedSub) -> bool {
-        if sub.over.load(Ordering::SeqCst) {
+        if sub.is_over() {
             return true;
         }
         let state = self
@@ -621,17 +646,17 @@ impl<'a, R: Wait + Log + Clock, W: Side, T: Side> BrokerCalls for Calls<'a, R, W
 
     /// Where it owes turns, and there is no room, these come first: there may be some then. They come first, too, where
     /// it is to stand in for those who sleep.
-    fn reserve(&mut self, topics: &[Topic]) -> Option<Reserved> {
+    fn reserve(&mut self, txn: &Txn) -> Option<Reserved> {
         if self.waiting.is_held() {
-            return self.room_after_wait(topics);
+            return self.room_after_wait(txn);
         }
         if self.commits == AT_ONCE && self.heard_little && self.few_sleep() {
             return None;
         }
         if self.waiting.is_idle() {
-            return self.room_at(topics);
+            return self.room_at(txn);
         }
-        self.room_as_first(topics)
+        self.room_as_first(txn)
     }
 
     fn give_room_back(&mut self, room: Reserved) {

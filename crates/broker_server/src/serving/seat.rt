@@ -6,7 +6,7 @@ ghost use Rattle.std.specs.Arc.{arc_value};
 use crate::serving::bell::Bell;
 use crate::serving::intake::Intake;
 use std::sync::Arc;
-use std::sync::atomic::{AtomicBool, AtomicU64, Ordering};
+use std::sync::atomic::{AtomicBool, AtomicU64, AtomicUsize, Ordering};
 
 /// A subscription's place at a topic: whose it is, and what senders and who takes tell each other of it.
 #[derive(Drop)]
@@ -19,6 +19,8 @@ pub(crate) struct Seat {
     bell: Arc<Bell>,
     /// The subscription's number at its topic, once that has begun; before, one that none has.
     sub: AtomicU64,
+    /// Its index in its topic's list, while it is there: who has that list's lock writes and reads it.
+    index: AtomicUsize,
     /// Whether something was taken of its queue since a sender looked.
     taken: AtomicBool,
     /// Whether senders may have passed it over, so that it isn't waited for.
@@ -39,6 +41,7 @@ impl Seat {
             desk,
             bell,
             sub: AtomicU64::new(u64::MAX),
+            index: AtomicUsize::new(usize::MAX),
             taken: AtomicBool::new(false),
             passed_over: AtomicBool::new(false),
         }
@@ -74,6 +77,16 @@ impl Seat {
     /// The number of its subscription at the topic; of one that hasn't begun, one that no subscription has.
     pub(crate) fn sub(&self) -> u64 {
         self.sub.load(Ordering::SeqCst)
+    }
+
+    /// It stands at this index of its topic's list from now on: who has that list's lock calls it.
+    pub(crate) fn set_index(&self, index: usize) {
+        self.index.store(index, Ordering::SeqCst);
+    }
+
+    /// Its index in its topic's list, as was said last.
+    pub(crate) fn index(&self) -> usize {
+        self.index.load(Ordering::SeqCst)
     }
 
     /// At what pace the system takes what is written to its connection.

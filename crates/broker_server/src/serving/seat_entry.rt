@@ -32,9 +32,9 @@ impl SeatEntry {
         }
     }
 
-    /// It lacks room, which a look finds at this moment. So much time in which somebody waited at its topic hasn't been
-    /// paid yet; or nobody waited there before.
-    pub(crate) fn is_found<R: Wait>(
+    /// It lacks room, and joins what a look finds at this moment. So much time in which somebody waited at its topic hasn't
+    /// been paid yet; or nobody waited there before.
+    pub(crate) fn join_look<R: Wait>(
         &mut self,
         rt: &R,
         now: Moment,

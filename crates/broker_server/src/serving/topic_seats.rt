@@ -1,8 +1,8 @@
 //! Who is told of a topic.
 
-ghost use Rattle.std.specs.Prelude.{◌≡◌, ◌≤◌, ◌+◌, true, false, length, IfOk, IfSome, IsNone};
+ghost use Rattle.std.specs.Prelude.{◌≡◌, ◌≤◌, ◌+◌, ◌-◌, ◌++◌, ◌∷◌, [], nat_lt, if◌then◌else◌, true, false, length, IfOk, IfSome, IsNone, OnErr, OnOk};
 ghost use Rattle.std.specs.Arc.{arc_value};
-ghost use Rattle.broker_server.specs.Purses.{Begins, GoesOn, after_call, is_free, may_wait};
+ghost use Rattle.broker_server.specs.Purses.{Begins, GoesOn, Pays, after_call, debt, is_free, may_wait};
 ghost use Rattle.broker_server.specs.RoomLooks.{is_seat};
 
 use crate::serving::account::Account;
@@ -11,11 +11,13 @@ use crate::serving::keepers::Keepers;
 use crate::serving::line::Line;
 use crate::serving::look::Look;
 use crate::serving::moment::Moment;
+use crate::serving::pace::Pace;
 use crate::serving::price::Price;
 use crate::serving::purse::Purse;
 use crate::serving::said::Said;
 use crate::serving::seat::Seat;
 use crate::serving::seat_entry::SeatEntry;
+use crate::serving::seated_sub::SeatedSub;
 use crate::serving::span::Span;
 use std::alloc::{AllocError, Global};
 use std::sync::atomic::{AtomicBool, Ordering};
@@ -76,15 +78,42 @@ impl TopicSeats {
     /// Adds a seat.
     pub(crate) fn add<R: Wait>(&self, rt: &R, seat: &Arc<Seat>) -> Result<(), AllocError> {
         let entry = SeatEntry::new(seat.clone()?);
-        self.seats.lock(rt).push(entry)?;
-        Ok(())
+        put_in(&mut self.seats.lock(rt), entry)
     }
 
-    /// Takes a seat out; its account, if it was there. Room for more than twice as many as are left is given back where
-    /// three quarters of the room are free, so that a topic to which many had subscribed keeps nothing for them.
-    pub(crate) fn remove<R: Wait>(&self, rt: &R, seat: &Seat) -> Option<Account> {
-        let entry = take_out(&mut self.seats.lock(rt), seat)?;
-        Some(entry.account)
+    /// Takes a seat out, if it is there, for whose subscription nobody has waited.
+    pub(crate) fn remove<R: Wait>(&self, rt: &R, seat: &Seat) {
+        let _ = take_out(&mut self.seats.lock(rt), seat);
+    }
+
+    /// Takes the seats of these subscriptions out, those that are there.
+    pub(crate) fn remove_all<R: Wait>(&self, rt: &R, subs: &[SeatedSub]) {
+        let mut seats = self.seats.lock(rt);
+        let seats = &mut *seats;
+        for sub in subs {
+            let _ = take_out(seats, &sub.seat);
+        }
+    }
+
+    /// As `remove_all`, where the connection of these subscriptions has this intake, and is behind: each pays, at this
+    /// moment, what it was spared.
+    pub(crate) fn remove_behind<R: Wait>(
+        &self,
+        rt: &R,
+        now: Moment,
+        subs: &[SeatedSub],
+        intake: &Intake,
+    ) {
+        let pace = intake.pace(rt);
+        let mut purse = self.purse.lock(rt);
+        let purse = &mut *purse;
+        let mut seats = self.seats.lock(rt);
+        let seats = &mut *seats;
+        for sub in subs {
+            if let Some(entry) = take_out(seats, &sub.seat) {
+                settle(purse, now, &entry.account, &pace);
+            }
+        }
     }
 
     /// How many they are, where they are few, and the threads of all of them sleep.
@@ -155,7 +184,7 @@ impl TopicSeats {
     ) -> Result<(), AllocError> {
         for entry in self.seats.lock(rt).iter_mut() {
             if lacking.contains(&entry.seat.sub()) {
-                entry.is_found(rt, now, unpaid, is_first, look)?;
+                entry.join_look(rt, now, unpaid, is_first, look)?;
             }
         }
         Ok(())
@@ -178,14 +207,6 @@ impl TopicSeats {
         self.purse.lock(rt).ends(now);
     }
 
-    /// A subscription ends at this moment that had this account, and whose connection has this intake.
-    pub(crate) fn settle<R: Wait>(&self, rt: &R, now: Moment, account: &Account, intake: &Intake) {
-        let pace = intake.pace(rt);
-        let mut purse = self.purse.lock(rt);
-        let owed = account.owes(now, &pace, purse.unpaid(now));
-        purse.pays(now, owed);
-    }
-
     /// So many more were passed over. How many were since that was said last, where it is to be said now.
     pub(crate) fn say<R: Wait>(&self, rt: &R, now: Moment, passed_over: u64) -> Option<u64> {
         let mut said = self.said.lock(rt);
@@ -194,18 +215,41 @@ impl TopicSeats {
     }
 }
 
-/// Takes the entry of a seat out of these, if it is there. Room for more than twice as many as are left is given back
-/// where three quarters of the room are free.
+/// A subscription ends at this moment that had this account, and whose connection has this pace: it pays this purse.
+fn settle(purse: &mut Purse, now: Moment, account: &Account, pace: &Pace)
+    ensures { purse.new ≡ after_call purse.old (Pays now (debt account.now pace.now now
+        (if nat_lt 0 purse.old.waiting then now.0 - purse.old.at.0 else 0))) }
+{
+    let owed = account.owes(now, pace, purse.unpaid(now));
+    purse.pays(now, owed);
+}
+
+/// Puts the entry of a seat behind these; the seat knows where it stands.
+fn put_in(seats: &mut Vec<SeatEntry>, entry: SeatEntry) -> Result<(), AllocError>
+    ensures ok { OnOk result (seats.new.items ≡ seats.old.items ++ entry ∷ []) }
+    ensures err { OnErr result (seats.new.items ≡ seats.old.items) }
+{
+    entry.seat.set_index(seats.len());
+    seats.push(entry)?;
+    Ok(())
+}
+
+/// Takes the entry of a seat out of these, if it stands where it knows that it does. The last of them stands there then,
+/// and knows it. Room for more than twice as many as are left is given back where three quarters of the room are free,
+/// so that a topic to which many had subscribed keeps nothing for them.
 fn take_out(seats: &mut Vec<SeatEntry>, seat: &Seat) -> Option<SeatEntry>
     ensures one { IfSome result (λ entry. is_seat seat.now (arc_value entry.seat) ≡ true) }
     ensures fewer { IfSome result (λ entry. length seats.old.items ≡ length seats.new.items + 1) }
     ensures none { IsNone result → seats.new ≡ seats.old }
 {
-    let at = seats.iter().position(|entry| entry.seat.is(seat))?;
-    if at >= seats.len() {
+    let at = seat.index();
+    if !seats.get(at)?.seat.is(seat) {
         return None;
     }
     let entry = seats.swap_remove(at);
+    if let Some(moved) = seats.get(at) {
+        moved.seat.set_index(at);
+    }
     if seats.capacity() / 4 > seats.len() {
         seats.shrink_to(seats.len().saturating_mul(2));
     }
