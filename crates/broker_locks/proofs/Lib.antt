@@ -21,3 +21,4 @@ pub mod RoomKept
 pub mod Reserving
 mod Examples
 mod ExamplesRoom
+pub mod Ends
