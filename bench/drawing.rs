@@ -47,23 +47,27 @@ const CLAIM: &str = "CONNECT\naccept-version:1.2\nhost:h\nclient-id:#\n\n\0";
 const NEW: [&str; 6] = ["Z", "Y", "a", "new/topic~", "A B", ""];
 
 /// First frames that are refused, or are taken all the same.
-const CONNECTS: [&str; 6] = [
+const CONNECTS: [&str; 7] = [
     "STOMP\naccept-version:1.0, 1.2\nhost:a\\b\n\n\0",
     "CONNECT\naccept-version:1.1\nhost:h\n\n\0",
     "CONNECT\naccept-version:1.2\n\n\0",
+    "CONNECT\naccept-version:1.0,1.1\n\n\0",
     "CONNECT\r\naccept-version:1.2\r\nhost:h\r\nreceipt:no\r\n\r\n\0",
     "SEND\ndestination:A\n\n\0",
     "CONNECT\naccept-version:1.2\nhost:h\ncontent-length:1\n\nx\0",
 ];
 
 /// Frames of a client, in which `@` stands for a topic, `#` for a small id, and `?` for a receipt's line or nothing.
-const FRAMES: [&str; 20] = [
+const FRAMES: [&str; 23] = [
     "SEND\ndestination:@\n?\nm\0",
     "SEND\ndestination:@\n?content-length:3\n\na\0b\0",
     "SEND\ndestination:@\nx:1\nx:2\nk\\c:a\\nb:c\n?\n\0",
     "SUBSCRIBE\nid:#\ndestination:@\n?\n\0",
     "SUBSCRIBE\nid:#\ndestination:@\nack:auto\n?\n\0",
     "SUBSCRIBE\nid:#\ndestination:@\nack:client\n?\n\0",
+    "SUBSCRIBE\nid:#\ndestination:@\npart:yes\npart:no\n?\n\0",
+    "SUBSCRIBE\nid:#\ndestination:@\npart:no\npart:yes\n?\n\0",
+    "SEND\ndestination:@\nk:1\npart:1/1\n?\nm\0",
     "UNSUBSCRIBE\nid:#\n?\n\0",
     "BEGIN\ntransaction:#\n?\n\0",
     "ABORT\ntransaction:#\n?\n\0",
@@ -81,7 +85,7 @@ const FRAMES: [&str; 20] = [
 ];
 
 /// How often each of the frames is drawn.
-const WEIGHTS: [usize; 20] = [24, 8, 8, 16, 4, 1, 5, 6, 2, 4, 6, 2, 24, 16, 4, 2, 1, 1, 1, 4];
+const WEIGHTS: [usize; 23] = [24, 8, 8, 12, 4, 1, 6, 1, 4, 5, 6, 2, 4, 6, 2, 24, 16, 4, 2, 1, 1, 1, 4];
 
 /// A script's lines.
 struct Lines<'a> {

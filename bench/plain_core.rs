@@ -153,10 +153,12 @@ impl Topic {
     }
 }
 
-/// A subscription: its connection, its id there, its topic, and what it accepted.
+/// A subscription: its connection, its id there, whether its MESSAGEs say their part, its topic, and what it
+/// accepted.
 pub struct Queue {
     pub connection: usize,
     pub id: Vec<u8>,
+    pub says_part: bool,
     pub topic: usize,
     pub from: Stamp,
     pub items: Vec<(Rc<Part>, Stamp)>,
@@ -448,6 +450,7 @@ impl Core {
         self.queues.push(Queue {
             connection: c,
             id: id.to_vec(),
+            says_part: frame.first(b"part") == Some(&b"yes"[..]),
             topic,
             from,
             items: Vec::new(),
@@ -553,15 +556,23 @@ impl Core {
         let queue = self.queues.get_mut(number).ok_or("48 NoSub")?;
         let (part, stamp) = queue.items.get(queue.taken).ok_or("86 NothingDue")?;
         let out = &mut self.connections[queue.connection].out;
-        for send in &part.sends {
-            write_message(&queue.id, *stamp, send, out)?;
+        for (place, send) in part.sends.iter().enumerate() {
+            let says = queue.says_part.then_some((place + 1, part.sends.len()));
+            write_message(&queue.id, *stamp, send, says, out)?;
         }
         queue.taken += 1;
         Ok(Outcome::Handed(part.sends.len()))
     }
 }
 
-pub fn write_message(id: &[u8], stamp: Stamp, send: &Send, out: &mut Vec<u8>) -> Result<(), Refused> {
+/// The MESSAGE of a SEND; it says, where that is asked, its place and of how many.
+pub fn write_message(
+    id: &[u8],
+    stamp: Stamp,
+    send: &Send,
+    part: Option<(usize, usize)>,
+    out: &mut Vec<u8>,
+) -> Result<(), Refused> {
     out.extend_from_slice(b"MESSAGE\nsubscription:");
     write_escaped(id, out)?;
     write!(
@@ -573,7 +584,13 @@ pub fn write_message(id: &[u8], stamp: Stamp, send: &Send, out: &mut Vec<u8>) ->
         send.topic,
         send.body.len()
     )?;
+    if let Some((place, count)) = part {
+        writeln!(out, "part:{place}/{count}")?;
+    }
     for (name, value) in &send.headers {
+        if part.is_some() && name == b"part" {
+            continue;
+        }
         write_escaped(name, out)?;
         out.push(b':');
         write_escaped(value, out)?;

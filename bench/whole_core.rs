@@ -123,6 +123,8 @@ impl Topic {
 pub struct Queue {
     connection: usize,
     pub id: Vec<u8>,
+    /// Whether each MESSAGE says which of its transaction's at the topic it is.
+    says_part: bool,
     pub topic: usize,
     pub from: Stamp,
     pub to: Option<Stamp>,
@@ -191,14 +193,14 @@ impl Connection {
         self.transactions.clear();
     }
 
-    /// The ERROR, unless it finds no memory; then it leaves.
-    fn error(&mut self, message: &str, receipt: Option<&[u8]>, lack: Lack) {
+    /// The ERROR, which says our version or doesn't, unless it finds no memory; then it leaves.
+    fn error(&mut self, message: &str, receipt: Option<&[u8]>, says_version: bool, lack: Lack) {
         if lack != Lack::Reply {
             put(&mut self.out, "ERROR\nmessage:", message.as_bytes());
             if let Some(receipt) = receipt {
                 put(&mut self.out, "\nreceipt-id:", receipt);
             }
-            if ["62 NoVersion", "22 Missing accept-version", "22 Missing host"].contains(&message) {
+            if says_version {
                 self.out.extend_from_slice(b"\nversion:1.2");
             }
             self.out.extend_from_slice(b"\ncontent-length:0\n\n\0");
@@ -224,7 +226,8 @@ fn put(out: &mut Vec<u8>, text: &str, value: &[u8]) {
 enum Action {
     Nothing,
     Connected(Option<Vec<u8>>),
-    Subscribe(Vec<u8>, usize),
+    /// The id, the topic, and whether its MESSAGEs say their part.
+    Subscribe(Vec<u8>, usize, bool),
     Unsubscribe(Vec<u8>),
     Commit(Vec<Send>),
     Disconnect,
@@ -363,7 +366,7 @@ impl Core {
             return Err(refused("81 Busy"));
         }
         if lack == Lack::Frame {
-            connection.error("72 NoMemory", None, Lack::Nothing);
+            connection.error("72 NoMemory", None, false, Lack::Nothing);
             return Ok(Some("error 72 NoMemory".into()));
         }
         let frame = match read(&connection.unread) {
@@ -374,7 +377,7 @@ impl Core {
             }
             Reading::Fails(_) if lack == Lack::Effect => return Ok(None),
             Reading::Fails(fault) => {
-                connection.error(fault.message(), None, lack);
+                connection.error(fault.message(), None, false, lack);
                 return Ok(Some(format!("error {}", fault.message())));
             }
         };
@@ -392,7 +395,12 @@ impl Core {
         };
         if let Some(fault) = fault {
             let receipt = frame.receipt().map(<[u8]>::to_vec);
-            self.connections[c as usize].error(&fault, receipt.as_deref(), lack);
+            let says_version = match &fault[..] {
+                "62 NoVersion" | "22 Missing accept-version" => true,
+                "22 Missing host" => !offers_ours(&frame),
+                _ => false,
+            };
+            self.connections[c as usize].error(&fault, receipt.as_deref(), says_version, lack);
             return Ok(Some(format!("error {fault}")));
         }
         if let Some(name) = frame.destination() {
@@ -454,19 +462,13 @@ impl Core {
         let connection = &mut self.connections[c];
         match (connection.is_connected, frame.command) {
             (true, Command::Connect) => Err("61 AlreadyConnected"),
-            (false, Command::Connect) => {
-                let versions = String::from_utf8_lossy(header("accept-version"));
-                match versions
-                    .split(',')
-                    .any(|version| version.trim_matches(' ') == "1.2")
-                {
-                    true => match claim {
-                        None => Ok(Action::Connected(frame.first("client-id").map(<[u8]>::to_vec))),
-                        Some(fault) => Err(fault),
-                    },
-                    false => Err("62 NoVersion"),
-                }
-            }
+            (false, Command::Connect) => match offers_ours(frame) {
+                true => match claim {
+                    None => Ok(Action::Connected(frame.first("client-id").map(<[u8]>::to_vec))),
+                    Some(fault) => Err(fault),
+                },
+                false => Err("62 NoVersion"),
+            },
             (false, _) => Err("60 NotConnected"),
             (_, Command::Subscribe) => {
                 if frame.first("ack").is_some_and(|ack| ack != b"auto") {
@@ -478,7 +480,10 @@ impl Core {
                 }
                 match connection.subscriptions.len() {
                     OPEN_LIMIT => Err("69 TooManySubs"),
-                    _ => Ok(Action::Subscribe(header("id").to_vec(), topic)),
+                    _ => {
+                        let says_part = frame.first("part") == Some(&b"yes"[..]);
+                        Ok(Action::Subscribe(header("id").to_vec(), topic, says_part))
+                    }
                 }
             }
             (_, Command::Unsubscribe) => match connection.subscriptions.contains_key(header("id")) {
@@ -520,7 +525,7 @@ impl Core {
                     .extend_from_slice(b"CONNECTED\nversion:1.2\nheart-beat:0,0\n\n\0");
                 return "done".into();
             }
-            Action::Subscribe(id, topic) => self.subscribe(c, id, topic),
+            Action::Subscribe(id, topic, says_part) => self.subscribe(c, id, topic, says_part),
             Action::Unsubscribe(id) => {
                 let number = self.connections[c]
                     .subscriptions
@@ -540,13 +545,14 @@ impl Core {
         told
     }
 
-    fn subscribe(&mut self, c: usize, id: Vec<u8>, topic: usize) -> String {
+    fn subscribe(&mut self, c: usize, id: Vec<u8>, topic: usize, says_part: bool) -> String {
         let (number, from) = (self.queues.len(), self.topics[topic].frontier());
         self.connections[c].subscriptions.insert(id.clone(), number);
         self.topics[topic].open.push(number);
         self.queues.push(Queue {
             connection: c,
             id,
+            says_part,
             topic,
             from,
             to: None,
@@ -687,7 +693,7 @@ impl Core {
             .filter(|row| row.1.is_some());
         connection.withdrawn = given.map(|row| (*row.0, flight.seq)).collect();
         if is_open {
-            connection.error(mark, flight.receipt.as_deref(), lack);
+            connection.error(mark, flight.receipt.as_deref(), false, lack);
         }
         Ok(Some("withdrawn".into()))
     }
@@ -798,14 +804,15 @@ impl Core {
             _ => return Ok(None),
         }
         if is_empty {
-            connection.error("74 Lagged", None, lack);
+            connection.error("74 Lagged", None, false, lack);
             return Ok(Some("error 74 Lagged".into()));
         }
         let (_, stamp) = queue.items[queue.taken];
         let part = queue.parts[queue.taken].clone();
         queue.taken += 1;
-        for send in &part.sends {
-            put_message(&queue.id, stamp, send, &mut connection.out);
+        for (place, send) in part.sends.iter().enumerate() {
+            let says = queue.says_part.then_some((place + 1, part.sends.len()));
+            put_message(&queue.id, stamp, send, says, &mut connection.out);
         }
         Ok(Some(format!("handed {}", part.sends.len())))
     }
@@ -886,13 +893,27 @@ fn send_of(topic: usize, index: usize, frame: &WholeFrame) -> Send {
     }
 }
 
-fn put_message(id: &[u8], stamp: Stamp, send: &Send, out: &mut Vec<u8>) {
+/// Whether the client of this CONNECT offers version 1.2.
+fn offers_ours(frame: &WholeFrame) -> bool {
+    let versions = String::from_utf8_lossy(frame.first("accept-version").unwrap_or_default());
+    let mut versions = versions.split(',');
+    versions.any(|version| version.trim_matches(' ') == "1.2")
+}
+
+/// The MESSAGE of a SEND; it says, where that is asked, its place and of how many.
+fn put_message(id: &[u8], stamp: Stamp, send: &Send, part: Option<(usize, usize)>, out: &mut Vec<u8>) {
     put(out, "MESSAGE\nsubscription:", id);
     let (number, topic, index) = (stamp.number, stamp.topic, send.index);
     write!(out, "\nmessage-id:{number}.{topic}.{index}").expect("a vector takes all");
     put(out, "\ndestination:", &send.destination);
     write!(out, "\ncontent-length:{}\n", send.body.len()).expect("a vector takes all");
+    if let Some((place, count)) = part {
+        writeln!(out, "part:{place}/{count}").expect("a vector takes all");
+    }
     for (name, value) in &send.headers {
+        if part.is_some() && name == b"part" {
+            continue;
+        }
         put(out, "", name);
         put(out, ":", value);
         out.push(b'\n');

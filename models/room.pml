@@ -23,6 +23,9 @@
 #ifndef CAPACITY                 /* items that a queue holds, and parts that may be due at a topic */
 #define CAPACITY 1
 #endif
+#ifndef BIG                      /* places that a part of the first sender asks for, of which it takes one; others ask for one */
+#define BIG 1
+#endif
 #ifndef HALF                     /* who takes tells of so many */
 #define HALF 1
 #endif
@@ -81,6 +84,7 @@
    the code asks again before. ENDLESS: all senders but the first send for ever. */
 #define TOPIC(s) (TOPICS - 1 - (s) % TOPICS)
 #define SENDS(c) ((c) < SENDERS)
+#define ASKS(c) ((c) == 0 -> BIG : 1)
 #define MAKES(c) ((c) == 0 -> COMMITS : OTHERS)
 #define BIT(n) (1 << (n))
 #define ALL (BIT(TOPICS) - 1)
@@ -202,19 +206,25 @@ bool served;                     /* the first sender's were entered */
 #endif
 #define USED(sub) (queue[sub] + untold[sub] + told[sub])
 #define FITS(sub, count) (USED(sub) + DUE(TOPIC(sub)) + (count) <= CAPACITY)
-#define LACKS(sub) (waited[sub] && DUE(TOPIC(sub)) < CAPACITY && !FITS(sub, 1))
-#define IN_WAY(sub, t) (sub < SUBS && TOPIC(sub) == (t) && waited[sub] && !FITS(sub, 1))
+#define IS_FULL(t, count) (DUE(t) + (count) > CAPACITY)
+#define LACKS(sub, c) (waited[sub] && !IS_FULL(TOPIC(sub), ASKS(c)) && !FITS(sub, ASKS(c)))
+#define IN_WAY(sub, t, c) (sub < SUBS && TOPIC(sub) == (t) && waited[sub] && !FITS(sub, ASKS(c)))
 #if SUBS == 1
-#define HAS_ROOM(t) (DUE(t) < CAPACITY && !IN_WAY(0, t))
+#define HAS_ROOM(t, c) (!IS_FULL(t, ASKS(c)) && !IN_WAY(0, t, c))
 #elif SUBS == 2
-#define HAS_ROOM(t) (DUE(t) < CAPACITY && !IN_WAY(0, t) && !IN_WAY(1, t))
+#define HAS_ROOM(t, c) (!IS_FULL(t, ASKS(c)) && !IN_WAY(0, t, c) && !IN_WAY(1, t, c))
 #else
-#define HAS_ROOM(t) (DUE(t) < CAPACITY)
+#define HAS_ROOM(t, c) (!IS_FULL(t, ASKS(c)))
 #endif
 #define HEAR(sub) if :: telling[sub] -> skip :: else -> told[sub] = 0 fi
 
 /* What the inlines below use; each leaves its own as it found it: zero. */
-#define SCRATCH byte s, t, u, w, x, e, n, sleepers; bool mine, rings, some, done, sent, over; mtype:take got
+#ifdef M_RUNG_FOR_ONE
+#define LACKED bool lacked;
+#else
+#define LACKED
+#endif
+#define SCRATCH LACKED byte s, t, u, w, x, e, n, sleepers; bool mine, rings, some, done, sent, over; mtype:take got
 
 /* Whether this mark asks for what may be there now. */
 #ifdef M_OTHER_TAKER
@@ -291,18 +301,18 @@ inline give_place_back(at, c) {
 #define CAME_FIRST(at, c) assert(!late && (len(line[at]) == 0 || stands[c] != 1 + at || line[at] ? [eval(c)]))
 #endif
 /* broker.rt reserve_at, room.rt reserve behind the topic's lock: 0, or for what it waits. Who is waited for is looked at
-   from this one on. */
+   from this one on. So many places have to be free as the part asks for; one of them is reserved. */
 inline reserve_at(at, c, from) {
   d_step { !topic[at] ->
     why = 0;
     if
-    :: DUE(at) >= CAPACITY -> why = Due
+    :: IS_FULL(at, ASKS(c)) -> why = Due
     :: else ->
        u = OF(from);
        do
        :: e < SUBS ->
           if
-          :: TOPIC(u) == at && waited[u] -> HEAR(u); if :: !FITS(u, 1) -> why = Sub(u); break :: else fi
+          :: TOPIC(u) == at && waited[u] -> HEAR(u); if :: !FITS(u, ASKS(c)) -> why = Sub(u); break :: else fi
           :: else
           fi;
           u = (u + 1) % NUMBER; e++
@@ -332,12 +342,20 @@ inline tell_taken(sub, is_rung) {
   :: else
   fi;
 #endif
+#ifdef M_RUNG_FOR_ONE
+  d_step { lacked = !FITS(sub, 1) };
+#endif
   if
   :: d_step { told[sub] == 0 -> told[sub] = untold[sub]; untold[sub] = 0 }
   :: d_step { told[sub] > 0 -> telling[sub] = true };
      d_step { told[sub] = told[sub] + untold[sub]; untold[sub] = 0; telling[sub] = false }
   fi;
-#ifndef M_RINGS_BEFORE_TELL
+#ifdef M_RUNG_FOR_ONE
+  if
+  :: is_rung && lacked -> lacked = false; line_ring(TOPIC(sub), Sub(sub))
+  :: else -> lacked = false
+  fi
+#elif !defined(M_RINGS_BEFORE_TELL)
   if
   :: is_rung -> line_ring(TOPIC(sub), Sub(sub))
   :: else
@@ -354,7 +372,8 @@ inline tell_taken(sub, is_rung) {
 #else
 #define NONE_RINGS true
 #endif
-/* calls.rt find_empty: a swap, and room.rt wait_for behind the topic's lock; who isn't waited for stays passed over */
+/* calls.rt find_empty: a swap, and room.rt wait_for behind the topic's lock, where its queue is known to be empty; who
+   isn't waited for stays passed over */
 inline wait_again(sub) {
   d_step { some = passed_over[sub]; passed_over[sub] = false };
   if
@@ -364,7 +383,7 @@ inline wait_again(sub) {
 #ifdef M_WAITS_UNLOOKED
        if :: open_[sub] && !lagged[sub] -> waited[sub] = true; some = false
 #else
-       if :: open_[sub] && !lagged[sub] && FITS(sub, 0) -> waited[sub] = true; some = false
+       if :: open_[sub] && !lagged[sub] && USED(sub) == 0 && FITS(sub, 0) -> waited[sub] = true; some = false
 #endif
        :: else fi };
      if
@@ -612,7 +631,7 @@ inline turn_owed(may_tell) {
 inline look_at_whom(at, c) {
 #if PASSES > 0
   do
-  :: d_step { passes < PASSES && x < SUBS && TOPIC(x) == at && !topic[at] && !reads[TAKER(x)] && LACKS(x) ->
+  :: d_step { passes < PASSES && x < SUBS && TOPIC(x) == at && !topic[at] && !reads[TAKER(x)] && LACKS(x, c) ->
        passes++;
 #ifdef M_PASSED_FIRST
        passed_over[x] = true
@@ -620,7 +639,7 @@ inline look_at_whom(at, c) {
      d_step { !topic[at] ->
 #endif
        HEAR(x);
-       if :: LACKS(x) -> waited[x] = false; done = true :: else fi };
+       if :: LACKS(x, c) -> waited[x] = false; done = true :: else fi };
      if
      :: done ->
 #ifndef M_PASSED_FIRST
@@ -657,7 +676,7 @@ inline look_at_whom(at, c) {
   fi } u = 0
 #define SETTLE for (u : 0 .. TOPICS - 1) { if :: want & BIT(u) -> undecided[u]-- :: else fi } u = 0; want = 0
 #define MAY_BE_PASSED(sub) (sub < SUBS && stands[c] == 1 + TOPIC(sub) && line[TOPIC(sub)] ? [eval(c)] && \
-  LACKS(sub) && !reads[TAKER(sub)])
+  LACKS(sub, c) && !reads[TAKER(sub)])
 /* waiting.rt gives_up: leaves its line, and gives all back */
 inline cancel(c) {
   if
@@ -1224,7 +1243,7 @@ proctype Closer() {
 /* In each state in which nothing can run: who is first in a line lacks room, and in a second line, a place; room is kept
    by who stands in a line behind it; who took all has told it and is waited for. */
 proctype Monitor() {
-  byte i, t, rooms, places;
+  byte i, t, rooms, places, first;
   (timeout);
   for (i : 0 .. CONNS - 1) { assert(!desk[i]) }
   for (i : 0 .. SUBS - 1) { assert(!telling[i]); told[i] = 0 }   /* who asks hears what was told */
@@ -1245,10 +1264,11 @@ proctype Monitor() {
     }
     assert(reserved[t] == rooms && keepers[t] == places);
     assert((mark[t] == Nobody) == (len(line[t]) == 0));
-    assert(len(line[t]) == 0 || !HAS_ROOM(t));
+    if :: len(line[t]) > 0 -> line[t] ? <first> :: else fi;
+    assert(len(line[t]) == 0 || !HAS_ROOM(t, first));
     assert(len(second[t]) == 0 || keepers[t] >= PLACES);
     /* Where all that is there was taken, only room that is kept may be waited for, and that is not more than half. */
-    assert(len(line[t]) == 0 || !READ(0, t) || !READ(1, t) || MOST >= CAPACITY)
+    assert(len(line[t]) == 0 || !READ(0, t) || !READ(1, t) || MOST + ASKS(first) > CAPACITY)
   }
   for (i : 0 .. SUBS - 1) {
     if

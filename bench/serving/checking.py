@@ -10,6 +10,7 @@ from servers import OUT, Server
 SHORT = ["warm=0", "measured=400", "patience=15000", "most=20000", "whole"]
 SHORT_OF_BURST = ["measured=400", "patience=15000", "whole"]
 IDLE_SECONDS = 0.1
+SMALL = 10
 
 # What a wrong server does, the row that shows it, what has to be told of it, and whether nothing else may be.
 ONE_TOPIC = rows.Row("one topic", "size=64 publishers=4 readers=4")
@@ -43,6 +44,9 @@ def check_row(row, prefix, name, program, is_strict):
         if row.kind == "idle":
             measuring.idle_figures(server, prefix, rows.IDLE, IDLE_SECONDS)
             came, fault = f"{rows.IDLE} connections were served", None
+        elif row.kind == "small":
+            measuring.small_write_figures(server, prefix, SMALL)
+            came, fault = f"{SMALL} transactions were answered", None
         else:
             came, fault = run_load(server, row, prefix, is_strict)
     print(f"{'right' if fault is None else 'NO RESULT'}: {row.name}, {name}: {fault or came}", flush=True)

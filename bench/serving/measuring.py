@@ -3,6 +3,7 @@
 import json
 import os
 import socket
+import statistics
 import subprocess
 import time
 
@@ -86,15 +87,36 @@ def connect(server, prefix):
     it = socket.create_connection(server.address, 10)
     it.sendall(
         b"CONNECT\naccept-version:1.2\nhost:/\nlogin:guest\npasscode:guest\n\n\0"
-        b"SUBSCRIBE\nid:0\ndestination:/topic/" + prefix.encode() + b"0\nreceipt:r\n\n\0"
+        b"SUBSCRIBE\nid:0\ndestination:/topic/" + prefix.encode() + b"0\nreceipt:subscribed\n\n\0"
     )
-    came = b""
-    while b"RECEIPT" not in came:
-        piece = it.recv(4096)
-        if not piece:
-            raise Stop(f"bench/serve: an idle connection was closed: {came!r}")
-        came += piece
+    wait_for(it, b"receipt-id:subscribed\n")
     return it
+
+
+def wait_for(connection, word):
+    """Reads until this word came, and what came with it."""
+    came = b""
+    while word not in came:
+        piece = connection.recv(4096)
+        if not piece:
+            raise Stop(f"bench/serve: a connection was closed: {came!r}")
+        came += piece
+
+
+def small_write_figures(server, prefix, count):
+    """How many milliseconds a transaction takes until its RECEIPT came, where its frames are written one by one by a client whose system
+    keeps small writes back: the median of so many, after one."""
+    times, topic = [], b"destination:/topic/" + prefix.encode() + b"1\n"
+    with connect(server, prefix) as it:
+        for at in range(count + 1):
+            begun, within = time.monotonic(), b"transaction:t%d\n" % at
+            it.sendall(b"BEGIN\n" + within + b"\n\0")
+            for body in (b"one", b"two"):
+                it.sendall(b"SEND\n" + topic + within + b"\n" + body + b"\0")
+            it.sendall(b"COMMIT\n" + within + b"receipt:r%d\n\n\0" % at)
+            wait_for(it, b"receipt-id:r%d\n" % at)
+            times.append(1e3 * (time.monotonic() - begun))
+    return {"small": statistics.median(times[1:])}
 
 
 def idle_figures(server, prefix, count, seconds):

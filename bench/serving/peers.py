@@ -30,6 +30,9 @@ PLAIN = {
 # Sent at once, as the others do of themselves.
 MOSQUITTO_CONF = "listener {port} 127.0.0.1\nallow_anonymous true\npersistence false\nset_tcp_nodelay true\nlog_type error\n"
 
+# Those of STOMP.
+OF_STOMP = ("RabbitMQ", "ActiveMQ")
+
 PACKAGES = {
     "RabbitMQ": "rabbitmq-server",
     "ActiveMQ": "activemq",

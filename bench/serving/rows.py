@@ -17,6 +17,9 @@ UNTIL_ALL_CAME = "warm=0 measured=150000"
 
 IDLE = 256
 
+# How many transactions are written in small pieces, and how many milliseconds half of them may take at ours.
+SMALL, MOST_SMALL = 50, 2.0
+
 
 def loads():
     """The rows of load."""
@@ -71,10 +74,16 @@ def idle():
     yield Row(f"{IDLE} idle connections", "", 1, "idle")
 
 
+def small():
+    """A client that leaves its small writes to the system: no TCP_NODELAY."""
+    yield Row("small writes: BEGIN, SEND, SEND, COMMIT", "", 2, "small")
+
+
 def all_rows():
     yield from loads()
     yield from bursts()
     yield from growths()
+    yield from small()
     yield from idle()
 
 

@@ -71,6 +71,11 @@ class Process:
         with open(f"/proc/{self.number}/status", encoding="ascii") as lines:
             return next(int(it.split()[1]) for it in lines if it.startswith("VmHWM:"))
 
+    def forget_most_memory(self):
+        """Begins to look for the most memory anew."""
+        with open(f"/proc/{self.number}/clear_refs", "w", encoding="ascii") as it:
+            it.write("5")
+
     def threads(self):
         return len(os.listdir(f"/proc/{self.number}/task"))
 

@@ -119,6 +119,8 @@ def measures(row):
         return [("p50", "p50", microseconds), ("p99", "p99", microseconds)]
     if row.kind == "burst":
         return [("rate", "deliveries", rate), ("last", "time until all came", milliseconds)]
+    if row.kind == "small":
+        return [("small", "time of a transaction", milliseconds)]
     return [("rate", "deliveries", rate)]
 
 
@@ -128,7 +130,8 @@ def medians(results, servers):
     yield line(["---"] * (2 + len(servers)))
     for row, cells in results.items():
         if row.kind != "idle":
-            for name, words, form in [*measures(row), ("cost", "time of a delivery", microseconds)]:
+            cost = [] if row.kind == "small" else [("cost", "time of a delivery", microseconds)]
+            for name, words, form in [*measures(row), *cost]:
                 yield line([row.name, words, *(figure(cells, it, name, form) for it in servers)])
 
 

@@ -44,7 +44,7 @@ class Connection:
         return line.decode().rstrip('\n')
 
     def receive(self):
-        """The next frame: its command, its headers, its body. At the end of the stream all are empty."""
+        """The next frame: its command, its headers, its body. At the end of the stream all are empty, and where it cuts a frame."""
         try:
             command = self.command()
             headers = {}
@@ -54,7 +54,6 @@ class Connection:
                 name, _, value = line.decode().rstrip('\n').partition(':')
                 headers.setdefault(unescaped(name), unescaped(value))
             body = self.file.read(int(headers.get('content-length', 0)))
-            self.file.read(1)
-            return command, headers, body
+            return (command, headers, body) if self.file.read(1) else ('', {}, b'')
         except ConnectionError:
             return '', {}, b''

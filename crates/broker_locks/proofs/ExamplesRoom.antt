@@ -11,7 +11,8 @@ use Rattle.mcast_group.specs.Group.{GroupState, group_told, shows}
 use Rattle.mcast_group.specs.Machine.{Entry, Pending, new_topic}
 use Rattle.broker_locks.specs.Place.{PlaceState, new_place}
 use Rattle.broker_locks.specs.Room.{BeginsWith, HasHeard, HasRoom, IsFirstOfLacking, IsRefusedAt, KeepsRoom, RoomState, asked_from, due_at, fits, group_cancelled, group_entered, is_waited_for, lacking_room}
-use Rattle.broker_locks.specs.Room.{more_reserved, one_given_back, one_reserved, passing_over, reserve_answer, room_after_enter, takes_more, waiting_for, waiting_without}
+use Rattle.broker_locks.specs.Room.{more_reserved, one_given_back, one_reserved, passing_over, reserve_answer, room_after_enter, takes_more, waiting_for, waiting_without, wanted}
+use Rattle.broker_locks.specs.PartOctets.{HaveRanks, highest_rank, largest, places_for}
 use Rattle.broker_locks.specs.declared.no_room.NoRoom.TheVariants as no_room
 use Rattle.broker_locks.proofs.Hearing.{heard_told}
 use Rattle.broker_locks.proofs.RoomKept.{room_fits}
@@ -48,6 +49,45 @@ group = record {
 -- so many are reserved there, and both are waited for
 abbrev room : ℕ → RoomState
 room reserved = record { reserved = reserved; waited = 0 ∷ 1024 ∷ [] }
+
+-- ---- octets
+
+abbrev mebi : ℕ
+mebi = 1048576
+
+last_of_272_kibi : highest_rank 64 (272 * 1024) ≡ 64
+last_of_272_kibi = refl
+
+seventeenth_of_one_mebi : highest_rank 64 mebi ≡ 17
+seventeenth_of_one_mebi = refl
+
+first_of_nine : highest_rank 64 (9 * mebi) ≡ 1
+first_of_nine = refl
+
+first_of_any : highest_rank 64 (80 * mebi) ≡ 1
+first_of_any = refl
+
+last_of_none : highest_rank 64 0 ≡ 64
+last_of_none = refl
+
+one_place : places_for 64 (272 * 1024) ≡ 1
+one_place = refl
+
+many_places : places_for 64 mebi ≡ 48
+many_places = refl
+
+all_places : places_for 64 (9 * mebi) ≡ 64
+all_places = refl
+
+have_ranks : HaveRanks 64 1 (6 * mebi ∷ 8 * mebi ∷ mebi ∷ [])
+have_ranks = (omega arith, omega arith, omega arith, tt)
+
+have_none : HaveRanks 64 1 (6 * mebi ∷ mebi ∷ 8 * mebi ∷ []) → Prim.⊥
+have_none h = (let third = h.1.1.0 in omega (arith, third))
+
+largest_is : largest (6 * mebi ∷ 8 * mebi ∷ mebi ∷ []) ≡ 8 * mebi
+largest_is = refl
+
 
 -- ---- room
 
@@ -115,11 +155,11 @@ one_less = refl
 none_less : one_given_back (room 0) ≡ room 0
 none_less = refl
 
-is_answered : reserve_answer 4 0 (room 0) group ≡ Ok tt
+is_answered : reserve_answer 4 1 0 (room 0) group ≡ Ok tt
 is_answered = refl
 
 -- the first has no room for a third
-first_is_answered : reserve_answer 4 0 (room 1) group ≡ Err (Some 0)
+first_is_answered : reserve_answer 4 1 0 (room 1) group ≡ Err (Some 0)
 first_is_answered = refl
 
 -- from 1 on 1,024 is asked first, and then 0
@@ -133,22 +173,39 @@ asked_none_above : asked_from 1025 (0 ∷ 1024 ∷ []) ≡ 0 ∷ 1024 ∷ []
 asked_none_above = refl
 
 -- the second has room for a third, so the first is answered all the same
-first_is_answered_then : reserve_answer 4 1 (room 1) group ≡ Err (Some 0)
+first_is_answered_then : reserve_answer 4 1 1 (room 1) group ≡ Err (Some 0)
 first_is_answered_then = refl
 
 -- where both lack room for one more, the second is answered
-second_is_answered : reserve_answer 4 1 (room 2) group ≡ Err (Some 1024)
+second_is_answered : reserve_answer 4 1 1 (room 2) group ≡ Err (Some 1024)
 second_is_answered = refl
 
 -- a topic with room for two has none
-nobody_is_answered : reserve_answer 2 0 (room 1) group ≡ Err None
+nobody_is_answered : reserve_answer 2 1 0 (room 1) group ≡ Err None
 nobody_is_answered = refl
 
-first_lacks : lacking_room 4 group (room 1) ≡ 0 ∷ []
+-- with one pending, one of 6 MiB wants 4 places, as it asks for 3: the first has 2 of them, the second 3; one of 10
+-- MiB asks for all 4, so that 5 are wanted
+four_wanted : wanted 4 (6 * mebi) (room 0) group ≡ 4
+four_wanted = refl
+
+first_is_answered_of_many : reserve_answer 4 (6 * mebi) 0 (room 0) group ≡ Err (Some 0)
+first_is_answered_of_many = refl
+
+nobody_is_answered_of_all : reserve_answer 4 (10 * mebi) 0 (room 0) group ≡ Err None
+nobody_is_answered_of_all = refl
+
+first_lacks : lacking_room 4 1 group (room 1) ≡ 0 ∷ []
 first_lacks = refl
 
-nobody_lacks : lacking_room 2 group (room 1) ≡ []
+both_lack : lacking_room 4 (6 * mebi) group (room 0) ≡ 0 ∷ 1024 ∷ []
+both_lack = refl
+
+nobody_lacks : lacking_room 2 1 group (room 1) ≡ []
 nobody_lacks = refl
+
+nobody_lacks_all : lacking_room 4 (10 * mebi) group (room 0) ≡ []
+nobody_lacks_all = refl
 
 -- where three are due, the first is passed over
 first_passed : passing_over group (room 2) ≡ record { reserved = 2; waited = 1024 ∷ [] }
@@ -186,10 +243,10 @@ begins_so : BeginsWith (7 ∷ []) (7 ∷ 0 ∷ [])
 begins_so = (0 ∷ [], refl)
 
 -- the first was added behind 7, or wasn't for want of memory
-first_added : IsFirstOfLacking 4 group (room 1) (7 ∷ []) (7 ∷ 0 ∷ [])
+first_added : IsFirstOfLacking 4 1 group (room 1) (7 ∷ []) (7 ∷ 0 ∷ [])
 first_added = (0 ∷ [], [], refl, refl)
 
-none_added : IsFirstOfLacking 4 group (room 1) (7 ∷ []) (7 ∷ [])
+none_added : IsFirstOfLacking 4 1 group (room 1) (7 ∷ []) (7 ∷ [])
 none_added = ([], 0 ∷ [], refl, refl)
 
 -- ---- a broker's answer

@@ -16,6 +16,7 @@ pub mod RunTraces
 pub mod Lookups
 pub mod Hearing
 pub mod Waiting
+pub mod OctetLemmas
 pub mod Roomy
 pub mod RoomKept
 pub mod Reserving

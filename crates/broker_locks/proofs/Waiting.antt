@@ -17,7 +17,8 @@ use Rattle.mcast_txn.proofs.Members.{In-filter_cases, In-get_or, any_found, any_
 use Rattle.mcast_txn.proofs.Rising.{Finds, IsAt, IsGap, below_later, none_in_gap}
 use Rattle.mcast_group.specs.Group.{GroupState, IsTold}
 use Rattle.broker_locks.specs.Place.{PlaceState}
-use Rattle.broker_locks.specs.Room.{HasHeard, IsPushed, RoomState, asked_from, due_at, fits, is_waited_for, lacking_room, reserve_answer, room_after_enter, takes_more, waiting_for}
+use Rattle.broker_locks.specs.Room.{HasHeard, IsPushed, RoomState, asked_from, due_at, fits, is_waited_for, room_after_enter, takes_more, waiting_for, wanted}
+use Rattle.broker_locks.specs.PartOctets.{places_for}
 use Rattle.broker_locks.specs.Inner.Waited.{HaveSpare, waited_number}
 use Rattle.broker_locks.proofs.Hearing.{fits_less, fits_more}
 use Rattle.broker_locks.proofs.Lookups.{shown_beside}
@@ -275,23 +276,38 @@ pub err_one : {A B : Type 0} {P S : B → Type 0} (r : Result A B) → ((b : B) 
 err_one (Ok a) f p = tt
 err_one (Err e) f p = f e p
 
+-- what is answered where so many places are wanted
+abbrev pub answer_at : ℕ → ℕ → ℕ → RoomState → GroupState → Result Unit (Option ℕ)
+answer_at capacity places start state g =
+    cond (nat_lt capacity places) (Err None) (elim (find (λ number. not (fits places g number)) (asked_from start state.waited)) [
+      | None ↦ Ok tt
+      | Some number ↦ Err (Some number)
+    ])
+
+-- where a queue has fewer, nobody is asked
+pub many_refuse : (capacity places start : ℕ) (state : RoomState) (g : GroupState) → capacity < places → Err None ≡ answer_at capacity places start state g
+many_refuse capacity places start state g more =
+    let many : nat_lt capacity places ≡ true = grind (arith, nat_tests) in
+    rw many refl
+
 -- a reservation of the spare is allowed
-pub spare_answers : (capacity start spare : ℕ) (state : RoomState) (g : GroupState) → due_at state g < capacity → 0 < spare → HaveSpare spare state g → Ok tt ≡ reserve_answer capacity start state g
-spare_answers capacity start spare state g less some have =
-    let fewer : due_at state g + 1 ≤ due_at state g + spare = omega (arith, some) in
-    let nobody = found_none (λ n. not (fits (due_at state g + 1) g n)) (asked_from start state.waited) (λ n m. ap not (fits_less (due_at state g + 1) (due_at state g + spare) g n fewer (have n (asked_waited start state.waited n m)))) in
-    let many : nat_lt (due_at state g) capacity ≡ true = grind (arith, nat_tests) in
-    rw (many, nobody) refl
+pub spare_answers : (capacity places start spare : ℕ) (state : RoomState) (g : GroupState) → places ≤ capacity → places ≤ due_at state g + spare → HaveSpare spare state g → Ok tt ≡ answer_at capacity places start state g
+spare_answers capacity places start spare state g less some have =
+    let nobody = found_none (λ n. not (fits places g n)) (asked_from start state.waited) (λ n m. ap not (fits_less places (due_at state g + spare) g n some (have n (asked_waited start state.waited n m)))) in
+    let few : nat_lt capacity places ≡ false = grind (arith, nat_tests) in
+    rw (few, nobody) refl
+
+-- so is one for which nobody lacks room
+pub nobody_refuses : (capacity places start : ℕ) (state : RoomState) (g : GroupState) → places ≤ capacity → find (λ n. not (fits places g n)) (asked_from start state.waited) ≡ None → Ok tt ≡ answer_at capacity places start state g
+nobody_refuses capacity places start state g less found =
+    let few : nat_lt capacity places ≡ false = grind (arith, nat_tests) in
+    rw (few, found) refl
 
 -- a reservation is refused by the first who lacks room
-pub first_refuses : (capacity start due number : ℕ) (state : RoomState) (g : GroupState) → due ≡ due_at state g → due < capacity → find (λ n. not (fits (due + 1) g n)) (asked_from start state.waited) ≡ Some number → Err (Some number) ≡ reserve_answer capacity start state g
-first_refuses capacity start due number state g is less found =
-    let here : find (λ n. not (fits (due_at state g + 1) g n)) (asked_from start state.waited) ≡ Some number = subst (λ (k : ℕ). find (λ n. not (fits (k + 1) g n)) (asked_from start state.waited) ≡ Some number) is found in
-    let many : nat_lt (due_at state g) capacity ≡ true = is_less (due_at state g) (subst (λ (k : ℕ). k < capacity) is less) in
-    rw (many, here) refl
-  where
-    is_less : (k : ℕ) → k < capacity → nat_lt k capacity ≡ true
-    is_less k h = grind (arith, nat_tests)
+pub first_refuses : (capacity places start number : ℕ) (state : RoomState) (g : GroupState) → places ≤ capacity → find (λ n. not (fits places g n)) (asked_from start state.waited) ≡ Some number → Err (Some number) ≡ answer_at capacity places start state g
+first_refuses capacity places start number state g less found =
+    let few : nat_lt capacity places ≡ false = grind (arith, nat_tests) in
+    rw (few, found) refl
 
 -- where all have room, nobody is passed over
 pub spare_passes : (with_reserved : Bool) (state : RoomState) (g : GroupState) → (with_reserved && nat_lt 0 state.reserved) ≡ false → HaveSpare 0 state g → state ≡ room_after_enter with_reserved g state
@@ -385,17 +401,25 @@ any_filtered p n (x ∷ xs) = go (p x) refl (x == n) refl (p n) refl (any_filter
     go false e false k true l ih = ih
     go false e false k false l ih = ih
 
+-- those that lack room where so many places are wanted
+abbrev pub lacking_at : ℕ → ℕ → GroupState → RoomState → List ℕ
+lacking_at capacity places g state = cond (nat_lt capacity places) [] (filter (λ number. not (fits places g number)) state.waited)
+
 -- who lacks room, of whom this is known
-pub lacks : (capacity : ℕ) (g : GroupState) (state : RoomState) (n : ℕ) → list_any (λ (m : ℕ). m == n) (lacking_room capacity g state) ≡ (nat_lt (due_at state g) capacity && (not (fits (due_at state g + 1) g n) && is_waited_for n state))
-lacks capacity g state n = go (nat_lt (due_at state g) capacity)
+pub lacks : (capacity places : ℕ) (g : GroupState) (state : RoomState) (n : ℕ) → list_any (λ (m : ℕ). m == n) (lacking_at capacity places g state) ≡ (not (nat_lt capacity places) && (not (fits places g n) && is_waited_for n state))
+lacks capacity places g state n = go (nat_lt capacity places)
   where
-    go : (b : Bool) → list_any (λ (m : ℕ). m == n) (cond b (filter (λ (m : ℕ). not (fits (due_at state g + 1) g m)) state.waited) []) ≡ (b && (not (fits (due_at state g + 1) g n) && is_waited_for n state))
-    go true = any_filtered (λ (m : ℕ). not (fits (due_at state g + 1) g m)) n state.waited
-    go false = refl
+    go : (b : Bool) → list_any (λ (m : ℕ). m == n) (cond b [] (filter (λ (m : ℕ). not (fits places g m)) state.waited)) ≡ (not b && (not (fits places g n) && is_waited_for n state))
+    go true = refl
+    go false = any_filtered (λ (m : ℕ). not (fits places g m)) n state.waited
 
 -- as many are due as before it was heard
 pub due_heard : (state : RoomState) (old new : PlaceState) → HasHeard old new → due_at state new.cells.group ≡ due_at state old.cells.group
 due_heard state old new h = ap (λ x. length x.pending + state.reserved) h.topic
+
+-- so as many places are wanted
+pub wanted_heard : (capacity octets : ℕ) (state : RoomState) (old new : PlaceState) → HasHeard old new → wanted capacity octets state new.cells.group ≡ wanted capacity octets state old.cells.group
+wanted_heard capacity octets state old new h = ap (λ (due : ℕ). due + places_for capacity octets) (due_heard state old new h)
 
 -- ---- those that lack it, added to a list
 
@@ -429,37 +453,34 @@ pub on_err_anyway : {A E : Type 0} {P : Type 0} (r : Result A E) → P → OnErr
 on_err_anyway (Ok a) p = tt
 on_err_anyway (Err e) p = p
 
--- nobody lacks room where as many are due as there is room for
-pub lacks_full : (capacity : ℕ) (g : GroupState) (state : RoomState) (n : ℕ) → capacity ≤ due_at state g → false ≡ list_any (λ (m : ℕ). m == n) (lacking_room capacity g state)
-lacks_full capacity g state n le =
-    let many : nat_lt (due_at state g) capacity ≡ false = grind (arith, nat_tests) in
-    sym (lacks capacity g state n ∙ ap (λ (b : Bool). b && (not (fits (due_at state g + 1) g n) && is_waited_for n state)) many)
+-- nobody lacks room where more places are wanted than a queue has
+pub lacks_full : (capacity places : ℕ) (g : GroupState) (state : RoomState) (n : ℕ) → capacity < places → false ≡ list_any (λ (m : ℕ). m == n) (lacking_at capacity places g state)
+lacks_full capacity places g state n more =
+    let many : nat_lt capacity places ≡ true = grind (arith, nat_tests) in
+    sym (lacks capacity places g state n ∙ ap (λ (b : Bool). not b && (not (fits places g n) && is_waited_for n state)) many)
 
 -- one that isn't waited for doesn't lack it
-pub lacks_unwaited : (capacity : ℕ) (g : GroupState) (state : RoomState) (n : ℕ) → is_waited_for n state ≡ false → false ≡ list_any (λ (m : ℕ). m == n) (lacking_room capacity g state)
-lacks_unwaited capacity g state n e =
-    sym (lacks capacity g state n ∙ (ap (λ (w : Bool). nat_lt (due_at state g) capacity && (not (fits (due_at state g + 1) g n) && w)) e ∙ go (nat_lt (due_at state g) capacity) (fits (due_at state g + 1) g n)))
+pub lacks_unwaited : (capacity places : ℕ) (g : GroupState) (state : RoomState) (n : ℕ) → is_waited_for n state ≡ false → false ≡ list_any (λ (m : ℕ). m == n) (lacking_at capacity places g state)
+lacks_unwaited capacity places g state n e =
+    sym (lacks capacity places g state n ∙ (ap (λ (w : Bool). not (nat_lt capacity places) && (not (fits places g n) && w)) e ∙ go (nat_lt capacity places) (fits places g n)))
   where
-    go : (b c : Bool) → (b && (not c && false)) ≡ false
-    go true true = refl
-    go true false = refl
-    go false c = refl
+    go : (b c : Bool) → (not b && (not c && false)) ≡ false
+    go false true = refl
+    go false false = refl
+    go true c = refl
 
 -- nor does one that has it
-pub lacks_fitting : (capacity due : ℕ) (g : GroupState) (state : RoomState) (n : ℕ) → due ≡ due_at state g → fits (due + 1) g n ≡ true → false ≡ list_any (λ (m : ℕ). m == n) (lacking_room capacity g state)
-lacks_fitting capacity due g state n d e =
-    let f : fits (due_at state g + 1) g n ≡ true = subst (λ (k : ℕ). fits (k + 1) g n ≡ true) d e in
-    sym (lacks capacity g state n ∙ (ap (λ (w : Bool). nat_lt (due_at state g) capacity && (not w && is_waited_for n state)) f ∙ go (nat_lt (due_at state g) capacity)))
+pub lacks_fitting : (capacity places : ℕ) (g : GroupState) (state : RoomState) (n : ℕ) → fits places g n ≡ true → false ≡ list_any (λ (m : ℕ). m == n) (lacking_at capacity places g state)
+lacks_fitting capacity places g state n e =
+    sym (lacks capacity places g state n ∙ (ap (λ (w : Bool). not (nat_lt capacity places) && (not w && is_waited_for n state)) e ∙ go (nat_lt capacity places)))
   where
-    go : (b : Bool) → (b && false) ≡ false
+    go : (b : Bool) → (not b && false) ≡ false
     go true = refl
     go false = refl
 
 -- one that is waited for and has none does
-pub lacks_one : (capacity due : ℕ) (g : GroupState) (state : RoomState) (n : ℕ) → due ≡ due_at state g → due < capacity → is_waited_for n state ≡ true → fits (due + 1) g n ≡ false → true ≡ list_any (λ (m : ℕ). m == n) (lacking_room capacity g state)
-lacks_one capacity due g state n d less w e =
-    let f : fits (due_at state g + 1) g n ≡ false = subst (λ (k : ℕ). fits (k + 1) g n ≡ false) d e in
-    let some : due_at state g < capacity = omega (arith, less, d) in
-    let many : nat_lt (due_at state g) capacity ≡ true = grind (arith, nat_tests) in
-    sym (lacks capacity g state n ∙ (ap (λ (b : Bool). b && (not (fits (due_at state g + 1) g n) && is_waited_for n state)) many
-    ∙ (ap (λ (b : Bool). not b && is_waited_for n state) f ∙ w)))
+pub lacks_one : (capacity places : ℕ) (g : GroupState) (state : RoomState) (n : ℕ) → places ≤ capacity → is_waited_for n state ≡ true → fits places g n ≡ false → true ≡ list_any (λ (m : ℕ). m == n) (lacking_at capacity places g state)
+lacks_one capacity places g state n less w e =
+    let few : nat_lt capacity places ≡ false = grind (arith, nat_tests) in
+    sym (lacks capacity places g state n ∙ (ap (λ (b : Bool). not b && (not (fits places g n) && is_waited_for n state)) few
+    ∙ (ap (λ (b : Bool). not b && is_waited_for n state) e ∙ w)))

@@ -3,7 +3,9 @@ pub mod Faults
 pub mod Gathering
 pub mod Inner
 pub mod KeptTrace
+pub mod OctetBounds
 pub mod Opening
+pub mod PartOctets
 pub mod Place
 pub mod Room
 pub mod Rows

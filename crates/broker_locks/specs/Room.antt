@@ -15,6 +15,7 @@ use Rattle.mcast_group.specs.Machine.{Entry, after_cancel, after_propose, find_e
 use Rattle.mcast_group.specs.declared.state.SubState.{SubState}
 use Rattle.mcast_group.specs.declared.turned.Turned.{Turned}
 use Rattle.delivery.specs.Topics.{max_topics}
+use Rattle.broker_locks.specs.PartOctets.{places_for}
 use Rattle.broker_locks.specs.Place.{HasTurned, PlaceState, source_answers}
 use Rattle.broker_locks.specs.declared.no_room.NoRoom.{NoRoom}
 use Rattle.broker_locks.specs.declared.no_room.NoRoom.TheVariants as no_room
@@ -95,17 +96,23 @@ one_given_back state = record state { reserved = state.reserved - 1 }
 abbrev pub asked_from : ℕ → List ℕ → List ℕ
 asked_from start waited = filter (λ number. not (nat_lt number start)) waited ++ filter (λ number. nat_lt number start) waited
 
--- Whether one part more may be reserved, where a topic has room for so many: not where as many are due; and
--- not where one that is waited for has no room for all that are due and one more, of which the first is
--- answered, from this number on. So at capacity 4 with 4 parts due nobody is answered, whoever is waited for.
-abbrev pub reserve_answer : ℕ → ℕ → RoomState → GroupState → Result Unit (Option ℕ)
-reserve_answer capacity start state g =
-    if nat_lt (due_at state g) capacity
-    then elim (find (λ number. not (fits (due_at state g + 1) g number)) (asked_from start state.waited)) [
+-- How many places have to be free in a queue for one part more, of so many octets: for all that are due, and those
+-- that it asks for.
+abbrev pub wanted : ℕ → ℕ → RoomState → GroupState → ℕ
+wanted capacity octets state g = due_at state g + places_for capacity octets
+
+-- Whether one part more, of so many octets, may be reserved, where queues are of this capacity: not where more
+-- places are wanted than a queue has; and not where one that is waited for hasn't so many free, of which the first
+-- is answered, from this number on. So at capacity 4 with 4 parts due nobody is answered, whoever is waited for, and
+-- with 1 due a part that asks for 4 places isn't reserved either.
+abbrev pub reserve_answer : ℕ → ℕ → ℕ → RoomState → GroupState → Result Unit (Option ℕ)
+reserve_answer capacity octets start state g =
+    if nat_lt capacity (wanted capacity octets state g)
+    then Err None
+    else elim (find (λ number. not (fits (wanted capacity octets state g) g number)) (asked_from start state.waited)) [
       | None ↦ Ok tt
       | Some number ↦ Err (Some number)
     ]
-    else Err None
 
 -- those that are waited for and have no room for all that are due are passed over: waited for no longer
 abbrev pub passing_over : GroupState → RoomState → RoomState
@@ -131,13 +138,13 @@ waiting_for number state =
 abbrev pub waiting_without : ℕ → RoomState → RoomState
 waiting_without number state = record state { waited = filter (λ n. not (n == number)) state.waited }
 
--- those that lack room: they are waited for, and have none for all that are due and one more; where the topic
--- itself has no room for that, nobody lacks it
-abbrev pub lacking_room : ℕ → GroupState → RoomState → List ℕ
-lacking_room capacity g state =
-    if nat_lt (due_at state g) capacity
-    then filter (λ number. not (fits (due_at state g + 1) g number)) state.waited
-    else []
+-- those that lack room for one part more, of so many octets: they are waited for, and haven't as many places free as
+-- are wanted; where the topic itself has no room for it, nobody lacks it
+abbrev pub lacking_room : ℕ → ℕ → GroupState → RoomState → List ℕ
+lacking_room capacity octets g state =
+    if nat_lt capacity (wanted capacity octets state g)
+    then []
+    else filter (λ number. not (fits (wanted capacity octets state g) g number)) state.waited
 
 -- the list begins with these numbers
 abbrev pub BeginsWith : List ℕ → List ℕ → Type 0
@@ -148,8 +155,8 @@ abbrev pub IsPushed : List ℕ → List ℕ → List ℕ → Type 0
 IsPushed numbers old new = (first others : List ℕ) × (numbers ≡ first ++ others) × (new ≡ old ++ first)
 
 -- the first of those that lack room were added to a list
-abbrev pub IsFirstOfLacking : ℕ → GroupState → RoomState → List ℕ → List ℕ → Type 0
-IsFirstOfLacking capacity g state = IsPushed (lacking_room capacity g state)
+abbrev pub IsFirstOfLacking : ℕ → ℕ → GroupState → RoomState → List ℕ → List ℕ → Type 0
+IsFirstOfLacking capacity octets g state = IsPushed (lacking_room capacity octets g state)
 
 -- ---- a broker's answer
 

@@ -20,6 +20,7 @@ use crate::locked::Locked;
 use crate::locked_topic::LockedTopic;
 use crate::no_room::NoRoom;
 use crate::open_counts::OpenCounts;
+use crate::part_octets::PartOctets;
 use crate::point::Point;
 use crate::reserved::Reserved;
 use crate::server_fault::ServerFault;
@@ -248,7 +249,7 @@ impl<R: Wait, W: Side, T: Side> Broker<R, W, T> {
         let mut locked = lock.lock(rt);
         let (sub, start) = locked.subscribe(topic, source)?;
         self.opens.note(topic, locked.open_len());
-        let is_waited_for = wait && locked.wait_for(rt, sub);
+        let is_waited_for = wait && locked.wait_for(rt, self.capacity, sub);
         Ok((Subscribed { sub, start, taker }, is_waited_for))
     }
 
@@ -304,16 +305,19 @@ impl<R: Wait, W: Side, T: Side> Broker<R, W, T> {
         Reserved::none(self.alloc)
     }
 
-    /// Room for one part more, at this topic, behind what is reserved. Refused where the topic has none: as many parts are
-    /// pending and reserved there as a queue has places, or one that is waited for lacks room, of whom the first is named
-    /// by number `start` and above, and then below it. Nobody is refused before those that are waited for were asked what
-    /// was taken. A topic without a lock has room. Where it is refused nothing was taken; memory for the list is made
-    /// before the lock.
+    /// Room for one part more, of so many octets, at this topic, behind what is reserved. Refused where the topic has none:
+    /// so many parts are pending and reserved there that no queue has as many places beside them as it asks for, or one
+    /// that is waited for lacks room, of whom the first is named by number `start` and above, and then below it. It asks
+    /// for one place, and where it has more than 17 MiB divided by the capacity, for as many more as put it so far to the
+    /// front that it has no more than 17 MiB divided by its rank; one is reserved. Nobody is refused before those that are
+    /// waited for were asked what was taken. A topic without a lock has room. Where it is refused nothing was taken; memory
+    /// for the list is made before the lock.
     #[inline(always)]
     pub fn reserve_at(
         &self,
         rt: &R,
         topic: Topic,
+        octets: PartOctets,
         start: u64,
         reserved: &mut Reserved,
     ) -> Result<(), NoRoom>
@@ -325,7 +329,7 @@ impl<R: Wait, W: Side, T: Side> Broker<R, W, T> {
         let Ok(()) = reserved.push(topic) else {
             return Err(NoRoom::NoMemory);
         };
-        match self.one_reserved(rt, topic, start) {
+        match self.one_reserved(rt, topic, octets, start) {
             Ok(()) => Ok(()),
             Err(sub) => {
                 reserved.truncate(kept);
@@ -349,13 +353,19 @@ impl<R: Wait, W: Side, T: Side> Broker<R, W, T> {
         reserved.close();
     }
 
-    /// Reserves room for one part at the topic. Refused as `NoRoom::Full` says.
+    /// Reserves room for one part, of so many octets, at the topic. Refused as `NoRoom::Full` says.
     #[inline(always)]
-    fn one_reserved(&self, rt: &R, topic: Topic, start: u64) -> Result<(), Option<u64>>
+    fn one_reserved(
+        &self,
+        rt: &R,
+        topic: Topic,
+        octets: PartOctets,
+        start: u64,
+    ) -> Result<(), Option<u64>>
         ensures { OnErr result (topic.0 < max_topics) }
     {
         match self.lock_of(topic) {
-            Some(lock) => lock.lock(rt).reserve(rt, self.capacity, start),
+            Some(lock) => lock.lock(rt).reserve(rt, self.capacity, octets, start),
             None => Ok(()),
         }
     }
@@ -369,22 +379,28 @@ impl<R: Wait, W: Side, T: Side> Broker<R, W, T> {
         }
     }
 
-    /// Whether the topic's subscription of this number is waited for from now on: it is open, and what it is known to
-    /// leave (its source hears first what its taker told) is room for all parts that are pending and reserved. So it is
+    /// Whether the topic's subscription of this number is waited for from now on: it is open, its queue is known to be empty
+    /// (its source hears first what its taker told), and no more parts are pending and reserved than it holds. So it is
     /// where it was waited for. Not where there is no such lock, or no memory for one place more in the list of them.
     pub fn wait_for(&self, rt: &R, topic: Topic, sub: u64) -> bool
         ensures nowhere { max_topics ≤ topic.0 → result ≡ false }
     {
         match self.lock_of(topic) {
-            Some(lock) => lock.lock(rt).wait_for(rt, sub),
+            Some(lock) => lock.lock(rt).wait_for(rt, self.capacity, sub),
             None => false,
         }
     }
 
-    /// Adds the numbers of the topic's subscriptions that are waited for and have no room for one part more to the
-    /// list, rising; nobody, where as many parts are pending and reserved as a queue takes. Room for them is made before
-    /// the lock; out of memory, the list has the first of them.
-    pub fn lacking(&self, rt: &R, topic: Topic, list: &mut Vec<u64>) -> Result<(), NoMemory>
+    /// Adds the numbers of the topic's subscriptions that are waited for and have no room for one part more, of so many
+    /// octets, to the list, rising; nobody, where so many parts are pending and reserved that no queue has that room. Memory
+    /// for them is made before the lock; without, the list has the first of them.
+    pub fn lacking(
+        &self,
+        rt: &R,
+        topic: Topic,
+        octets: PartOctets,
+        list: &mut Vec<u64>,
+    ) -> Result<(), NoMemory>
         ensures begins { BeginsWith list.old.items list.new.items }
         ensures nowhere { max_topics ≤ topic.0 → (result ≡ Ok tt) × (list.new.items ≡ list.old.items) }
     {
@@ -392,16 +408,16 @@ impl<R: Wait, W: Side, T: Side> Broker<R, W, T> {
             return Ok(());
         };
         list.reserve(self.open_at(topic))?;
-        lock.lock(rt).lacking(rt, self.capacity, list)
+        lock.lock(rt).lacking(rt, self.capacity, octets, list)
     }
 
-    /// Whether the topic's subscription of this number was waited for and lacked room for one part more, as `lacking`
-    /// says: then it is waited for no longer.
-    pub fn pass_over(&self, rt: &R, topic: Topic, sub: u64) -> bool
+    /// Whether the topic's subscription of this number was waited for and lacked room for one part more, of so many octets,
+    /// as `lacking` says: then it is waited for no longer.
+    pub fn pass_over(&self, rt: &R, topic: Topic, octets: PartOctets, sub: u64) -> bool
         ensures nowhere { max_topics ≤ topic.0 → result ≡ false }
     {
         match self.lock_of(topic) {
-            Some(lock) => lock.lock(rt).pass_over(rt, self.capacity, sub),
+            Some(lock) => lock.lock(rt).pass_over(rt, self.capacity, octets, sub),
             None => false,
         }
     }

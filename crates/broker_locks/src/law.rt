@@ -8,6 +8,7 @@ ghost use Rattle.mcast_txn.specs.Flight.{Sight};
 ghost use Rattle.mcast_txn.specs.Stamp.{greatest};
 ghost use Rattle.broker_locks.specs.Commits.{KnowsStamp};
 ghost use Rattle.broker_locks.specs.Gathering.{GatheredIsDue};
+ghost use Rattle.broker_locks.specs.OctetBounds.{KeepsOctetsFew};
 ghost use Rattle.broker_locks.specs.Room.{StaysRoomy};
 ghost use Rattle.broker_locks.specs.TopicTraces.{ExplainedIsDue};
 
@@ -31,6 +32,13 @@ pub fn gathered_is_due()
 /// entered with a reservation, taken out, released or turned there: so no turn lags it.
 pub fn stays_roomy()
     ensures { StaysRoomy NoMemory }
+{}
+
+/// What is due at a topic and untaken in the queue of a subscription that is waited for there is at most 64 MiB beside the
+/// largest part, in queues of at most 64: reserving keeps the ranks that say so, and whatever else is done there, too.
+/// What is entered without a reservation isn't counted by its octets.
+pub fn octets_stay_few()
+    ensures { KeepsOctetsFew }
 {}
 
 /// The stamp that a commit answered is that of the verdict which any note of its flight's cell knows, in whichever

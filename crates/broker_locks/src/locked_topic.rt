@@ -11,9 +11,10 @@ ghost use Rattle.delivery.specs.Topics.{max_topics};
 ghost use Rattle.trace_audit.specs.declared.fault.AddFault.TheVariants.{Misfit};
 ghost use Rattle.broker_locks.specs.Inner.Waited.{waiting_without_each};
 ghost use Rattle.broker_locks.specs.Place.{EndsInOrder, EndsOne, HasDoneNothing, HasTurned, IsIdle, new_place, place_after_cancel, place_after_propose, place_after_subscribe, place_after_unsubscribe, place_fault, place_subscribe_fault, topic_limit};
-ghost use Rattle.broker_locks.specs.Room.{HasHeard, IsFirstOfLacking, KeepsRoom, lacking_room, more_reserved, one_given_back, one_reserved, reserve_answer, room_after_enter, waiting_for, waiting_without};
+ghost use Rattle.broker_locks.specs.Room.{HasHeard, IsFirstOfLacking, KeepsRoom, fits, is_waited_for, lacking_room, more_reserved, one_given_back, one_reserved, reserve_answer, room_after_enter, waiting_for, waiting_without};
 
 use crate::counts::Counts;
+use crate::part_octets::PartOctets;
 use crate::place::Place;
 use crate::room::Room;
 use crate::side::Side;
@@ -267,17 +268,24 @@ impl<R: Wait, T: Side> LockedTopic<R, T> {
         }
     }
 
-    /// Reserves room for one part more, where a topic has room for so many. Refused by the first of the subscriptions
-    /// that are waited for whose queue lacks room, from the number `start` on and then of those below it, or by none where
-    /// as many parts are pending and reserved.
-    pub(crate) fn reserve(&mut self, rt: &R, capacity: usize, start: u64) -> Result<(), Option<u64>>
+    /// Reserves room for one part more, of so many octets, where queues are of this capacity. Refused by the first of the
+    /// subscriptions that are waited for whose queue lacks room, from the number `start` on and then of those below it, or
+    /// by none where a whole queue has too little beside what is pending and reserved.
+    pub(crate) fn reserve(
+        &mut self,
+        rt: &R,
+        capacity: usize,
+        octets: PartOctets,
+        start: u64,
+    ) -> Result<(), Option<u64>>
+        requires { 0 < capacity }
         ensures heard { HasHeard self.old.place self.new.place }
-        ensures answer { result ≡ reserve_answer capacity start self.old.room self.new.place.cells.group }
+        ensures answer { result ≡ reserve_answer capacity octets.0 start self.old.room self.new.place.cells.group }
         ensures ok { OnOk result (self.new.room ≡ one_reserved self.old.room) }
         ensures err { OnErr result (self.new.room ≡ self.old.room) }
     {
         self.room
-            .reserve(rt, capacity, start, &mut self.place, &mut self.spare)
+            .reserve(rt, capacity, octets, start, &mut self.place, &mut self.spare)
     }
 
     /// Gives back what was reserved for one part, where it is reserved.
@@ -288,45 +296,59 @@ impl<R: Wait, T: Side> LockedTopic<R, T> {
         self.room.give_back();
     }
 
-    /// Whether the subscription is waited for from now on: it is open, and has room for all parts that are pending and
-    /// reserved. Not where there is no memory for one place more in the list of them.
-    pub(crate) fn wait_for(&mut self, rt: &R, number: u64) -> bool
+    /// Whether the subscription is waited for from now on: it is open, and its queue, of this capacity, is known to be
+    /// empty and takes all parts that are pending and reserved. So it is where it was waited for. Not where there is no
+    /// memory for one place more in the list of them.
+    pub(crate) fn wait_for(&mut self, rt: &R, capacity: usize, number: u64) -> bool
         ensures heard { HasHeard self.old.place self.new.place }
         ensures yes { result ≡ true → self.new.room ≡ waiting_for number self.old.room }
+        ensures empty { result ≡ true → is_waited_for number self.old.room ≡ false
+            → fits capacity self.new.place.cells.group number ≡ true }
         ensures no { result ≡ false → self.new.room ≡ self.old.room }
     {
         self.room
-            .wait_for(rt, number, &mut self.place, &mut self.spare)
+            .wait_for(rt, capacity, number, &mut self.place, &mut self.spare)
     }
 
-    /// Adds the numbers of those that are waited for and lack room for one part more to a list, where a topic has room
-    /// for so many parts. Out of memory, the first of them were added.
+    /// Adds the numbers of those that are waited for and lack room for one part more, of so many octets, to a list, where
+    /// queues are of this capacity. Out of memory, the first of them were added.
     pub(crate) fn lacking(
         &mut self,
         rt: &R,
         capacity: usize,
+        octets: PartOctets,
         list: &mut Vec<u64>,
     ) -> Result<(), NoMemory>
+        requires { 0 < capacity }
         ensures heard { HasHeard self.old.place self.new.place }
         ensures ok { OnOk result (list.new.items
-            ≡ list.old.items ++ lacking_room capacity self.new.place.cells.group self.old.room) }
-        ensures err { OnErr result
-            (IsFirstOfLacking capacity self.new.place.cells.group self.old.room list.old.items list.new.items) }
+            ≡ list.old.items ++ lacking_room capacity octets.0 self.new.place.cells.group self.old.room) }
+        ensures err { OnErr result (IsFirstOfLacking capacity octets.0 self.new.place.cells.group self.old.room
+            list.old.items list.new.items) }
         ensures room { self.new.room ≡ self.old.room }
     {
-        self.room.lacking(rt, capacity, &mut self.place, list)
+        self.room
+            .lacking(rt, capacity, octets, &mut self.place, list)
     }
 
-    /// Whether this subscription was waited for and lacked room for one part more, as `lacking` says: then it is
-    /// waited for no longer.
-    pub(crate) fn pass_over(&mut self, rt: &R, capacity: usize, number: u64) -> bool
+    /// Whether this subscription was waited for and lacked room for one part more, of so many octets, as `lacking` says:
+    /// then it is waited for no longer.
+    pub(crate) fn pass_over(
+        &mut self,
+        rt: &R,
+        capacity: usize,
+        octets: PartOctets,
+        number: u64,
+    ) -> bool
+        requires { 0 < capacity }
         ensures heard { HasHeard self.old.place self.new.place }
         ensures answer { result ≡ list_any (λ n. n == number)
-            (lacking_room capacity self.new.place.cells.group self.old.room) }
+            (lacking_room capacity octets.0 self.new.place.cells.group self.old.room) }
         ensures yes { result ≡ true → self.new.room ≡ waiting_without number self.old.room }
         ensures no { result ≡ false → self.new.room ≡ self.old.room }
     {
-        self.room.pass_over(rt, capacity, number, &mut self.place)
+        self.room
+            .pass_over(rt, capacity, octets, number, &mut self.place)
     }
 }
 

@@ -10,7 +10,7 @@ use thiserror::Error;
 #[derive(Clone, Copy, Debug, PartialEq, Eq, Error)]
 pub enum NoRoom {
     /// 104: this topic has none. `sub` is the first of the subscriptions that are waited for there whose queue lacks
-    /// room for one part more; none, where as many parts are pending and reserved as a queue takes.
+    /// room for the part; none, where so many parts are pending and reserved that no queue has it.
     #[error("104 Full: no room at the topic; wait until a queue is taken from, or the topic is turned")]
     Full { topic: Topic, sub: Option<u64> },
     /// 105: out of memory for the list of the topics.

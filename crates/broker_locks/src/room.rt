@@ -1,14 +1,15 @@
 //! Room that is reserved at a topic, and who is waited for there.
 
-ghost use Rattle.std.specs.Prelude.{◌≡◌, ◌≤◌, ◌<◌, ◌+◌, ◌++◌, ◌==◌, ◌&&◌, nat_lt, ℕ, [], true, false, filter, not, Some, None, IfOk, IfErr, IfSome, IfNone, OnOk, OnErr, drop, take, length};
+ghost use Rattle.std.specs.Prelude.{◌≡◌, ◌≤◌, ◌<◌, ◌+◌, ◌^◌, ◌++◌, ◌==◌, ◌&&◌, nat_lt, ℕ, [], true, false, filter, not, Some, None, IfOk, IfErr, IfSome, IfNone, OnOk, OnErr, drop, take, length};
 ghost use Rattle.std.specs.List.{find, list_any};
 ghost use Rattle.mcast_txn.proofs.Rising.{Finds, IsGap};
 ghost use Rattle.mcast_txn.specs.Lists.{In, RisesBy};
 ghost use Rattle.mcast_group.specs.Group.{IsTold};
 ghost use Rattle.broker_locks.specs.Inner.Waited.{HaveSpare, spare_after_enter, waited_number};
 ghost use Rattle.broker_locks.specs.Room.{HasHeard, HasRoom, IsFirstOfLacking, IsPushed, asked_from, due_at, fits, is_waited_for};
-ghost use Rattle.broker_locks.specs.Room.{lacking_room, one_given_back, one_reserved, passing_over, reserve_answer, room_after_enter, waiting_for, waiting_without};
+ghost use Rattle.broker_locks.specs.Room.{lacking_room, one_given_back, one_reserved, passing_over, reserve_answer, room_after_enter, waiting_for, waiting_without, wanted};
 
+use crate::part_octets::PartOctets;
 use crate::place::Place;
 use mcast_group::SubState;
 use mcast_txn::NoMemory;
@@ -62,44 +63,57 @@ impl Room {
 
     /// How many parts are due at its topic: those that are pending, and those for which room is reserved.
     fn due<R: Wait>(&self, place: &Place<R>) -> u128
-        ensures { result ≡ due_at self.now place.now.cells.group }
+        ensures due { result ≡ due_at self.now place.now.cells.group }
+        ensures few { result < 2 ^ 65 }
     {
         let pending = place.group().pending_len() as u64;
         u128::from(pending) + u128::from(self.reserved)
     }
 
-    /// Reserves room for one part more, where a topic has room for so many. `spare` is how many items more than parts
-    /// are due each that is waited for takes at least: where it is 0, they are asked what was taken, from the number
-    /// `start` on and then those below it, and it is found anew. Refused by the first of them that lacks room, or by
-    /// none where as many are due.
+    /// How many places have to be free in a queue of this capacity for one part more, of so many octets.
+    fn wanted<R: Wait>(&self, capacity: usize, octets: PartOctets, place: &Place<R>) -> u128
+        requires { 0 < capacity }
+        ensures { result ≡ wanted capacity octets.0 self.now place.now.cells.group }
+    {
+        self.due(place) + u128::from(octets.places(capacity))
+    }
+
+    /// Reserves room for one part more, of so many octets, where queues are of this capacity. `spare` is how many items
+    /// more than parts are due each that is waited for takes at least: where that is too little, they are asked what was
+    /// taken, from the number `start` on and then those below it, and it is found anew. Refused by the first of them that
+    /// lacks room, or by none where a whole queue has too little beside what is due.
     pub(crate) fn reserve<R: Wait>(
         &mut self,
         rt: &R,
         capacity: usize,
+        octets: PartOctets,
         start: u64,
         place: &mut Place<R>,
         spare: &mut u64,
     ) -> Result<(), Option<u64>>
-        requires { HaveSpare spare.old self.old place.old.cells.group }
+        requires capacity { 0 < capacity }
+        requires spare { HaveSpare spare.old self.old place.old.cells.group }
         ensures heard { HasHeard place.old place.new }
-        ensures answer { result ≡ reserve_answer capacity start self.old place.new.cells.group }
+        ensures answer { result ≡ reserve_answer capacity octets.0 start self.old place.new.cells.group }
         ensures ok { OnOk result (self.new ≡ one_reserved self.old) }
         ensures spare { OnOk result (HaveSpare spare.new self.new place.new.cells.group) }
         ensures err { OnErr result (self.new ≡ self.old) }
         ensures same { OnErr result (spare.new ≡ spare.old) }
     {
         let due = self.due(place);
-        if due >= capacity as u128 {
+        let places = octets.places(capacity);
+        let wanted = due + u128::from(places);
+        if wanted > capacity as u128 {
             return Err(None);
         }
-        if *spare > 0 {
+        if *spare >= places {
             *spare -= 1;
             self.reserved += 1;
             return Ok(());
         }
-        match least_spare(rt, due + 1, start, &self.waited, place) {
+        match least_spare(rt, wanted, start, &self.waited, place) {
             Ok(least) => {
-                *spare = least;
+                *spare = least.saturating_add(places - 1);
                 self.reserved += 1;
                 Ok(())
             }
@@ -172,12 +186,13 @@ impl Room {
         self.search(number).is_ok()
     }
 
-    /// Whether the subscription is waited for from now on: it is open, and has room for all parts that are due, once
-    /// it was asked what was taken; the spare is then no more than it has beside them. So it is where it was waited
-    /// for. Not where there is no memory for one place more in the list of them.
+    /// Whether the subscription is waited for from now on: it is open, and its queue, of this capacity, is known to be
+    /// empty and takes all parts that are due, once it was asked what was taken; the spare is then no more than it has
+    /// beside them. So it is where it was waited for. Not where there is no memory for one place more in the list of them.
     pub(crate) fn wait_for<R: Wait>(
         &mut self,
         rt: &R,
+        capacity: usize,
         number: u64,
         place: &mut Place<R>,
         spare: &mut u64,
@@ -186,6 +201,8 @@ impl Room {
         ensures yes { result ≡ true → self.new ≡ waiting_for number self.old }
         ensures has { result ≡ true → is_waited_for number self.old ≡ false
             → HasRoom (due_at self.old place.new.cells.group + spare.new) place.new.cells.group number }
+        ensures empty { result ≡ true → is_waited_for number self.old ≡ false
+            → fits capacity place.new.cells.group number ≡ true }
         ensures was { result ≡ false → is_waited_for number self.old ≡ false }
         ensures no { result ≡ false → self.new ≡ self.old }
         ensures spare { spare.new ≤ spare.old }
@@ -193,13 +210,15 @@ impl Room {
         let Err(index) = self.search(number) else {
             return true;
         };
-        let Some(more) = ready_spare(rt, self.due(place), number, place) else {
+        let due = self.due(place);
+        let least = due.max(capacity as u128);
+        let Some(more) = ready_spare(rt, least, number, place) else {
             return false;
         };
         if !self.put(index, number) {
             return false;
         }
-        *spare = (*spare).min(more);
+        *spare = (*spare).min(more.saturating_add((least - due) as u64));
         true
     }
 
@@ -223,50 +242,54 @@ impl Room {
         }
     }
 
-    /// Adds the numbers of those that are waited for and lack room for one part more to a list, where a topic has room
-    /// for so many parts, once they were asked what was taken. Out of memory, the first of them were added.
+    /// Adds the numbers of those that are waited for and lack room for one part more, of so many octets, to a list, where
+    /// queues are of this capacity, once they were asked what was taken. Out of memory, the first of them were added.
     pub(crate) fn lacking<R: Wait>(
         &self,
         rt: &R,
         capacity: usize,
+        octets: PartOctets,
         place: &mut Place<R>,
         list: &mut Vec<u64>,
     ) -> Result<(), NoMemory>
+        requires { 0 < capacity }
         ensures heard { HasHeard place.old place.new }
         ensures ok { OnOk result
-            (list.new.items ≡ list.old.items ++ lacking_room capacity place.new.cells.group self.now) }
+            (list.new.items ≡ list.old.items ++ lacking_room capacity octets.0 place.new.cells.group self.now) }
         ensures err { OnErr result
-            (IsFirstOfLacking capacity place.new.cells.group self.now list.old.items list.new.items) }
+            (IsFirstOfLacking capacity octets.0 place.new.cells.group self.now list.old.items list.new.items) }
     {
-        let due = self.due(place);
-        if due >= capacity as u128 {
+        let wanted = self.wanted(capacity, octets, place);
+        if wanted > capacity as u128 {
             return Ok(());
         }
-        add_lacking(rt, due + 1, &self.waited, place, list)
+        add_lacking(rt, wanted, &self.waited, place, list)
     }
 
-    /// Whether this subscription was waited for and lacked room for one part more, as `lacking` says: then it is
-    /// waited for no longer.
+    /// Whether this subscription was waited for and lacked room for one part more, of so many octets, as `lacking` says:
+    /// then it is waited for no longer.
     pub(crate) fn pass_over<R: Wait>(
         &mut self,
         rt: &R,
         capacity: usize,
+        octets: PartOctets,
         number: u64,
         place: &mut Place<R>,
     ) -> bool
+        requires { 0 < capacity }
         ensures heard { HasHeard place.old place.new }
-        ensures answer { result ≡ list_any (λ n. n == number) (lacking_room capacity place.new.cells.group self.old) }
+        ensures answer { result ≡ list_any (λ n. n == number) (lacking_room capacity octets.0 place.new.cells.group self.old) }
         ensures yes { result ≡ true → self.new ≡ waiting_without number self.old }
         ensures no { result ≡ false → self.new ≡ self.old }
     {
-        let due = self.due(place);
-        if due >= capacity as u128 {
+        let wanted = self.wanted(capacity, octets, place);
+        if wanted > capacity as u128 {
             return false;
         }
         if !self.is_waited_for(number) {
             return false;
         }
-        if takes(rt, due + 1, number, place) {
+        if takes(rt, wanted, number, place) {
             return false;
         }
         self.forget(number);

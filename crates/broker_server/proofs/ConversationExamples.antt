@@ -1,13 +1,23 @@
 -- Worked examples of what a connection asks of the broker, and what it takes of its queues.
-use Rattle.std.proofs.Common.{◌≡◌, ℕ, ◌≤◌, true, false, List, [], ◌∷◌, ◌++◌, length, map, codes, Option, Some, None, Ok, inl, inr, refl, ap, ◌∙◌, arith}
+use Rattle.std.proofs.Common.{◌≡◌, ℕ, ◌<◌, ◌≤◌, nat_lt, Bool, true, false, List, [], ◌∷◌, ◌++◌, length, map, codes, Option, Some, None, Ok, inl, inr, refl, ap, ◌∙◌, arith}
+use Rattle.std.proofs.lemmas.Bool.Decides.{nat_tests}
+use Rattle.mcast_txn.specs.Span.{Item}
 use Rattle.mcast_txn.specs.declared.stamp.Stamp.{Stamp}
 use Rattle.sender_gate.specs.Gate.{FlightState, GateState, gate_after}
+use Rattle.stomp_frame.specs.declared.case_fault.CaseFault.{CaseFault}
+use Rattle.stomp_frame.specs.declared.case_fault.RequiredHeader.{RequiredHeader}
+use Rattle.stomp_frame.specs.declared.command.Command.TheVariants as commands
+use Rattle.stomp_frame.specs.declared.raw_frame.RawFrame.{RawFrame}
 use Rattle.stomp_frame.specs.ServerFrames.{receipt_frame}
+use Rattle.delivery.specs.Core.Output.{messages_for}
+use Rattle.delivery.specs.declared.connection_fault.ConnectionFault.TheVariants as connection
 use Rattle.broker_server.specs.declared.conversation.conversation_fault.ConversationFault.{ConversationFault}
-use Rattle.broker_server.specs.declared.conversation.drained.Taking.TheVariants.{Emptied, Stopped, Failed}
+use Rattle.broker_server.specs.declared.conversation.conversation_fault.ConversationFault.TheVariants as fault
+use Rattle.broker_server.specs.declared.conversation.drained.Taking.TheVariants.{Emptied, Stopped, Halfway, Failed}
 use Rattle.broker_server.specs.BrokerRows.{AsksLag, GivesBack, IsGateAfter, SubName, Takes, Unsubscribes}
+use Rattle.broker_server.specs.ConversationFaults.{tells_version}
 use Rattle.broker_server.specs.Conversations.{ConversationState, EndsSub, OpenSubState, begun_sub, closing_rows, gate_rows, next_without}
-use Rattle.broker_server.specs.Delivering.{Drains, DrainsAll, DrainsQueues, IsLag, begins_at, full_wire}
+use Rattle.broker_server.specs.Delivering.{Drains, DrainsAll, DrainsOn, DrainsQueues, IsLag, begins_at, full_wire, has_room, left_behind, taken_messages, with_messages}
 use Rattle.broker_server.specs.Judging.{Grows}
 use Rattle.broker_server.specs.Wires.{spelling_with_eol}
 
@@ -17,13 +27,13 @@ named n = record { topic = record { 0 = 0 }; number = n }
 
 -- three subscriptions, whose queues hold two items
 abbrev a : OpenSubState
-a = begun_sub (codes "a") (named 0) 2
+a = begun_sub (codes "a") false (named 0) 2
 
 abbrev b : OpenSubState
-b = begun_sub (codes "b") (named 1) 2
+b = begun_sub (codes "b") false (named 1) 2
 
 abbrev c : OpenSubState
-c = begun_sub (codes "c") (named 2) 2
+c = begun_sub (codes "c") false (named 2) 2
 
 -- ---- names, subscriptions, gates
 
@@ -54,8 +64,8 @@ a_receipt_with_its_eol = refl
 -- ---- queues
 
 -- nothing is left of a queue that is found empty, and it can't have lagged
-empty_queue : (n : ℕ) (id : List ℕ) → Drains false 2 0 (Takes (named n) None ∷ []) (begun_sub id (named n) 2) [] Emptied (begun_sub id (named n) 2) []
-empty_queue n id = (omega arith, refl, inr (refl, omega arith, refl, refl), refl)
+empty_queue : (n : ℕ) (id : List ℕ) → DrainsOn false 2 (Takes (named n) None ∷ []) (begun_sub id false (named n) 2) [] Emptied (begun_sub id false (named n) 2) []
+empty_queue n id = inl (refl, (omega arith, refl, inr (refl, omega arith, refl, refl), refl))
 
 -- of three queues, from the second on, the first is the last that is looked at
 pub second_first : DrainsQueues false 2 1 (Takes (named 1) None ∷ Takes (named 2) None ∷ Takes (named 0) None ∷ []) (a ∷ b ∷ c ∷ []) [] Emptied (a ∷ b ∷ c ∷ []) [] 1
@@ -72,7 +82,7 @@ second_first =
 pub third_next : (wire : List ℕ) → full_wire ≤ length wire → DrainsQueues false 2 1 [] (a ∷ b ∷ c ∷ []) wire Stopped (a ∷ b ∷ c ∷ []) wire 2
 third_next wire full =
     let back : DrainsAll false 2 [] (b ∷ c ∷ []) wire Stopped (b ∷ c ∷ []) wire 1 =
-    ([], [], refl, Stopped, b, c ∷ [], wire, (inl full, refl, refl, refl), refl, (refl, refl, refl, refl, refl)) in
+    ([], [], refl, Stopped, b, c ∷ [], wire, inl (refl, (inl full, refl, refl, refl)), refl, (refl, refl, refl, refl, refl)) in
     (a ∷ [], b ∷ c ∷ [], refl, refl, [], [], refl, Stopped, b ∷ c ∷ [], a ∷ [], wire, 1, 0, back, refl, (refl, refl, refl, refl, refl))
 
 -- of a, b and c, where c is next, it is still next when a has gone
@@ -92,3 +102,47 @@ lag_is_told why lag =
 -- where 65,536 octets wait, nothing is taken
 pub wire_is_full : (wire : List ℕ) → full_wire ≤ length wire → Drains false 2 0 [] a wire Stopped a wire
 wire_is_full wire full = (inl full, refl, refl, refl)
+
+-- ---- an item that doesn't fit
+
+-- an item of three MESSAGEs, of which the second fills the wire: the third is left, and the first two wait
+pub third_is_left : (f g h : RawFrame) (wire : List ℕ) → has_room false wire ≡ true → has_room false (wire ++ spelling_with_eol f) ≡ true → has_room false ((wire ++ spelling_with_eol f) ++ spelling_with_eol g) ≡ false
+    → (left_behind false (f ∷ g ∷ h ∷ []) wire ≡ h ∷ []) × (with_messages false (f ∷ g ∷ h ∷ []) wire ≡ (wire ++ spelling_with_eol f) ++ spelling_with_eol g)
+third_is_left f g h wire first second full = rw first (rw second (rw full (refl, refl)))
+
+-- while a transaction of the connection waits for room, all three are written
+pub none_is_left : (f g h : RawFrame) (wire : List ℕ) → left_behind true (f ∷ g ∷ h ∷ []) wire ≡ []
+none_is_left f g h wire = refl
+
+-- once there is room, the third is written, and the queue, which is empty, is asked for the next item
+pub third_goes_on : (h : RawFrame) (wire : List ℕ) → has_room false wire ≡ true → has_room false (wire ++ spelling_with_eol h) ≡ true → DrainsOn false 2 (Takes (named 0) None ∷ []) (record a { left = h ∷ [] }) wire Emptied a (wire ++ spelling_with_eol h)
+third_goes_on h wire room more =
+    inl (rw room refl, rw room (below more, refl, inr (refl, omega arith, refl, refl), refl))
+  where
+    below : nat_lt (length (wire ++ spelling_with_eol h)) full_wire ≡ true → length (wire ++ spelling_with_eol h) < full_wire
+    below less = grind (arith, nat_tests)
+
+-- where the second of three queues has one MESSAGE left, and no room, nothing is asked, and that queue is next again
+pub second_next_again : (h : RawFrame) (wire : List ℕ) → has_room false wire ≡ false → DrainsQueues false 2 1 [] (a ∷ record b { left = h ∷ [] } ∷ c ∷ []) wire Halfway (a ∷ record b { left = h ∷ [] } ∷ c ∷ []) wire 1
+second_next_again h wire full =
+    let second = record b { left = h ∷ [] } in
+    let off : DrainsOn false 2 [] second wire Halfway second wire = inr (refl, inl (rw full refl, refl, rw full refl, rw full refl)) in
+    let back : DrainsAll false 2 [] (second ∷ c ∷ []) wire Halfway (second ∷ c ∷ []) wire 2 =
+    ([], [], refl, Halfway, second, c ∷ [], wire, off, refl, (refl, refl, refl, refl, refl)) in
+    (a ∷ [], second ∷ c ∷ [], refl, refl, [], [], refl, Halfway, second ∷ c ∷ [], a ∷ [], wire, 2, 0, back, refl, (refl, refl, refl, refl, refl))
+
+-- ---- ERROR 22
+
+-- a CONNECT without a host that offers 1.1 and 1.2 isn't told the version, and one that offers 1.1 is
+abbrev connecting : List ℕ → RawFrame
+connecting versions = record { command = commands.Connect; headers = (codes "accept-version", versions) ∷ []; body = [] }
+
+abbrev missing_host : ConversationFault
+missing_host = fault.Connection (connection.Frame (CaseFault.Missing RequiredHeader.Host))
+
+pub host_is_missing : (tells_version (Some (connecting (codes "1.1,1.2"))) missing_host ≡ false) × (tells_version (Some (connecting (codes "1.1"))) missing_host ≡ true)
+host_is_missing = (refl, refl)
+
+-- what is taken of two items: the MESSAGEs of the first, and then those of the second
+pub two_items : (parts : Bool) (id : List ℕ) (first second : Item) (n : SubName) → taken_messages parts id (Takes n (Some first) ∷ Takes n (Some second) ∷ Takes n None ∷ []) ≡ messages_for parts id first ++ (messages_for parts id second ++ [])
+two_items parts id first second n = refl

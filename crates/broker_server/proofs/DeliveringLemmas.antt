@@ -3,22 +3,75 @@ use Rattle.std.proofs.Common.{◌≡◌, ◌⊎◌, inl, inr, ℕ, zero, suc, �
 use Rattle.std.specs.Prelude.{◌||◌}
 use Rattle.std.proofs.lemmas.Bool.{cases_lt, false≢true, true≢false}
 use Rattle.std.proofs.lemmas.List.Folds.{list_any-append}
+use Rattle.stomp_frame.specs.declared.raw_frame.RawFrame.{RawFrame}
 use Rattle.mcast_txn.specs.Span.{Item}
 use Rattle.broker_server.specs.declared.conversation.drained.Taking.{Taking}
-use Rattle.broker_server.specs.declared.conversation.drained.Taking.TheVariants.{Emptied, Stopped, Failed}
+use Rattle.broker_server.specs.declared.conversation.drained.Taking.TheVariants.{Emptied, Stopped, Halfway, Failed}
 use Rattle.broker_server.specs.BrokerRows.{AsksLag, BrokerRow, SubName, Takes}
 use Rattle.broker_server.specs.Conversations.{OpenSubState}
-use Rattle.broker_server.specs.Delivering.{Drains, DrainsAll, DrainsQueues, IfEmptied, nearer_lag, begins_at, full_wire, has_item, is_item, with_pushed}
+use Rattle.broker_server.specs.Delivering.{BreaksOff, Drains, DrainsAll, DrainsOn, DrainsQueues, IfEmptied, WritesAll, nearer_lag, begins_at, full_wire, has_item, has_room, is_item, left_behind, left_from, messages_of, with_messages}
+use Rattle.broker_server.specs.Wires.{spelling_with_eol}
 
 -- what was asked, and then more
 pub drains_behind : (waits : Bool) (capacity : ℕ) (asked more rows : List BrokerRow) (o : OpenSubState) (wire : List ℕ) (end : Taking) (new : OpenSubState) (after : List ℕ) → Drains waits capacity 0 (asked ++ (more ++ rows)) o wire end new after → Drains waits capacity 0 ((asked ++ more) ++ rows) o wire end new after
 drains_behind waits capacity asked more rows o wire end new after drains =
     subst (λ (all : List BrokerRow). Drains waits capacity 0 all o wire end new after) (sym (append_assoc asked more rows)) drains
 
--- an item is taken and written
-pub drains_item : (waits : Bool) (capacity calls : ℕ) (o next : OpenSubState) (wire more : List ℕ) (item : Item) (sub : SubName) → length wire < full_wire → sub ≡ o.sub → next ≡ nearer_lag o → more ≡ with_pushed o item wire → (rows : List BrokerRow) (end : Taking) (new : OpenSubState) (after : List ℕ) → Drains waits capacity (calls + 1) rows next more end new after → Drains waits capacity calls (Takes sub (Some item) ∷ rows) o wire end new after
-drains_item waits capacity calls o next wire more item sub room same next_is more_is rows end new after drains =
-    (room, same, inl (subst (λ (w : List ℕ). Drains waits capacity (calls + 1) rows (nearer_lag o) w end new after) more_is (subst (λ (q : OpenSubState). Drains waits capacity (calls + 1) rows q more end new after) next_is drains)))
+-- an item is taken and written as a whole
+pub drains_item : (waits : Bool) (capacity calls : ℕ) (o next : OpenSubState) (wire more : List ℕ) (item : Item) (sub : SubName) → length wire < full_wire → sub ≡ o.sub → next ≡ nearer_lag o → WritesAll waits (messages_of o item) wire more → (rows : List BrokerRow) (end : Taking) (new : OpenSubState) (after : List ℕ) → Drains waits capacity (calls + 1) rows next more end new after → Drains waits capacity calls (Takes sub (Some item) ∷ rows) o wire end new after
+drains_item waits capacity calls o next wire more item sub room same next_is (whole, more_is) rows end new after drains =
+    (room, same, inl (whole, subst (λ (w : List ℕ). Drains waits capacity (calls + 1) rows (nearer_lag o) w end new after) more_is (subst (λ (q : OpenSubState). Drains waits capacity (calls + 1) rows q more end new after) next_is drains)))
+
+-- an item is taken, and isn't written as a whole
+pub drains_half : (waits : Bool) (capacity calls : ℕ) (o next : OpenSubState) (wire : List ℕ) (item : Item) (sub : SubName) → length wire < full_wire → sub ≡ o.sub → next ≡ nearer_lag o → (end : Taking) (new : OpenSubState) (after : List ℕ) → BreaksOff waits (messages_of o item) next wire end new after → Drains waits capacity calls (Takes sub (Some item) ∷ []) o wire end new after
+drains_half waits capacity calls o next wire item sub room same next_is end new after off =
+    (room, same, inr (refl, subst (λ (q : OpenSubState). BreaksOff waits (messages_of o item) q wire end new after) next_is off))
+
+-- ---- the MESSAGEs of an item
+
+-- where there is room, the next is written
+pub room_for : (waits : Bool) (f : RawFrame) (fs : List RawFrame) (wire : List ℕ) → has_room waits wire ≡ true → (left_behind waits (f ∷ fs) wire ≡ left_behind waits fs (wire ++ spelling_with_eol f)) × (with_messages waits (f ∷ fs) wire ≡ with_messages waits fs (wire ++ spelling_with_eol f))
+room_for waits f fs wire room = (
+  ap (λ (b : Bool). if b then left_behind waits fs (wire ++ spelling_with_eol f) else f ∷ fs) room,
+  ap (λ (b : Bool). if b then with_messages waits fs (wire ++ spelling_with_eol f) else wire) room,
+)
+
+-- where there is none, it is left
+pub no_room_for : (waits : Bool) (f : RawFrame) (fs : List RawFrame) (wire : List ℕ) → has_room waits wire ≡ false → (left_behind waits (f ∷ fs) wire ≡ f ∷ fs) × (with_messages waits (f ∷ fs) wire ≡ wire)
+no_room_for waits f fs wire none = (
+  ap (λ (b : Bool). if b then left_behind waits fs (wire ++ spelling_with_eol f) else f ∷ fs) none,
+  ap (λ (b : Bool). if b then with_messages waits fs (wire ++ spelling_with_eol f) else wire) none,
+)
+
+some_none : (f : RawFrame) (fs : List RawFrame) → f ∷ fs ≡ [] → ⊥
+some_none f fs e = cc
+
+-- Where these are all written, it goes on with more behind them.
+pub writes_more : (waits : Bool) (out more : List RawFrame) (wire now : List ℕ) → WritesAll waits out wire now → (left_behind waits (out ++ more) wire ≡ left_behind waits more now) × (with_messages waits (out ++ more) wire ≡ with_messages waits more now)
+writes_more waits [] more wire now (whole, is) = (ap (left_behind waits more) (sym is), ap (with_messages waits more) (sym is))
+writes_more waits (f ∷ fs) more wire now (whole, is) = by (has_room waits wire) refl
+  where
+    by : (b : Bool) → has_room waits wire ≡ b → (left_behind waits (f ∷ (fs ++ more)) wire ≡ left_behind waits more now) × (with_messages waits (f ∷ (fs ++ more)) wire ≡ with_messages waits more now)
+    by true room =
+        let here = room_for waits f fs wire room in
+        let there = room_for waits f (fs ++ more) wire room in
+        let rest = writes_more waits fs more (wire ++ spelling_with_eol f) now (sym here.0 ∙ whole, is ∙ here.1) in
+        (there.0 ∙ rest.0, there.1 ∙ rest.1)
+    by false none = absurd (some_none f fs (sym (no_room_for waits f fs wire none).0 ∙ whole))
+
+-- Where these are all written, and there is room, one more is.
+pub writes_one : (waits : Bool) (out : List RawFrame) (f : RawFrame) (wire now : List ℕ) → has_room waits now ≡ true → WritesAll waits out wire now → WritesAll waits (out ++ f ∷ []) wire (now ++ spelling_with_eol f)
+writes_one waits out f wire now room all =
+    let more = writes_more waits out (f ∷ []) wire now all in
+    let one = room_for waits f [] now room in
+    (more.0 ∙ one.0, sym (more.1 ∙ one.1))
+
+-- Where these are all written, and there is no room, the next of them is left with those behind it.
+pub breaks_off : (waits : Bool) (out : List RawFrame) (f : RawFrame) (fs : List RawFrame) (wire now : List ℕ) → has_room waits now ≡ false → WritesAll waits out wire now → (left_behind waits (out ++ f ∷ fs) wire ≡ f ∷ fs) × (now ≡ with_messages waits (out ++ f ∷ fs) wire)
+breaks_off waits out f fs wire now none all =
+    let more = writes_more waits out (f ∷ fs) wire now all in
+    let stays = no_room_for waits f fs now none in
+    (more.0 ∙ stays.0, sym (more.1 ∙ stays.1))
 
 -- the queue was empty, and the broker says that it has lagged
 pub drains_lag : (waits : Bool) (capacity calls : ℕ) (o next : OpenSubState) (wire : List ℕ) (sub lagging : SubName) → length wire < full_wire → sub ≡ o.sub → lagging ≡ o.sub → o.lagged ≡ false → o.until_lag ≡ 0 → next ≡ record o { lagged = true } → (rows : List BrokerRow) (end : Taking) (new : OpenSubState) (after : List ℕ) → Drains waits capacity (calls + 1) rows next wire end new after → Drains waits capacity calls (Takes sub None ∷ AsksLag lagging true ∷ rows) o wire end new after
@@ -28,16 +81,12 @@ drains_lag waits capacity calls o next wire sub lagging room same asked unlagged
 -- ---- what a round comes to at one queue
 
 -- where there is room
-pub room_of : (n : ℕ) → (IsTrue true → n < full_wire) → n < full_wire
-room_of n some = some refl
+pub room_of : (n : ℕ) → true ≡ nat_lt n full_wire → n < full_wire
+room_of n some = grind (arith, nat_tests)
 
 -- where there is none
-pub full_of : (n : ℕ) → (n < full_wire → IsTrue false) → full_wire ≤ n
-full_of n none = by (cases_lt n full_wire)
-  where
-    by : (n < full_wire) ⊎ (full_wire ≤ n) → full_wire ≤ n
-    by (inl less) = absurd (false≢true (none less))
-    by (inr more) = more
+pub full_of : (n : ℕ) → false ≡ nat_lt n full_wire → full_wire ≤ n
+full_of n none = grind (arith, nat_tests)
 
 pub on_err : {T E : Type 0} (r : Result T E) (A : Type 0) → true ≡ is_err r → OnErr r A → A
 on_err (Ok x) A e a = absurd (true≢false e)
@@ -80,6 +129,7 @@ either_item asked later any more first second =
 pub if_stopped : (t : Taking) (A B : Type 0) → (t ≡ Emptied → ⊥) → B → IfEmptied t A B
 if_stopped Emptied A B never b = absurd (never refl)
 if_stopped Stopped A B never b = b
+if_stopped Halfway A B never b = b
 if_stopped (Failed why) A B never b = b
 
 -- one that is goes on
@@ -94,16 +144,16 @@ GoesOn waits capacity asked queues done rest before wire =
     → DrainsAll waits capacity (asked ++ rows) queues before end (done ++ others) after left
 
 -- the next one is emptied, too
-pub goes_on : (waits : Bool) (capacity : ℕ) (asked more : List BrokerRow) (queues done rest : List OpenSubState) (o new : OpenSubState) (before wire between : List ℕ) (one : Taking) → one ≡ Emptied → Drains waits capacity 0 more o wire one new between → GoesOn waits capacity asked queues done (o ∷ rest) before wire → GoesOn waits capacity (asked ++ more) queues (done ++ new ∷ []) rest before between
+pub goes_on : (waits : Bool) (capacity : ℕ) (asked more : List BrokerRow) (queues done rest : List OpenSubState) (o new : OpenSubState) (before wire between : List ℕ) (one : Taking) → one ≡ Emptied → DrainsOn waits capacity more o wire one new between → GoesOn waits capacity asked queues done (o ∷ rest) before wire → GoesOn waits capacity (asked ++ more) queues (done ++ new ∷ []) rest before between
 goes_on waits capacity asked more queues done rest o new before wire between one emptied drains so_far rows end others after left then =
     subst (λ (all : List BrokerRow). DrainsAll waits capacity all queues before end ((done ++ new ∷ []) ++ others) after left) (sym (append_assoc asked more rows))
     (subst (λ (all : List OpenSubState). DrainsAll waits capacity (asked ++ (more ++ rows)) queues before end all after left) (sym (append_assoc done (new ∷ []) others))
     (so_far (more ++ rows) end (new ∷ others) after left (more, rows, refl, one, new, others, between, drains, refl, if_emptied one _ _ emptied then)))
 
 -- the next one isn't, and the rest stay
-pub goes_no_further : (waits : Bool) (capacity : ℕ) (asked more : List BrokerRow) (queues done rest : List OpenSubState) (o new : OpenSubState) (before wire between : List ℕ) (one : Taking) → (one ≡ Emptied → ⊥) → Drains waits capacity 0 more o wire one new between → GoesOn waits capacity asked queues done (o ∷ rest) before wire → DrainsAll waits capacity (asked ++ more) queues before one (done ++ new ∷ rest) between (length rest)
+pub goes_no_further : (waits : Bool) (capacity : ℕ) (asked more : List BrokerRow) (queues done rest : List OpenSubState) (o new : OpenSubState) (before wire between : List ℕ) (one : Taking) → (one ≡ Emptied → ⊥) → DrainsOn waits capacity more o wire one new between → GoesOn waits capacity asked queues done (o ∷ rest) before wire → DrainsAll waits capacity (asked ++ more) queues before one (done ++ new ∷ rest) between (left_from one rest)
 goes_no_further waits capacity asked more queues done rest o new before wire between one never drains so_far =
-    so_far more one (new ∷ rest) between (length rest) (more, [], sym (append-nil more), one, new, rest, between, drains, refl, if_stopped one _ _ never (refl, refl, refl, refl, refl))
+    so_far more one (new ∷ rest) between (left_from one rest) (more, [], sym (append-nil more), one, new, rest, between, drains, refl, if_stopped one _ _ never (refl, refl, refl, refl, refl))
 
 -- the back ones are emptied, and then the front ones are taken
 pub drains_both : (waits : Bool) (capacity next : ℕ) (queues front back : List OpenSubState) → queues ≡ front ++ back → length front ≡ begins_at next (length queues) → (first rest : List BrokerRow) (wire : List ℕ) (one end : Taking) (changed others : List OpenSubState) (between after : List ℕ) (left unseen later : ℕ) → one ≡ Emptied → DrainsAll waits capacity first back wire one changed between left → DrainsAll waits capacity rest front between end others after unseen → later ≡ length front - unseen → DrainsQueues waits capacity next (first ++ rest) queues wire end (others ++ changed) after later

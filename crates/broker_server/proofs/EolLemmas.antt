@@ -1,40 +1,49 @@
--- The octets of an item's MESSAGEs, each with its EOL, SEND by SEND.
-use Rattle.std.proofs.Common.{◌≡◌, ℕ, ◌+◌, ◌<◌, List, [], ◌∷◌, ◌++◌, map, take, length, Some, sym, ap, ◌∙◌}
+-- Which MESSAGE stands at an index of an item's.
+use Rattle.std.proofs.Common.{◌≡◌, ℕ, zero, suc, ◌+◌, Bool, true, false, List, [], ◌∷◌, length, map, Option, Some, IfSome, refl, sym, ap, subst, ◌∙◌, arith}
 use Rattle.std.specs.Prelude.{slice_get}
-use Rattle.std.specs.List.{flat_map}
-use Rattle.std.proofs.lemmas.List.{map-append, append-nil, append_assoc, take_more}
-use Rattle.std.proofs.lemmas.List.Concat.{flat_map-append}
-use Rattle.std.proofs.lemmas.Option.{get_or_from_slice_get}
+use Rattle.std.specs.List.{enumerate_from}
+use Rattle.std.specs.Option.{option_map}
+use Rattle.std.proofs.lemmas.Option.{slice_get-map}
+use Rattle.std.proofs.lemmas.List.{length-map}
+use Rattle.std.proofs.lemmas.List.FromFn.{length-enumerate_from}
 use Rattle.stomp_frame.specs.declared.raw_frame.RawFrame.{RawFrame}
-use Rattle.stomp_frame.specs.ServerFrames.{message_frame, message_id}
+use Rattle.stomp_frame.specs.ServerFrames.{message_frame, message_id, part_message_frame}
 use Rattle.mcast_txn.specs.declared.parts.part_message.PartMessage.{PartMessage}
 use Rattle.mcast_txn.specs.declared.stamp.Stamp.{Stamp}
-use Rattle.broker_server.specs.Wires.{spelling_with_eol}
+use Rattle.mcast_txn.specs.Span.{Item}
+use Rattle.delivery.specs.Core.Output.{item_messages, messages_for, part_messages}
 
 -- the MESSAGE of a SEND
 abbrev pub message_of : List ℕ → Stamp → PartMessage → RawFrame
 message_of id stamp p = message_frame id (message_id stamp.n stamp.topic.0 p.index) p.headers p.body
 
--- the octets of the MESSAGEs of these SENDs
-abbrev pub octets_of : List ℕ → Stamp → List PartMessage → List ℕ
-octets_of id stamp sends = flat_map spelling_with_eol (map (message_of id stamp) sends)
+-- the same, which is the one of this number, from 1, of so many
+abbrev pub part_of : ℕ → ℕ → List ℕ → Stamp → PartMessage → RawFrame
+part_of at count id stamp p = part_message_frame at count id (message_id stamp.n stamp.topic.0 p.index) p.headers p.body
 
--- one more SEND
-octets_more : (id : List ℕ) (stamp : Stamp) (sends : List PartMessage) (i : ℕ) (p : PartMessage) → i < length sends → slice_get sends i ≡ Some p
-    → octets_of id stamp (take (i + 1) sends) ≡ octets_of id stamp (take i sends) ++ spelling_with_eol (message_of id stamp p)
-octets_more id stamp sends i p there is =
-    let f = message_of id stamp in
-    ap (octets_of id stamp) (take_more sends i p there ∙ ap (λ (q : PartMessage). take i sends ++ q ∷ []) (get_or_from_slice_get sends i p p is))
-    ∙ (ap (flat_map spelling_with_eol) (map-append f (take i sends) (p ∷ []))
-    ∙ (flat_map-append spelling_with_eol (map f (take i sends)) (f p ∷ [])
-    ∙ ap (λ (t : List ℕ). octets_of id stamp (take i sends) ++ t) (append-nil (spelling_with_eol (f p)))))
+pub plain_at : (id : List ℕ) (item : Item) (i : ℕ) (p : PartMessage) → slice_get item.sends i ≡ Some p → slice_get (item_messages id item) i ≡ Some (message_of id item.stamp p)
+plain_at id item i p is = slice_get-map (message_of id item.stamp) item.sends i ∙ ap (option_map (message_of id item.stamp)) is
 
--- one more SEND's MESSAGE was appended
-pub octets_put : (id : List ℕ) (stamp : Stamp) (sends : List PartMessage) (i : ℕ) (p : PartMessage) (old before after : List ℕ) → i < length sends → slice_get sends i ≡ Some p
-    → before ≡ old ++ octets_of id stamp (take i sends) → after ≡ before ++ spelling_with_eol (message_of id stamp p)
-    → after ≡ old ++ octets_of id stamp (take (i + 1) sends)
-octets_put id stamp sends i p old before after there is was put =
-    put
-    ∙ (ap (λ (t : List ℕ). t ++ spelling_with_eol (message_of id stamp p)) was
-    ∙ (append_assoc old (octets_of id stamp (take i sends)) (spelling_with_eol (message_of id stamp p))
-    ∙ ap (λ (t : List ℕ). old ++ t) (sym (octets_more id stamp sends i p there is))))
+-- f of each number and its value, at an index
+at_number : {X Y : Type 0} (f : ℕ × X → Y) (n : ℕ) (xs : List X) (i : ℕ) → slice_get (map f (enumerate_from n xs)) i ≡ option_map (λ (x : X). f (i + n, x)) (slice_get xs i)
+at_number f n [] i = refl
+at_number {X = X} f n (x ∷ xs) zero = refl
+at_number {X = X} {Y = Y} f n (x ∷ xs) (suc i) =
+    let next : i + (n + 1) ≡ suc i + n = omega arith in
+    at_number f (n + 1) xs i ∙ ap (λ (m : ℕ). option_map (λ (y : X). f (m, y)) (slice_get xs i)) next
+
+pub part_at : (id : List ℕ) (item : Item) (i : ℕ) (p : PartMessage) → slice_get item.sends i ≡ Some p → slice_get (part_messages id item) i ≡ Some (part_of (i + 1) (length item.sends) id item.stamp p)
+part_at id item i p is =
+    at_number (λ (at : ℕ × PartMessage). part_of at.0 (length item.sends) id item.stamp at.1) 1 item.sends i
+    ∙ ap (option_map (λ (q : PartMessage). part_of (i + 1) (length item.sends) id item.stamp q)) is
+
+-- what is so of the one that stands there
+pub so_there : (frames : List RawFrame) (i : ℕ) (f : RawFrame) (P : RawFrame → Type 0) → slice_get frames i ≡ Some f → P f → IfSome (slice_get frames i) P
+so_there frames i f P is so = subst (λ (o : Option RawFrame). IfSome o P) (sym is) so
+
+-- there is one for each SEND
+pub as_many : (parts : Bool) (id : List ℕ) (item : Item) → length (messages_for parts id item) ≡ length item.sends
+as_many true id item =
+    length-map (enumerate_from 1 item.sends) (λ (at : ℕ × PartMessage). part_of at.0 (length item.sends) id item.stamp at.1)
+    ∙ length-enumerate_from 1 item.sends
+as_many false id item = length-map item.sends (message_of id item.stamp)

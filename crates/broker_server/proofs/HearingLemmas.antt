@@ -1,5 +1,5 @@
 -- What stays, and what shrinks, where a connection takes frames.
-use Rattle.std.proofs.Common.{◌≡◌, ◌≢◌, inl, inr, IfSome, true, ℕ, ◌<◌, List, [], ◌∷◌, length, Option, Some, None, Result, Ok, Err, refl, sym, ap, subst, ◌∙◌}
+use Rattle.std.proofs.Common.{◌≡◌, ◌≢◌, inl, inr, IfSome, Bool, true, ℕ, ◌<◌, List, [], ◌∷◌, length, Option, Some, None, Result, Ok, Err, refl, sym, ap, subst, ◌∙◌}
 use Rattle.std.specs.Prelude.{MatchOption}
 use Rattle.stomp_frame.specs.declared.case_fault.CaseFault.{CaseFault}
 use Rattle.stomp_frame.specs.declared.fault.Check.{Check}
@@ -13,6 +13,7 @@ use Rattle.stomp_frame.proofs.Whole.{shorter}
 use Rattle.stomp_session.specs.declared.action.Action.{Action}
 use Rattle.stomp_session.specs.declared.action.Action.TheVariants as actions
 use Rattle.stomp_session.specs.declared.action.Step.{Step}
+use Rattle.stomp_session.specs.declared.fault.SessionFault.{SessionFault}
 use Rattle.stomp_session.specs.Open.{SessionState}
 use Rattle.delivery.specs.Core.Outcomes.{is_any}
 use Rattle.delivery.specs.declared.open_endpoint.OpenEndpoint.{OpenEndpoint}
@@ -25,14 +26,16 @@ use Rattle.delivery.specs.declared.connection_fault.ConnectionFault.TheVariants 
 use Rattle.broker_server.specs.declared.conversation.conversation_fault.ConversationFault.{ConversationFault}
 use Rattle.broker_server.specs.declared.conversation.conversation_fault.ConversationFault.TheVariants as fault
 use Rattle.broker_server.specs.BrokerRows.{BrokerRow}
-use Rattle.broker_server.specs.Conversations.{Acts, Answers, Concludes, ConversationState, Does, Done, EndsByError, Performs}
+use Rattle.broker_server.specs.ConversationFaults.{tells_version}
+use Rattle.broker_server.specs.Conversations.{Acts, Answers, Concludes, ConversationState, Does, Done, EndsByError, EndsSaying, Performs}
 use Rattle.broker_server.specs.Hearing.{JudgesFrame, ReadingFails, RefusesFrame, TakesFrame, TakesFrames}
+use Rattle.broker_server.specs.Judging.{IsFrameRefused}
 
 -- ---- what came and isn't read yet stays as a frame has its effect
 
-fails_reader : (why : ConversationFault) (receipt : Option (List ℕ)) (old new : ConversationState) → EndsByError why receipt old new → new.reader ≡ old.reader
-fails_reader why receipt old new (inl e) = ap (λ (s : ConversationState). s.reader) e
-fails_reader why receipt old new (inr e) = ap (λ (s : ConversationState). s.reader) e
+fails_reader : (version : Bool) (why : ConversationFault) (receipt : Option (List ℕ)) (old new : ConversationState) → EndsSaying version why receipt old new → new.reader ≡ old.reader
+fails_reader version why receipt old new (inl e) = ap (λ (s : ConversationState). s.reader) e
+fails_reader version why receipt old new (inr e) = ap (λ (s : ConversationState). s.reader) e
 
 performs_reader : (action : Action) (old : ConversationState) (asked : List BrokerRow) (result : Done) (new : ConversationState) → Performs action old asked result new → new.reader ≡ old.reader
 performs_reader (actions.Connected client) old asked result new (inl (gate, a, r, e)) = ap (λ (s : ConversationState). s.reader) e
@@ -49,12 +52,12 @@ performs_reader actions.Disconnect old asked result new (a, r, e) = ap (λ (s : 
 
 answers_reader : (frames : List RawFrame) (old : ConversationState) (asked : List BrokerRow) (new : ConversationState) → Answers frames old asked new → new.reader ≡ old.reader
 answers_reader frames old asked new (inl (a, e)) = ap (λ (s : ConversationState). s.reader) e
-answers_reader frames old asked new (inr (inl (any, a, none_yet, fails))) = fails_reader fault.NoReply None old new fails
+answers_reader frames old asked new (inr (inl (any, a, none_yet, fails))) = fails_reader (tells_version None fault.NoReply) fault.NoReply None old new fails
 answers_reader frames old asked new (inr (inr (any, a, left, e))) = ap (λ (s : ConversationState). s.reader) e
 
 concludes_reader : (done : Done) (frames : List RawFrame) (receipt : Option (List ℕ)) (old : ConversationState) (asked : List BrokerRow) (new : ConversationState) → Concludes done frames receipt old asked new → new.reader ≡ old.reader
 concludes_reader (Ok u) frames receipt old asked new answers = answers_reader frames old asked new answers
-concludes_reader (Err why) frames receipt old asked new (a, fails) = fails_reader why receipt old new fails
+concludes_reader (Err why) frames receipt old asked new (a, fails) = fails_reader (tells_version None why) why receipt old new fails
 
 does_reader : (step : Step) (old : ConversationState) (asked : List BrokerRow) (new : ConversationState) → Does step old asked new → new.reader ≡ old.reader
 does_reader step old asked new a = concludes_reader a.result _ step.receipt a.between a.rest new a.concludes ∙ performs_reader step.action old a.first a.result a.between a.performs
@@ -65,8 +68,8 @@ acts_reader step old asked new (inr (sends, is, a, e)) = ap (λ (s : Conversatio
 
 judged_reader : (f : RawFrame) (o : Option CaseFault) (old : ConversationState) (asked : List BrokerRow) (new : ConversationState) → MatchOption o (JudgesFrame f old asked new) (λ why. RefusesFrame (fault.Connection (connection.Frame why)) f old asked new) → new.reader ≡ old.reader
 judged_reader f None old asked new (first, rest, cut, between, inl (step, accepts, acts)) = acts_reader step between rest new acts ∙ ap (λ (s : ConversationState). s.reader) accepts.same
-judged_reader f None old asked new (first, rest, cut, between, inr (why, denies, (a, fails))) = fails_reader _ _ between new fails ∙ ap (λ (s : ConversationState). s.reader) denies.same
-judged_reader f (Some why) old asked new (a, fails) = fails_reader _ _ old new fails
+judged_reader f None old asked new (first, rest, cut, between, inr (why, denies, (a, fails))) = fails_reader (tells_version (Some f) why) why (receipt_of f) between new fails ∙ ap (λ (s : ConversationState). s.reader) denies.same
+judged_reader f (Some why) old asked new (a, fails) = fails_reader (tells_version (Some f) (fault.Connection (connection.Frame why))) (fault.Connection (connection.Frame why)) (receipt_of f) old new fails
 
 pub takes_reader : (f : RawFrame) (old : ConversationState) (asked : List BrokerRow) (new : ConversationState) → TakesFrame f old asked new → new.reader ≡ old.reader
 takes_reader f old asked new takes = judged_reader f (case_fault f) old asked new takes
@@ -85,8 +88,19 @@ one_shorter f old asked new (listens, left, reads, between, first, rest, cut, ta
 
 -- ---- what is said of a frame, said of the same one as it came
 
-pub refused_as : (f g : RawFrame) → g ≡ f → (r : Option (List ℕ)) → r ≡ receipt_of g → (why : ConversationFault) (old new : ConversationState) → EndsByError why r old new → EndsByError why (receipt_of f) old new
-refused_as f g same r asks why old new fails = subst (λ (o : Option (List ℕ)). EndsByError why o old new) (asks ∙ ap receipt_of same) fails
+pub refused_as : (f g : RawFrame) → g ≡ f → (r : Option (List ℕ)) → r ≡ receipt_of g → (version : Bool) (why : ConversationFault) → version ≡ tells_version (Some f) why → (old new : ConversationState) → EndsSaying version why r old new → EndsSaying (tells_version (Some f) why) why (receipt_of f) old new
+refused_as f g same r asks version why says old new fails =
+    subst (λ (v : Bool). EndsSaying v why (receipt_of f) old new) says (subst (λ (o : Option (List ℕ)). EndsSaying version why o old new) (asks ∙ ap receipt_of same) fails)
+
+session_alike : (f : RawFrame) (why : SessionFault) → tells_version None (fault.Connection (connection.Session why)) ≡ tells_version (Some f) (fault.Connection (connection.Session why))
+session_alike f SessionFault.NoVersion = refl
+session_alike f _ = refl
+
+-- whether the version is told of what the session refuses, or of want of memory, doesn't depend on the frame
+pub tells_alike : (f : RawFrame) (why : ConversationFault) (old : SessionState) (known : List (List ℕ)) → IsFrameRefused f why old known → tells_version None why ≡ tells_version (Some f) why
+tells_alike f (fault.Connection (connection.Session why)) old known refused = session_alike f why
+tells_alike f fault.NoMemory old known refused = refl
+tells_alike f _ old known refused = absurd refused
 
 -- a client's frame is taken as the session judges it
 pub takes_judged : (f : RawFrame) (old : ConversationState) (asked : List BrokerRow) (new : ConversationState) → case_fault f ≡ None → JudgesFrame f old asked new → TakesFrame f old asked new

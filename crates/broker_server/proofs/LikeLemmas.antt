@@ -11,14 +11,15 @@ use Rattle.stomp_frame.specs.Receipts.{receipt_of}
 use Rattle.stomp_session.specs.declared.action.Action.{Action}
 use Rattle.stomp_session.specs.declared.action.Action.TheVariants as actions
 use Rattle.stomp_session.specs.declared.action.Step.{Step}
+use Rattle.stomp_session.specs.Open.{asks_parts}
 use Rattle.delivery.specs.declared.connection_fault.ConnectionFault.TheVariants as connection
 use Rattle.broker_server.specs.declared.conversation.conversation_fault.ConversationFault.{ConversationFault}
 use Rattle.broker_server.specs.declared.conversation.conversation_fault.ConversationFault.TheVariants as fault
 use Rattle.broker_server.specs.declared.conversation.exit.Exit.{Exit}
 use Rattle.broker_server.specs.declared.conversation.exit.Exit.TheVariants as exit
 use Rattle.broker_server.specs.BrokerRows.{BrokerRow, SubName, Unsubscribes}
-use Rattle.broker_server.specs.ConversationFaults.{fault_of_reader, told_error}
-use Rattle.broker_server.specs.Conversations.{Acts, Answers, Concludes, ConversationState, Does, Done, EndsByError, OpenSubState, Performs, begun_sub, closed, closing_rows, gate_rows, is_of_id, next_without}
+use Rattle.broker_server.specs.ConversationFaults.{fault_of_reader, tells_version, told_error}
+use Rattle.broker_server.specs.Conversations.{Acts, Answers, Concludes, ConversationState, Does, Done, EndsSaying, OpenSubState, Performs, begun_sub, closed, closing_rows, gate_rows, is_of_id, next_without}
 use Rattle.broker_server.specs.Hearing.{AcceptsFrame, DeniesFrame, Hears, IsNewTo, JudgesFrame, Listens, Looks, ReadingFails, RefusesFrame, Rests, TakesAll, TakesFrame, TakesFrames}
 use Rattle.broker_server.specs.Judging.{IsFrameAccepted, IsFrameRefused}
 use Rattle.broker_server.specs.Waiting.{but_items, untaken}
@@ -65,20 +66,23 @@ closing_like a b e =
 closed_like : (why : Exit) (a b : ConversationState) → Like a b → Like (closed why a) (closed why b)
 closed_like why a b e = ap (closed why) e
 
-ends_like : (why : ConversationFault) (receipt : Option (List ℕ)) (a new b : ConversationState) → Like a b → EndsByError why receipt a new → SoOfLike new (EndsByError why receipt b)
-ends_like why receipt a new b e (inl puts) =
+ends_like : (version : Bool) (why : ConversationFault) (receipt : Option (List ℕ)) (a new b : ConversationState) → Like a b → EndsSaying version why receipt a new → SoOfLike new (EndsSaying version why receipt b)
+ends_like version why receipt a new b e (inl puts) =
     let left = closed (exit.Error why) b in
-    (record left { wire = left.wire ++ flat_map spelling_with_eol (told_error why receipt ∷ []) }, inl refl, ap but_items puts ∙ closed_like (exit.Error why) a b e)
-ends_like why receipt a new b e (inr cut) =
+    (record left { wire = left.wire ++ flat_map spelling_with_eol (told_error version why receipt ∷ []) }, inl refl, ap but_items puts ∙ closed_like (exit.Error why) a b e)
+ends_like version why receipt a new b e (inr cut) =
     (record (closed (exit.Error why) b) { cut = true }, inr refl, ap but_items cut ∙ ap (λ (s : ConversationState). record s { cut = true }) (closed_like (exit.Error why) a b e))
 
 -- ---- what a frame asks for
 
-begun_kept : (id : List ℕ) (sub : SubName) (c : ConversationState) → but_items (record c { subs = c.subs ++ begun_sub id sub c.capacity ∷ [] }) ≡ record (but_items c) { subs = map untaken c.subs ++ begun_sub id sub 0 ∷ [] }
-begun_kept id sub c = ap (λ (os : List OpenSubState). record (but_items c) { subs = os }) (map-append untaken c.subs (begun_sub id sub c.capacity ∷ []))
+begun_kept : (id : List ℕ) (parts : Bool) (sub : SubName) (c : ConversationState) → but_items (record c { subs = c.subs ++ begun_sub id parts sub c.capacity ∷ [] }) ≡ record (but_items c) { subs = map untaken c.subs ++ begun_sub id parts sub 0 ∷ [] }
+begun_kept id parts sub c = ap (λ (os : List OpenSubState). record (but_items c) { subs = os }) (map-append untaken c.subs (begun_sub id parts sub c.capacity ∷ []))
 
-begun_like : (id : List ℕ) (sub : SubName) (a b : ConversationState) → Like a b → Like (record a { subs = a.subs ++ begun_sub id sub a.capacity ∷ [] }) (record b { subs = b.subs ++ begun_sub id sub b.capacity ∷ [] })
-begun_like id sub a b e = begun_kept id sub a ∙ ap (λ (s : ConversationState). record s { subs = s.subs ++ begun_sub id sub 0 ∷ [] }) e ∙ sym (begun_kept id sub b)
+begun_like : (id : List ℕ) (sub : SubName) (a b : ConversationState) → Like a b → Like (record a { subs = a.subs ++ begun_sub id (asks_parts id a.session) sub a.capacity ∷ [] }) (record b { subs = b.subs ++ begun_sub id (asks_parts id b.session) sub b.capacity ∷ [] })
+begun_like id sub a b e =
+    begun_kept id (asks_parts id a.session) sub a
+    ∙ ap (λ (s : ConversationState). record s { subs = s.subs ++ begun_sub id (asks_parts id s.session) sub 0 ∷ [] }) e
+    ∙ sym (begun_kept id (asks_parts id b.session) sub b)
 
 ended_like : (a b : ConversationState) (front back first last : List OpenSubState) → Like a b → map untaken front ≡ map untaken first → map untaken back ≡ map untaken last → (next later : ℕ) → Like (record a { subs = front ++ back; next = next }) (record b { subs = first ++ last; next = later })
 ended_like a b front back first last e fronts backs next later =
@@ -92,7 +96,7 @@ performs_like (actions.Connected client) a asked done new b e (inr (why, called,
     (b, inr (why, called, err, refl), ap but_items is ∙ e)
 performs_like actions.Nothing a asked done new b e (none, ok, is) = (b, (none, ok, refl), ap but_items is ∙ e)
 performs_like (actions.Subscribe id topic) a asked done new b e (inl (sub, called, ok, is)) =
-    (record b { subs = b.subs ++ begun_sub id sub b.capacity ∷ [] }, inl (sub, called, ok, refl), ap but_items is ∙ begun_like id sub a b e)
+    (record b { subs = b.subs ++ begun_sub id (asks_parts id b.session) sub b.capacity ∷ [] }, inl (sub, called, ok, refl), ap but_items is ∙ begun_like id sub a b e)
 performs_like (actions.Subscribe id topic) a asked done new b e (inr (inl (why, called, err, is))) =
     (b, inr (inl (why, called, err, refl)), ap but_items is ∙ e)
 performs_like (actions.Subscribe id topic) a asked done new b e (inr (inr (none, err, is))) =
@@ -130,7 +134,7 @@ answers_like : (frames : List RawFrame) (a : ConversationState) (asked : List Br
 answers_like frames a asked new b e (inl (none, is)) =
     (record b { wire = b.wire ++ flat_map spelling_with_eol frames }, inl (none, refl), ap but_items is ∙ e)
 answers_like frames a asked new b e (inr (inl (any, called, open_yet, ends))) =
-    let other = ends_like fault.NoReply None a new b e ends in
+    let other = ends_like (tells_version None fault.NoReply) fault.NoReply None a new b e ends in
     (other.0, inr (inl (any, called ∙ closing_like a b e, sym (ap (λ (s : ConversationState). s.exit) e) ∙ open_yet, other.1)), other.2)
 answers_like frames a asked new b e (inr (inr (any, none, leaves, is))) =
     (record b { cut = true }, inr (inr (any, none, subst (λ (s : ConversationState). IsSome s.exit) e leaves, refl)), ap but_items is ∙ ap (λ (s : ConversationState). record s { cut = true }) e)
@@ -138,7 +142,7 @@ answers_like frames a asked new b e (inr (inr (any, none, leaves, is))) =
 concludes_like : (done : Done) (frames : List RawFrame) (receipt : Option (List ℕ)) (a : ConversationState) (asked : List BrokerRow) (new b : ConversationState) → Like a b → Concludes done frames receipt a asked new → SoOfLike new (Concludes done frames receipt b asked)
 concludes_like (Ok u) frames receipt a asked new b e answers = answers_like frames a asked new b e answers
 concludes_like (Err why) frames receipt a asked new b e (called, ends) =
-    let other = ends_like why receipt a new b e ends in
+    let other = ends_like (tells_version None why) why receipt a new b e ends in
     (other.0, (called ∙ closing_like a b e, other.1), other.2)
 
 does_like : (step : Step) (a : ConversationState) (asked : List BrokerRow) (new b : ConversationState) → Like a b → Does step a asked new → SoOfLike new (Does step b asked)
@@ -194,7 +198,7 @@ denies_like f why a asked new b e denies = (
 
 refuses_like : (why : ConversationFault) (f : RawFrame) (a : ConversationState) (asked : List BrokerRow) (new b : ConversationState) → Like a b → RefusesFrame why f a asked new → SoOfLike new (RefusesFrame why f b asked)
 refuses_like why f a asked new b e (called, ends) =
-    let other = ends_like why (receipt_of f) a new b e ends in
+    let other = ends_like (tells_version (Some f) why) why (receipt_of f) a new b e ends in
     (other.0, (called ∙ closing_like a b e, other.1), other.2)
 
 judged_like : (f : RawFrame) (o : Option CaseFault) (a : ConversationState) (asked : List BrokerRow) (new b : ConversationState) → Like a b → MatchOption o (JudgesFrame f a asked new) (λ why. RefusesFrame (fault.Connection (connection.Frame why)) f a asked new) → SoOfLike new (λ other. MatchOption o (JudgesFrame f b asked other) (λ why. RefusesFrame (fault.Connection (connection.Frame why)) f b asked other))
@@ -227,7 +231,7 @@ rests_like a asked new b e (inl (still, none, is)) =
 rests_like a asked new b e (inr (inl (listens, left, reads, none, is))) =
     (record b { reader = left }, inr (inl (subst Listens e listens, left, subst (λ (s : ConversationState). NextReturns s.reader (Ok None) left) e reads, none, refl)), ap but_items is ∙ ap (λ (s : ConversationState). record s { reader = left }) e)
 rests_like a asked new b e (inr (inr (listens, why, left, reads, called, ends))) =
-    let other = ends_like (fault_of_reader why) None (record a { reader = left }) new (record b { reader = left }) (ap (λ (s : ConversationState). record s { reader = left }) e) ends in
+    let other = ends_like (tells_version None (fault_of_reader why)) (fault_of_reader why) None (record a { reader = left }) new (record b { reader = left }) (ap (λ (s : ConversationState). record s { reader = left }) e) ends in
     (other.0, inr (inr (subst Listens e listens, why, left, subst (λ (s : ConversationState). ReadingFails why s.reader left) e reads, called ∙ closing_like a b e, other.1)), other.2)
 
 pub all_like : (a : ConversationState) (asked : List BrokerRow) (new b : ConversationState) → Like a b → TakesAll a asked new → SoOfLike new (TakesAll b asked)
@@ -240,7 +244,7 @@ pub hears_like : (piece : List ℕ) (a : ConversationState) (asked : List Broker
 hears_like piece a asked new b e (inl (leaves, none, is)) =
     (b, inl (subst (λ (s : ConversationState). IsSome s.exit) e leaves, none, refl), ap but_items is ∙ e)
 hears_like piece a asked new b e (inr (inl (open_yet, called, ends))) =
-    let other = ends_like fault.NoMemory None a new b e ends in
+    let other = ends_like (tells_version None fault.NoMemory) fault.NoMemory None a new b e ends in
     (other.0, inr (inl (sym (ap (λ (s : ConversationState). s.exit) e) ∙ open_yet, called ∙ closing_like a b e, other.1)), other.2)
 hears_like piece a asked new b e (inr (inr (open_yet, takes))) =
     let read = record a { reader = with_piece a.reader piece } in

@@ -18,9 +18,11 @@ nothing_is_scripted = inl (
     run = record { topics = refl; capacity = refl; events = refl };
     report = report_of (core_of no_topics 64 []);
     delivered = record {
+      kept = refl;
+      read = (delivery no_topics 64 [] refl tt).read;
       delivered = (delivery no_topics 64 [] refl tt).delivered;
       written = (delivery no_topics 64 [] refl tt).written;
-      answered = record { as_many = refl; are_kept = refl; is_run = tt; is_report = refl };
+      answered = record { as_many = refl; is_run = tt; is_report = refl };
     };
     written = refl;
     status_is = refl;

@@ -60,9 +60,11 @@ some_net text script is =
       run = record { topics = refl; capacity = refl; events = r.are_events };
       as_many = many;
       delivered = record {
+        kept = refl;
+        read = d.read;
         delivered = d.delivered;
         written = d.written;
-        answered = record { as_many = many; are_kept = refl; is_run = r.is_run; is_report = refl };
+        answered = record { as_many = many; is_run = r.is_run; is_report = refl };
       };
       no_commits = r.no_commits;
       no_subscriptions = r.no_subscriptions;

@@ -16,12 +16,12 @@ use Rattle.delivery.specs.declared.connection_fault.ConnectionFault.TheVariants 
 use Rattle.broker_server.specs.declared.conversation.conversation_fault.ConversationFault.{ConversationFault}
 use Rattle.broker_server.specs.declared.conversation.conversation_fault.ConversationFault.TheVariants as fault
 use Rattle.broker_server.specs.declared.conversation.drained.Taking.{Taking}
-use Rattle.broker_server.specs.declared.conversation.drained.Taking.TheVariants.{Emptied, Stopped, Failed}
+use Rattle.broker_server.specs.declared.conversation.drained.Taking.TheVariants.{Emptied, Stopped, Halfway, Failed}
 use Rattle.sender_gate.specs.Gate.{GateState}
 use Rattle.broker_server.specs.BrokerRows.{AsksLag, BrokerRow, Takes, Unsubscribes}
-use Rattle.broker_server.specs.ConversationFaults.{fault_of_reader}
-use Rattle.broker_server.specs.Conversations.{Acts, Answers, CommitsBy, Concludes, ConversationState, Does, Done, EndsByError, OpenSubState, Performs, closing_rows, gate_rows}
-use Rattle.broker_server.specs.Delivering.{DeliversRound, Drains, DrainsAll, DrainsQueues, IfEmptied, Settles}
+use Rattle.broker_server.specs.ConversationFaults.{fault_of_reader, tells_version}
+use Rattle.broker_server.specs.Conversations.{Acts, Answers, CommitsBy, Concludes, ConversationState, Does, Done, EndsSaying, OpenSubState, Performs, closing_rows, gate_rows}
+use Rattle.broker_server.specs.Delivering.{BreaksOff, DeliversRound, Drains, DrainsAll, DrainsOn, DrainsQueues, IfEmptied, Settles}
 use Rattle.broker_server.specs.Hearing.{Hears, JudgesFrame, Looks, RefusesFrame, TakesAll, TakesFrame, TakesFrames}
 use Rattle.broker_server.specs.Waiting.{FindsRoomAtOnce, GoesThrough, HearsEach, Round, WaitsInOrder, asked_for_frames, asks_room, but_items, but_room, finds_none, pieces, untaken}
 use Rattle.broker_server.specs.Waiting.{Heard, WentOn, Delivered, Wrote}
@@ -30,25 +30,34 @@ use Rattle.broker_server.proofs.LikeLemmas.{Like, acts_like, all_like, hears_lik
 
 -- ---- what is delivered changes nothing else
 
+off_kept : (waits : Bool) (messages : List RawFrame) (o : OpenSubState) (wire : List ℕ) (end : Taking) (new : OpenSubState) (after : List ℕ) → BreaksOff waits messages o wire end new after → untaken new ≡ untaken o
+off_kept waits messages o wire end new after (inl (some, ends, same, out)) = ap untaken same
+off_kept waits messages o wire end new after (inr (out, rest, cut, some, all, ends, same)) = ap untaken same
+
 drains_kept : (waits : Bool) (capacity calls : ℕ) (asked : List BrokerRow) (o : OpenSubState) (wire : List ℕ) (end : Taking) (new : OpenSubState) (after : List ℕ) → Drains waits capacity calls asked o wire end new after → untaken new ≡ untaken o
 drains_kept waits capacity calls [] o wire end new after (stops, ends, same, left) = ap untaken same
-drains_kept waits capacity calls (Takes sub (Some item) ∷ rows) o wire end new after (room, named, inl more) = drains_kept waits capacity (calls + 1) rows _ _ end new after more
-drains_kept waits capacity calls (Takes sub (Some item) ∷ rows) o wire end new after (room, named, inr (none, ends, same, left)) = ap untaken same
+drains_kept waits capacity calls (Takes sub (Some item) ∷ rows) o wire end new after (room, named, inl (whole, more)) = drains_kept waits capacity (calls + 1) rows _ _ end new after more
+drains_kept waits capacity calls (Takes sub (Some item) ∷ rows) o wire end new after (room, named, inr (none, off)) = off_kept waits _ _ wire end new after off
 drains_kept waits capacity calls (Takes sub None ∷ []) o wire end new after (room, named, inl (lagged, tells, same), left) = ap untaken same
 drains_kept waits capacity calls (Takes sub None ∷ []) o wire end new after (room, named, inr (none, far, ends, same), left) = ap untaken same
 drains_kept waits capacity calls (Takes sub None ∷ AsksLag lagging true ∷ rows) o wire end new after (room, named, asks, none, due, more) = drains_kept waits capacity (calls + 1) rows _ _ end new after more
 drains_kept waits capacity calls (Takes sub None ∷ AsksLag lagging false ∷ []) o wire end new after (room, named, asks, none, due, ends, same, left) = ap untaken same
 drains_kept waits capacity calls _ o wire end new after drains = absurd drains
 
+drains_on_kept : (waits : Bool) (capacity : ℕ) (asked : List BrokerRow) (o : OpenSubState) (wire : List ℕ) (end : Taking) (new : OpenSubState) (after : List ℕ) → DrainsOn waits capacity asked o wire end new after → untaken new ≡ untaken o
+drains_on_kept waits capacity asked o wire end new after (inl (whole, drains)) = drains_kept waits capacity 0 asked _ _ end new after drains
+drains_on_kept waits capacity asked o wire end new after (inr (none, off)) = off_kept waits o.left _ wire end new after off
+
 emptied_or : (t : Taking) (A B C : Type 0) → IfEmptied t A B → (A → C) → (B → C) → C
 emptied_or Emptied A B C it one other = one it
 emptied_or Stopped A B C it one other = other it
+emptied_or Halfway A B C it one other = other it
 emptied_or (Failed why) A B C it one other = other it
 
 all_kept : (waits : Bool) (capacity : ℕ) (asked : List BrokerRow) (os : List OpenSubState) (wire : List ℕ) (end : Taking) (new : List OpenSubState) (after : List ℕ) (left : ℕ) → DrainsAll waits capacity asked os wire end new after left → map untaken new ≡ map untaken os
 all_kept waits capacity asked [] wire end new after left (none, ends, same, out, many) = ap (map untaken) same
 all_kept waits capacity asked (o ∷ os) wire end new after left (first, rest, cut, one, changed, others, between, drains, is, more) =
-    let head = drains_kept waits capacity 0 first o wire one changed between drains in
+    let head = drains_on_kept waits capacity first o wire one changed between drains in
     let tail : map untaken others ≡ map untaken os = emptied_or one _ _ _ more (λ goes. all_kept waits capacity rest os between end others after left goes) (λ stops. ap (map untaken) stops.2) in
     ap (map untaken) is ∙ ap₂ (λ (q : OpenSubState) (qs : List OpenSubState). q ∷ qs) head tail
 
@@ -58,14 +67,15 @@ queues_kept waits capacity next asked os wire end new after later (front, back, 
     let fronts : map untaken others ≡ map untaken front = emptied_or one _ _ _ more (λ goes. all_kept waits capacity rest front between end others after unseen goes.0) (λ stops. ap (map untaken) stops.2) in
     ap (map untaken) is ∙ map-append untaken others changed ∙ ap₂ (λ (xs ys : List OpenSubState). xs ++ ys) fronts backs ∙ sym (map-append untaken front back) ∙ ap (map untaken) (sym cut)
 
-ends_leave : (why : ConversationFault) (receipt : Option (List ℕ)) (old new : ConversationState) → EndsByError why receipt old new → new.exit ≡ None → ⊥
-ends_leave why receipt old new (inl e) open_yet = let left = sym (ap (λ (s : ConversationState). s.exit) e) ∙ open_yet in cc
-ends_leave why receipt old new (inr e) open_yet = let left = sym (ap (λ (s : ConversationState). s.exit) e) ∙ open_yet in cc
+ends_leave : (version : Bool) (why : ConversationFault) (receipt : Option (List ℕ)) (old new : ConversationState) → EndsSaying version why receipt old new → new.exit ≡ None → ⊥
+ends_leave version why receipt old new (inl e) open_yet = let left = sym (ap (λ (s : ConversationState). s.exit) e) ∙ open_yet in cc
+ends_leave version why receipt old new (inr e) open_yet = let left = sym (ap (λ (s : ConversationState). s.exit) e) ∙ open_yet in cc
 
 settles_like : (end : Taking) (any : Bool) (old : ConversationState) (asked : List BrokerRow) (result : Bool) (new : ConversationState) → Settles end any old asked result new → new.exit ≡ None → Like new old
-settles_like (Failed why) any old asked result new (called, is, ends) open_yet = absurd (ends_leave why None old new ends open_yet)
+settles_like (Failed why) any old asked result new (called, is, ends) open_yet = absurd (ends_leave (tells_version None why) why None old new ends open_yet)
 settles_like Emptied any old asked result new (none, is, same) open_yet = ap but_items same
 settles_like Stopped any old asked result new (none, is, same) open_yet = ap but_items same
+settles_like Halfway any old asked result new (none, is, same) open_yet = ap but_items same
 
 delivers_like : (old : ConversationState) (asked : List BrokerRow) (any : Bool) (new : ConversationState) → DeliversRound old asked any new → new.exit ≡ old.exit → Like new old
 delivers_like old asked any new (inl (leaves, none, nothing, same)) stays = ap but_items same
@@ -76,9 +86,9 @@ delivers_like old asked any new (inr (open_yet, first, rest, cut, end, subs, wir
 
 -- ---- no transaction waits behind what is done
 
-ends_free : (why : ConversationFault) (receipt : Option (List ℕ)) (old new : ConversationState) → EndsByError why receipt old new → new.held ≡ None
-ends_free why receipt old new (inl e) = ap (λ (s : ConversationState). s.held) e
-ends_free why receipt old new (inr e) = ap (λ (s : ConversationState). s.held) e
+ends_free : (version : Bool) (why : ConversationFault) (receipt : Option (List ℕ)) (old new : ConversationState) → EndsSaying version why receipt old new → new.held ≡ None
+ends_free version why receipt old new (inl e) = ap (λ (s : ConversationState). s.held) e
+ends_free version why receipt old new (inr e) = ap (λ (s : ConversationState). s.held) e
 
 performs_free : (action : Action) (old : ConversationState) (asked : List BrokerRow) (done : Done) (new : ConversationState) → Performs action old asked done new → old.held ≡ None → new.held ≡ None
 performs_free (actions.Connected client) old asked done new (inl (gate, a, r, e)) free = ap (λ (s : ConversationState). s.held) e ∙ free
@@ -95,12 +105,12 @@ performs_free actions.Disconnect old asked done new (a, r, e) free = ap (λ (s :
 
 answers_free : (frames : List RawFrame) (old : ConversationState) (asked : List BrokerRow) (new : ConversationState) → Answers frames old asked new → old.held ≡ None → new.held ≡ None
 answers_free frames old asked new (inl (a, e)) free = ap (λ (s : ConversationState). s.held) e ∙ free
-answers_free frames old asked new (inr (inl (any, a, open_yet, ends))) free = ends_free fault.NoReply None old new ends
+answers_free frames old asked new (inr (inl (any, a, open_yet, ends))) free = ends_free (tells_version None fault.NoReply) fault.NoReply None old new ends
 answers_free frames old asked new (inr (inr (any, a, left, e))) free = ap (λ (s : ConversationState). s.held) e ∙ free
 
 concludes_free : (done : Done) (frames : List RawFrame) (receipt : Option (List ℕ)) (old : ConversationState) (asked : List BrokerRow) (new : ConversationState) → Concludes done frames receipt old asked new → old.held ≡ None → new.held ≡ None
 concludes_free (Ok u) frames receipt old asked new answers free = answers_free frames old asked new answers free
-concludes_free (Err why) frames receipt old asked new (a, ends) free = ends_free why receipt old new ends
+concludes_free (Err why) frames receipt old asked new (a, ends) free = ends_free (tells_version None why) why receipt old new ends
 
 does_free : (step : Step) (old : ConversationState) (asked : List BrokerRow) (new : ConversationState) → Does step old asked new → old.held ≡ None → new.held ≡ None
 does_free step old asked new does free =
@@ -147,9 +157,9 @@ judged_waits f None start asked new step (first, rest, cut, between, inl (taken,
       later = λ rows last acts. (first, rows, refl, between, inl (taken, accepts, subst (λ (q : Step). Acts q between rows last) (sym same) acts));
     }
 judged_waits f None start asked new step (first, rest, cut, between, inr (why, denies, (called, ends))) free waits =
-    absurd (none_some new.held step (ends_free why _ between new ends) waits)
+    absurd (none_some new.held step (ends_free (tells_version (Some f) why) why _ between new ends) waits)
 judged_waits f (Some why) start asked new step (called, ends) free waits =
-    absurd (none_some new.held step (ends_free _ _ start new ends) waits)
+    absurd (none_some new.held step (ends_free (tells_version (Some f) (fault.Connection (connection.Frame why))) (fault.Connection (connection.Frame why)) _ start new ends) waits)
 
 frame_waits : (f : RawFrame) (start : ConversationState) (asked : List BrokerRow) (new : ConversationState) (step : Step) → TakesFrame f start asked new → start.held ≡ None → new.held ≡ Some step → Waits (TakesFrame f start) asked step new
 frame_waits f start asked new step takes free waits = judged_waits f (case_fault f) start asked new step takes free waits
@@ -200,7 +210,7 @@ all_waits start asked new step (frames, between, first, rest, cut, takes, inl (s
 all_waits start asked new step (frames, between, first, rest, cut, takes, inr (inl (listens, left, reads, none, is))) free waits =
     absurd (none_some new.held step (ap (λ (s : ConversationState). s.held) is ∙ listens.1) waits)
 all_waits start asked new step (frames, between, first, rest, cut, takes, inr (inr (listens, why, left, reads, called, ends))) free waits =
-    absurd (none_some new.held step (ends_free (fault_of_reader why) None (record between { reader = left }) new ends) waits)
+    absurd (none_some new.held step (ends_free (tells_version None (fault_of_reader why)) (fault_of_reader why) None (record between { reader = left }) new ends) waits)
 
 -- frames are taken, and then all that follow
 all_on : (start : ConversationState) (asked : List BrokerRow) (mid : ConversationState) (more : List BrokerRow) (last : ConversationState) → TakesSome start asked mid → TakesAll mid more last → TakesAll start (asked ++ more) last
@@ -293,14 +303,14 @@ heard_beside piece asked rounds free wait other mid one new none (inl (leaves, n
     let b = free one new mid like (ap (λ (s : ConversationState). s.held) is ∙ none) goes in
     (asked ++ b.0, b.1, (none, asked, b.0, refl, mid, inl (leaves, nothing, is), b.2), room_behind asked b.0 (asked_for_frames rounds) b.3, b.4)
 heard_beside piece asked rounds free wait other mid one new none (inr (inl (open_yet, called, ends))) like goes =
-    let b = free one new mid like (ends_free fault.NoMemory None other mid ends) goes in
+    let b = free one new mid like (ends_free (tells_version None fault.NoMemory) fault.NoMemory None other mid ends) goes in
     (asked ++ b.0, b.1, (none, asked, b.0, refl, mid, inr (inl (open_yet, called, ends)), b.2), room_behind asked b.0 (asked_for_frames rounds) b.3, b.4)
 heard_beside piece asked rounds free wait other mid one new none (inr (inr (open_yet, takes))) like goes =
     let b = after_all rounds free wait (record other { reader = with_piece other.reader piece }) asked mid takes none one new like goes mid.held refl in
     (b.0 ++ b.1, b.3, (none, b.0, b.1, refl, b.2, inr (inr (open_yet, b.4)), b.5), b.6, b.7)
 
 heard_free : (piece : List ℕ) (asked : List BrokerRow) (rounds : List Round) → IfFree rounds → IfWaiting rounds → IfFree (Heard piece asked ∷ rounds)
-heard_free piece asked rounds free wait one new other like none (unheld, between, hears, goes) =
+heard_free piece asked rounds free wait one new other like none (unheld, whole, between, hears, goes) =
     let same = hears_like piece one asked between other like hears in
     heard_beside piece asked rounds free wait other same.0 between new none same.1 same.2 goes
 

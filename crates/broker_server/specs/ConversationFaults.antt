@@ -25,10 +25,10 @@ conversation_title (Commit commit.NoMemory) = commit_title commit.NoMemory
 conversation_title (Lagged topic items) = codes "74 Lagged"
 conversation_title _ = codes "72 NoMemory"
 
--- whether its ERROR says which version is supported
-abbrev pub tells_version : ConversationFault → Bool
-tells_version (Connection fault) = says_version fault
-tells_version _ = false
+-- whether its ERROR says which version is supported, where it is a fault of this frame, if one was read
+abbrev pub tells_version : Option RawFrame → ConversationFault → Bool
+tells_version read (Connection fault) = says_version read fault
+tells_version read _ = false
 
 -- a reader's fault, as that of its connection: where its text fails a check, or there was no memory
 abbrev pub fault_of_reader : FrameFault → ConversationFault
@@ -44,6 +44,6 @@ fault_of_reader FrameFault.TooManyHeaders = Connection (Stream Check.TooManyHead
 fault_of_reader FrameFault.BodyTooLong = Connection (Stream Check.BodyTooLong)
 fault_of_reader FrameFault.NoMemory = Connection ReaderNoMemory
 
--- the ERROR of a frame that asked for this receipt, if it asked for one
-abbrev pub told_error : ConversationFault → Option (List ℕ) → RawFrame
-told_error fault receipt = error_frame (conversation_title fault) receipt (tells_version fault)
+-- the ERROR of a frame that asked for this receipt, if it asked for one, which says the version or doesn't
+abbrev pub told_error : Bool → ConversationFault → Option (List ℕ) → RawFrame
+told_error version fault receipt = error_frame (conversation_title fault) receipt version

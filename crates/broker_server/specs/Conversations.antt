@@ -1,5 +1,5 @@
 -- What one connection of the server does.
-use Rattle.std.specs.Prelude.{◌≡◌, ◌⊎◌, ℕ, ◌-◌, nat_lt, Bool, true, false, List, [], ◌∷◌, ◌++◌, length, map, Option, Some, None, IsSome, Result, Ok, Err, if◌then◌else◌}
+use Rattle.std.specs.Prelude.{◌≡◌, ◌⊎◌, ℕ, ◌-◌, nat_lt, Bool, true, false, List, [], ◌∷◌, ◌++◌, drop, length, map, Option, Some, None, IsSome, Result, Ok, Err, if◌then◌else◌}
 use Rattle.std.specs.List.{flat_map, list_any}
 use Rattle.std.specs.Option.{option_map_or}
 use Rattle.std.specs.Str.{bytes_eq}
@@ -16,30 +16,42 @@ use Rattle.stomp_frame.specs.ServerFrames.{connected_frame, receipt_frame}
 use Rattle.stomp_session.specs.declared.action.Action.{Action}
 use Rattle.stomp_session.specs.declared.action.Action.TheVariants as actions
 use Rattle.stomp_session.specs.declared.action.Step.{Step}
-use Rattle.stomp_session.specs.Open.{SessionState, StandsFor, after_close}
+use Rattle.stomp_session.specs.Open.{SessionState, StandsFor, after_close, asks_parts}
 use Rattle.delivery.specs.Core.Outcomes.{is_any}
+use Rattle.delivery.specs.Core.Output.{messages_for}
 use Rattle.delivery.specs.Core.Steps.{reader_limits}
 use Rattle.broker_server.specs.declared.conversation.conversation_fault.ConversationFault.{ConversationFault}
 use Rattle.broker_server.specs.declared.conversation.conversation_fault.ConversationFault.TheVariants as fault
 use Rattle.broker_server.specs.declared.conversation.exit.Exit.{Exit}
 use Rattle.broker_server.specs.declared.conversation.exit.Exit.TheVariants as exit
+use Rattle.broker_server.specs.declared.conversation.item_rest.ItemRest.{ItemRest}
 use Rattle.broker_server.specs.BrokerRows.{BrokerRow, IsGateAfter, SubName, AsksRoom, Claims, GivesBack, GivesRoomBack, Subscribes, Unsubscribes, Commits}
-use Rattle.broker_server.specs.ConversationFaults.{told_error}
+use Rattle.broker_server.specs.ConversationFaults.{tells_version, told_error}
 use Rattle.broker_server.specs.Wires.{spelling_with_eol}
 
--- an open subscription of a connection: the id that its SUBSCRIBE gave it, which one of the broker it is, how
--- many more items are to be taken before it can have lagged, and whether the broker said that it has
+-- an open subscription of a connection: the id that its SUBSCRIBE gave it, whether that asked for parts, which
+-- one of the broker it is, how many more items are to be taken before it can have lagged, whether the broker
+-- said that it has, and what isn't written yet of the item that was taken last
 pub record OpenSubState : Type 0 where
   pub id : List ℕ
+  pub parts : Bool
   pub sub : SubName
   pub until_lag : ℕ
   pub lagged : Bool
+  pub left : List RawFrame
+
+-- The MESSAGEs that aren't written yet of an item, for the subscription of this id, which asked for parts or
+-- didn't. So of an item of three of which two are written, the third is.
+abbrev pub unwritten : Bool → List ℕ → Option ItemRest → List RawFrame
+unwritten parts id None = []
+unwritten parts id (Some rest) = drop rest.next (messages_for parts id rest.item)
 
 -- a connection: what came and isn't read yet, its session, the names of the topics that it knows, its
 -- sender's gate, its open subscriptions, the accepted COMMIT, or SEND outside a transaction, that waits for
 -- room, if one does, the octets that wait to be written to it, why it leaves, once it does, whether a reply
 -- was left out since there was no memory for it, whether items may be left in its queues since too many
--- octets waited, how many items each of them holds, and the index of the one that is taken next
+-- octets waited, whether an item is half out, how many items each queue holds, and the index of the one that
+-- is taken next
 pub record ConversationState : Type 0 where
   pub reader : Unread
   pub session : SessionState
@@ -51,6 +63,7 @@ pub record ConversationState : Type 0 where
   pub exit : Option Exit
   pub cut : Bool
   pub more : Bool
+  pub half : Bool
   pub capacity : ℕ
   pub next : ℕ
 
@@ -66,6 +79,7 @@ pub record IsNew (capacity : ℕ) (c : ConversationState) : Type 0 where
   pub exit : c.exit ≡ None
   pub cut : c.cut ≡ false
   pub more : c.more ≡ false
+  pub half : c.half ≡ false
   pub capacity_is : c.capacity ≡ capacity
   pub next : c.next ≡ 0
 
@@ -102,6 +116,7 @@ closed why c = record c {
   held = None;
   exit = Some why;
   more = false;
+  half = false;
 }
 
 -- Out of memory, a reply to a connection that leaves is left out, which it says from then on. So where the
@@ -109,11 +124,17 @@ closed why c = record c {
 abbrev pub LeavesOut : ConversationState → ConversationState → Type 0
 LeavesOut old new = new ≡ record old { cut = true }
 
--- It leaves by this fault: the ERROR is the last that is written, or is left out for want of memory.
-abbrev pub EndsByError : ConversationFault → Option (List ℕ) → ConversationState → ConversationState → Type 0
-EndsByError why receipt old new =
-    PutsFrames (told_error why receipt ∷ []) (closed (exit.Error why) old) new
+-- It leaves by this fault: the ERROR, which says the version or doesn't, is the last that is written, or is
+-- left out for want of memory.
+abbrev pub EndsSaying
+    : Bool → ConversationFault → Option (List ℕ) → ConversationState → ConversationState → Type 0
+EndsSaying version why receipt old new =
+    PutsFrames (told_error version why receipt ∷ []) (closed (exit.Error why) old) new
     ⊎ LeavesOut (closed (exit.Error why) old) new
+
+-- It leaves by a fault that is none of a frame's.
+abbrev pub EndsByError : ConversationFault → Option (List ℕ) → ConversationState → ConversationState → Type 0
+EndsByError why receipt old new = EndsSaying (tells_version None why) why receipt old new
 
 -- ---- what a frame asks for
 
@@ -135,15 +156,17 @@ Connects client old asked result new =
     × (new ≡ old))
 
 -- a subscription as it begins: as many items as its queue holds are to be taken before it can have lagged
-abbrev pub begun_sub : List ℕ → SubName → ℕ → OpenSubState
-begun_sub id sub capacity = record { id = id; sub = sub; until_lag = capacity; lagged = false }
+abbrev pub begun_sub : List ℕ → Bool → SubName → ℕ → OpenSubState
+begun_sub id parts sub capacity =
+    record { id = id; parts = parts; sub = sub; until_lag = capacity; lagged = false; left = [] }
 
--- A SUBSCRIBE begins a subscription, which is then the last that is open.
+-- A SUBSCRIBE begins a subscription, which is then the last that is open. The session, which accepted the
+-- frame, knows whether it asked for parts.
 abbrev pub Begins
     : List ℕ → Topic → ConversationState → List BrokerRow → Done → ConversationState → Type 0
 Begins id topic old asked result new =
     ((sub : SubName) × (asked ≡ Subscribes topic (Ok sub) ∷ []) × (result ≡ Ok tt)
-    × (new ≡ record old { subs = old.subs ++ begun_sub id sub old.capacity ∷ [] }))
+    × (new ≡ record old { subs = old.subs ++ begun_sub id (asks_parts id old.session) sub old.capacity ∷ [] }))
     ⊎ ((why : SubFault) × (asked ≡ Subscribes topic (Err why) ∷ []) × (result ≡ Err (fault.Subscribe why))
     × (new ≡ old))
     ⊎ LacksMemory old asked result new

@@ -1,20 +1,22 @@
 -- What one connection of the server takes of its queues.
-use Rattle.std.specs.Prelude.{◌≡◌, ◌⊎◌, ℕ, ◌+◌, ◌-◌, ◌<◌, ◌≤◌, nat_lt, Bool, true, false, ◌&&◌, List, [], ◌∷◌, ◌++◌, length, Some, None, IsSome, if◌then◌else◌}
+use Rattle.std.specs.Prelude.{◌≡◌, ◌⊎◌, ℕ, ◌+◌, ◌-◌, ◌<◌, ◌≤◌, nat_lt, Bool, true, false, not, ◌&&◌, ◌||◌, List, [], ◌∷◌, ◌++◌, length, Some, None, IsSome, if◌then◌else◌}
 use Rattle.std.specs.List.{flat_map, list_any}
 use Rattle.std.specs.Option.{is_none, is_some}
+use Rattle.stomp_frame.specs.declared.raw_frame.RawFrame.{RawFrame}
 use Rattle.mcast_txn.specs.Span.{Item}
-use Rattle.delivery.specs.Core.Output.{item_messages}
+use Rattle.delivery.specs.Core.Outcomes.{is_any}
+use Rattle.delivery.specs.Core.Output.{messages_for}
 use Rattle.broker_server.specs.declared.conversation.conversation_fault.ConversationFault.{ConversationFault}
 use Rattle.broker_server.specs.declared.conversation.conversation_fault.ConversationFault.TheVariants as fault
 use Rattle.broker_server.specs.declared.conversation.drained.Taking.{Taking}
-use Rattle.broker_server.specs.declared.conversation.drained.Taking.TheVariants.{Emptied, Stopped, Failed}
+use Rattle.broker_server.specs.declared.conversation.drained.Taking.TheVariants.{Emptied, Stopped, Halfway, Failed}
 use Rattle.broker_server.specs.BrokerRows.{BrokerRow, AsksLag, Takes}
 use Rattle.broker_server.specs.Conversations.{ConversationState, EndsByError, OpenSubState, closing_rows}
 use Rattle.broker_server.specs.Wires.{spelling_with_eol}
 
--- ---- one queue
+-- ---- one item
 
--- where so many octets wait, nothing more is taken (own)
+-- where so many octets wait, nothing more is taken, and no MESSAGE of an item is written (own)
 abbrev pub full_wire : ℕ
 full_wire = 65536
 
@@ -22,9 +24,35 @@ full_wire = 65536
 abbrev pub most_waiting : ℕ
 most_waiting = 1048576
 
--- whether more is read: it doesn't leave, no transaction waits, and few octets wait
+-- whether more is read: it doesn't leave, no transaction waits, no item is half out, and few octets wait
 abbrev pub may_read : ConversationState → Bool
-may_read c = is_none c.exit && (is_none c.held && nat_lt (length c.wire) most_waiting)
+may_read c =
+    is_none c.exit && (is_none c.held && (not c.half && nat_lt (length c.wire) most_waiting))
+
+-- Whether a further MESSAGE of an item is written: few octets wait; or a transaction of the connection waits for
+-- room, which would have to wait for the item, and others behind it (own).
+abbrev pub has_room : Bool → List ℕ → Bool
+has_room waits wire = waits || nat_lt (length wire) full_wire
+
+-- What is left of these MESSAGEs, once they were written one after the other as long as there was room. So of
+-- three, of which the second fills the wire, the third is left.
+abbrev pub left_behind : Bool → List RawFrame → List ℕ → List RawFrame
+left_behind waits [] wire = []
+left_behind waits (f ∷ fs) wire =
+    if has_room waits wire then left_behind waits fs (wire ++ spelling_with_eol f) else f ∷ fs
+
+-- What waits then: of those three, what waited and the first two, each with its EOL.
+abbrev pub with_messages : Bool → List RawFrame → List ℕ → List ℕ
+with_messages waits [] wire = wire
+with_messages waits (f ∷ fs) wire =
+    if has_room waits wire then with_messages waits fs (wire ++ spelling_with_eol f) else wire
+
+-- They are all written, and this waits then.
+abbrev pub WritesAll : Bool → List RawFrame → List ℕ → List ℕ → Type 0
+WritesAll waits messages wire after =
+    (left_behind waits messages wire ≡ []) × (after ≡ with_messages waits messages wire)
+
+-- ---- one queue
 
 -- so many calls are made of one queue before another is taken, at most (own); each item writes an octet
 -- or more, so the wire is full before
@@ -39,10 +67,18 @@ nearer_lag o = record o { until_lag = o.until_lag - 1 }
 abbrev pub after_empty : ℕ → OpenSubState → OpenSubState
 after_empty capacity o = record o { until_lag = capacity }
 
--- what waits once the MESSAGEs of an item were put behind it, which have the subscription's own id, each with
--- its EOL
-abbrev pub with_pushed : OpenSubState → Item → List ℕ → List ℕ
-with_pushed o item wire = wire ++ flat_map spelling_with_eol (item_messages o.id item)
+-- the MESSAGEs of an item, for the subscription whose queue it was in
+abbrev pub messages_of : OpenSubState → Item → List RawFrame
+messages_of o item = messages_for o.parts o.id item
+
+-- These MESSAGEs of an item aren't all written: some are left for want of room, and stay left of the queue; or
+-- there is no memory for one, behind those that are out, which stay out.
+abbrev pub BreaksOff : Bool → List RawFrame → OpenSubState → List ℕ → Taking → OpenSubState → List ℕ → Type 0
+BreaksOff waits messages o wire end new after =
+    ((is_any (left_behind waits messages wire) ≡ true) × (end ≡ Halfway)
+    × (new ≡ record o { left = left_behind waits messages wire }) × (after ≡ with_messages waits messages wire))
+    ⊎ ((out rest : List RawFrame) × (messages ≡ out ++ rest) × (is_any rest ≡ true)
+    × WritesAll waits out wire after × (end ≡ Failed fault.NoReply) × (new ≡ o))
 
 -- it is a lag; its topic and its number go to the log alone
 abbrev pub IsLag : ConversationFault → Type 0
@@ -63,20 +99,23 @@ EndsEmpty waits capacity o end new =
     ⊎ ((o.lagged ≡ false) × (0 < o.until_lag) × (end ≡ Emptied) × (new ≡ after_empty capacity o))
 
 -- What is taken of one queue by these calls, in order, after so many others of this round: the queue and what
--- waits before and after it, and how it ended; `waits` is whether a transaction does. It stops where 65,536 octets wait, and fails where there is no
--- memory for an item's MESSAGEs. A queue that is found empty after as many items as it holds may have lagged:
--- the broker is asked, and where it says so, the queue is taken on, until it is empty again. It needn't be
--- asked before: one that lags is full then, so that as many items are taken before it is found empty. So
--- where 65,536 octets wait, there is no call at all; and where the broker is asked for an item and has none,
--- 74 is told only if it said of the queue that it has lagged.
+-- waits before and after it, and how it ended; `waits` is whether a transaction does. A further item is taken
+-- where the last is out as a whole. It stops where 65,536 octets wait, between two items or halfway in one, and
+-- fails where there is no memory for a MESSAGE. A queue that is found empty after as many items as it holds may
+-- have lagged: the broker is asked, and where it says so, the queue is taken on, until it is empty again. It
+-- needn't be asked before: one that lags is full then, so that as many items are taken before it is found
+-- empty. So where 65,536 octets wait, there is no call at all; and where the broker is asked for an item and
+-- has none, 74 is told only if it said of the queue that it has lagged.
 abbrev pub Drains
     : Bool → ℕ → ℕ → List BrokerRow → OpenSubState → List ℕ → Taking → OpenSubState → List ℕ → Type 0
 Drains waits capacity calls [] o wire end new after =
     ((full_wire ≤ length wire) ⊎ (most_calls ≤ calls)) × (end ≡ Stopped) × (new ≡ o) × (after ≡ wire)
 Drains waits capacity calls (Takes sub (Some item) ∷ rows) o wire end new after =
     (length wire < full_wire) × (sub ≡ o.sub)
-    × (Drains waits capacity (calls + 1) rows (nearer_lag o) (with_pushed o item wire) end new after
-    ⊎ ((rows ≡ []) × (end ≡ Failed fault.NoReply) × (new ≡ nearer_lag o) × (after ≡ wire)))
+    × (((left_behind waits (messages_of o item) wire ≡ [])
+    × Drains waits capacity (calls + 1) rows (nearer_lag o) (with_messages waits (messages_of o item) wire) end
+    new after)
+    ⊎ ((rows ≡ []) × BreaksOff waits (messages_of o item) (nearer_lag o) wire end new after))
 Drains waits capacity calls (Takes sub None ∷ []) o wire end new after =
     (length wire < full_wire) × (sub ≡ o.sub) × EndsEmpty waits capacity o end new × (after ≡ wire)
 Drains waits capacity calls (Takes sub None ∷ AsksLag lagging true ∷ rows) o wire end new after =
@@ -87,6 +126,16 @@ Drains waits capacity calls (Takes sub None ∷ AsksLag lagging false ∷ []) o 
     × (end ≡ Emptied) × (new ≡ after_empty capacity o) × (after ≡ wire)
 Drains waits capacity calls _ o wire end new after = ⊥
 
+-- The same of a queue of whose last item some MESSAGEs may be left: these are written first, and where they
+-- aren't all out then, nothing is asked. So where the last of three was left, and there is room, that is
+-- written, and then the next item is taken.
+abbrev pub DrainsOn
+    : Bool → ℕ → List BrokerRow → OpenSubState → List ℕ → Taking → OpenSubState → List ℕ → Type 0
+DrainsOn waits capacity asked o wire end new after =
+    ((left_behind waits o.left wire ≡ [])
+    × Drains waits capacity 0 asked (record o { left = [] }) (with_messages waits o.left wire) end new after)
+    ⊎ ((asked ≡ []) × BreaksOff waits o.left (record o { left = [] }) wire end new after)
+
 -- ---- queue after queue
 
 -- the one where nothing is left of a queue, else the other
@@ -94,8 +143,13 @@ abbrev pub IfEmptied : Taking → Type 0 → Type 0 → Type 0
 IfEmptied Emptied goes_on stops = goes_on
 IfEmptied _ goes_on stops = stops
 
--- These queues are taken, one after the other, up to the first that isn't emptied, and so many are left
--- behind that one; where there are none, nothing is left of them.
+-- how many queues are left, of these behind one that wasn't emptied, and itself where an item of it is half out
+abbrev pub left_from : Taking → List OpenSubState → ℕ
+left_from Halfway behind = length behind + 1
+left_from _ behind = length behind
+
+-- These queues are taken, one after the other, up to the first that isn't emptied, and so many are left from
+-- there on; where there are none, nothing is left of them.
 abbrev pub DrainsAll
     : Bool → ℕ → List BrokerRow → List OpenSubState → List ℕ → Taking → List OpenSubState → List ℕ → ℕ
     → Type 0
@@ -104,9 +158,9 @@ DrainsAll waits capacity asked [] wire end new after left =
 DrainsAll waits capacity asked (o ∷ os) wire end new after left =
     (first rest : List BrokerRow) × (asked ≡ first ++ rest)
     × (one : Taking) × (changed : OpenSubState) × (others : List OpenSubState) × (between : List ℕ)
-    × Drains waits capacity 0 first o wire one changed between × (new ≡ changed ∷ others)
+    × DrainsOn waits capacity first o wire one changed between × (new ≡ changed ∷ others)
     × IfEmptied one (DrainsAll waits capacity rest os between end others after left)
-    ((rest ≡ []) × (end ≡ one) × (others ≡ os) × (after ≡ between) × (left ≡ length os))
+    ((rest ≡ []) × (end ≡ one) × (others ≡ os) × (after ≡ between) × (left ≡ left_from one os))
 
 -- whether an item was taken by this call
 abbrev pub is_item : BrokerRow → Bool
@@ -122,9 +176,11 @@ abbrev pub begins_at : ℕ → ℕ → ℕ
 begins_at next count = if nat_lt next count then next else 0
 
 -- The queues are taken from the next one to the last, and then, where each of these was emptied, from the
--- first to that one; later the queue behind the one that wasn't emptied is next, and else the same one. So of
--- three queues of which the second is next, they are taken as second, third and first; and where the second
--- isn't emptied, the third is next later, so that none waits for another for ever.
+-- first to that one; later the queue behind the one that wasn't emptied is next, but that one itself where an
+-- item of it is half out, and else the same one. So of three queues of which the second is next, they are taken
+-- as second, third and first; and where the second isn't emptied, the third is next later, so that none waits
+-- for another for ever. But where the second stopped halfway in an item, the second is next again, so that
+-- nothing comes between.
 abbrev pub DrainsQueues
     : Bool → ℕ → ℕ → List BrokerRow → List OpenSubState → List ℕ → Taking → List OpenSubState → List ℕ → ℕ
     → Type 0
@@ -140,19 +196,30 @@ DrainsQueues waits capacity next asked queues wire end new after later =
 
 -- ---- a round of the connection
 
--- whether items may be left
+-- whether items, or MESSAGEs of one, may be left
 abbrev pub is_stopped : Taking → Bool
 is_stopped Stopped = true
+is_stopped Halfway = true
 is_stopped _ = false
 
+-- whether an item is half out
+abbrev pub is_halfway : Taking → Bool
+is_halfway Halfway = true
+is_halfway _ = false
+
+-- whether MESSAGEs of the item that is half out are written: an item is, and there is room
+abbrev pub writes_on : ConversationState → Bool
+writes_on c = c.half && nat_lt (length c.wire) full_wire
+
 -- What follows, once these items were taken or not: where it failed, the connection leaves by that, and a
--- lag's 74 is so the last that is written; else it stays, and knows whether items may be left.
+-- lag's 74 is so the last that is written; else it stays, and knows whether items may be left, and whether one
+-- is half out.
 abbrev pub Settles
     : Taking → Bool → ConversationState → List BrokerRow → Bool → ConversationState → Type 0
 Settles (Failed why) any old asked result new =
     (asked ≡ closing_rows old) × (result ≡ true) × EndsByError why None old new
 Settles end any old asked result new =
-    (asked ≡ []) × (result ≡ any) × (new ≡ record old { more = is_stopped end })
+    (asked ≡ []) × (result ≡ any) × (new ≡ record old { more = is_stopped end; half = is_halfway end })
 
 -- Its queues are taken, and what comes is written; the result is whether something came of it. One that
 -- leaves takes nothing. So where `a` holds an item and `b` has lagged, a's MESSAGE is written, what `b` holds
@@ -163,4 +230,28 @@ DeliversRound old asked result new =
     ⊎ ((old.exit ≡ None) × (first rest : List BrokerRow) × (asked ≡ first ++ rest)
     × (end : Taking) × (subs : List OpenSubState) × (wire : List ℕ) × (next : ℕ)
     × DrainsQueues (is_some old.held) old.capacity old.next first old.subs old.wire end subs wire next
-    × Settles end (has_item first) (record old { subs = subs; wire = wire; next = next }) rest result new)
+    × Settles end (has_item first || writes_on old) (record old { subs = subs; wire = wire; next = next }) rest
+    result new)
+
+-- ---- a law
+
+-- the MESSAGEs of the items that these calls took, for a subscription of this id, which asked for parts or
+-- didn't
+abbrev pub taken_messages : Bool → List ℕ → List BrokerRow → List RawFrame
+taken_messages parts id [] = []
+taken_messages parts id (Takes sub (Some item) ∷ rows) =
+    messages_for parts id item ++ taken_messages parts id rows
+taken_messages parts id (_ ∷ rows) = taken_messages parts id rows
+
+-- What was left of a queue's item, and then what was taken of the queue, is what was written, and then what is
+-- left of it now: each MESSAGE once, in order, and nothing else. What is left is lost only where there was no
+-- memory for it, and some is left only where it stopped halfway. So whatever pieces an item was written in, they
+-- are the whole item.
+abbrev pub ItemsAreWhole : Type 0
+ItemsAreWhole =
+    (waits : Bool) (capacity : ℕ) (asked : List BrokerRow) (o : OpenSubState) (wire : List ℕ) (end : Taking)
+    (new : OpenSubState) (after : List ℕ)
+    → DrainsOn waits capacity asked o wire end new after
+    → (out rest : List RawFrame) × (after ≡ wire ++ flat_map spelling_with_eol out)
+    × (o.left ++ taken_messages o.parts o.id asked ≡ out ++ rest)
+    × ((end ≡ Failed fault.NoReply) ⊎ (rest ≡ new.left)) × (is_any new.left ≡ true → end ≡ Halfway)

@@ -1,5 +1,5 @@
 -- What one connection of the server does with what comes.
-use Rattle.std.specs.Prelude.{◌≡◌, ◌⊎◌, ℕ, true, false, List, [], ◌∷◌, ◌++◌, codes, Some, None, IsSome, MatchOption, Ok, Err}
+use Rattle.std.specs.Prelude.{◌≡◌, ◌⊎◌, ℕ, Bool, true, false, List, [], ◌∷◌, ◌++◌, codes, Some, None, IsSome, MatchOption, Ok, Err}
 use Rattle.stomp_frame.specs.declared.fault.FrameFault.{FrameFault}
 use Rattle.stomp_frame.specs.declared.raw_frame.RawFrame.{RawFrame}
 use Rattle.stomp_frame.specs.Cases.{case_fault}
@@ -14,16 +14,18 @@ use Rattle.delivery.specs.Core.Outcomes.{is_any}
 use Rattle.broker_server.specs.declared.conversation.conversation_fault.ConversationFault.{ConversationFault}
 use Rattle.broker_server.specs.declared.conversation.conversation_fault.ConversationFault.TheVariants as fault
 use Rattle.broker_server.specs.BrokerRows.{BrokerRow, LooksUp}
-use Rattle.broker_server.specs.ConversationFaults.{fault_of_reader}
-use Rattle.broker_server.specs.Conversations.{Acts, ConversationState, EndsByError, closing_rows}
+use Rattle.broker_server.specs.ConversationFaults.{fault_of_reader, tells_version}
+use Rattle.broker_server.specs.Conversations.{Acts, ConversationState, EndsByError, EndsSaying, closing_rows}
 use Rattle.broker_server.specs.Judging.{Grows, IsFrameAccepted, IsFrameRefused}
 
 -- ---- one frame
 
--- The connection leaves by a fault of this frame, with the receipt that the frame asks for.
+-- The connection leaves by a fault of this frame, with the receipt that the frame asks for. So a CONNECT
+-- without a host is told the version where it offers `1.1` alone, and isn't where it offers `1.1,1.2`.
 abbrev pub RefusesFrame
     : ConversationFault → RawFrame → ConversationState → List BrokerRow → ConversationState → Type 0
-RefusesFrame why f old asked new = (asked ≡ closing_rows old) × EndsByError why (receipt_of f) old new
+RefusesFrame why f old asked new =
+    (asked ≡ closing_rows old) × EndsSaying (tells_version (Some f) why) why (receipt_of f) old new
 
 -- its destination is none of these names
 abbrev pub IsNewTo : List (List ℕ) → RawFrame → Type 0
@@ -113,7 +115,7 @@ TakesAll old asked new =
     (frames : List RawFrame) × (between : ConversationState) × (first rest : List BrokerRow)
     × (asked ≡ first ++ rest) × TakesFrames frames old first between × Rests between rest new
 
--- A piece comes. One that leaves drops it; without memory for it the connection leaves; else it is put to the
+-- A piece comes, while no item is half out. One that leaves drops it; without memory for it the connection leaves; else it is put to the
 -- stream, and the frames that are whole then are taken. So where `SEND`, a frame that the session refuses,
 -- and a second `SEND` come at once, one flight is committed, an ERROR is the last that is written, and the
 -- second isn't read. While a transaction waits, a piece is put to the stream, and nothing is taken.
@@ -122,6 +124,24 @@ Hears piece old asked new =
     (IsSome old.exit × (asked ≡ []) × (new ≡ old))
     ⊎ ((old.exit ≡ None) × (asked ≡ closing_rows old) × EndsByError fault.NoMemory None old new)
     ⊎ ((old.exit ≡ None) × TakesAll (record old { reader = with_piece old.reader piece }) asked new)
+
+-- While an item is half out, so that no frame is to come between its MESSAGEs, a piece that comes is put to the
+-- stream, and nothing is taken. (The server reads nothing then: `may_read`.)
+abbrev pub KeepsPiece : List ℕ → ConversationState → List BrokerRow → ConversationState → Type 0
+KeepsPiece piece old asked new =
+    (IsSome old.exit × (asked ≡ []) × (new ≡ old))
+    ⊎ ((old.exit ≡ None) × (asked ≡ closing_rows old) × EndsByError fault.NoMemory None old new)
+    ⊎ ((old.exit ≡ None) × (asked ≡ []) × (new ≡ record old { reader = with_piece old.reader piece }))
+
+-- the one where an item is half out, else the other
+abbrev pub IfHalf : Bool → Type 0 → Type 0 → Type 0
+IfHalf true half whole = half
+IfHalf false half whole = whole
+
+-- A piece comes, whether an item is half out or not.
+abbrev pub HearsOrKeeps : List ℕ → ConversationState → List BrokerRow → ConversationState → Type 0
+HearsOrKeeps piece old asked new =
+    IfHalf old.half (KeepsPiece piece old asked new) (Hears piece old asked new)
 
 -- It goes on with the transaction that waits, if one does: room is asked for again, and that is done or waits
 -- again; then the frames that are whole are taken. So where a `SEND` waits for room, and an UNSUBSCRIBE came

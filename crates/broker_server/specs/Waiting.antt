@@ -19,12 +19,12 @@ pub data Round : Type 0 where
   -- some of what waits was written
   Wrote : Round
 
--- It went through these rounds, in order. Nothing was read while a transaction waited, and it didn't leave by
--- what was delivered. So a `SEND` that finds no room at first is heard, its queues are taken, and it goes on.
+-- It went through these rounds, in order. Nothing was read while a transaction waited or an item was half out,
+-- and it didn't leave by what was delivered. So a `SEND` that finds no room at first is heard, its queues are taken, and it goes on.
 abbrev pub GoesThrough : List Round → ConversationState → ConversationState → Type 0
 GoesThrough [] old new = new ≡ old
 GoesThrough (Heard piece asked ∷ rounds) old new =
-    (old.held ≡ None) × (between : ConversationState) × Hears piece old asked between
+    (old.held ≡ None) × (old.half ≡ false) × (between : ConversationState) × Hears piece old asked between
     × GoesThrough rounds between new
 GoesThrough (WentOn asked ∷ rounds) old new =
     (between : ConversationState) × GoesOn old asked between × GoesThrough rounds between new
@@ -73,7 +73,7 @@ HearsEach (piece ∷ more) old asked new =
 
 -- a queue of which nothing was taken
 abbrev pub untaken : OpenSubState → OpenSubState
-untaken o = record o { until_lag = 0; lagged = false }
+untaken o = record o { until_lag = 0; lagged = false; left = [] }
 
 -- a connection but for what is delivered and written: nothing waits to be written, and nothing was taken of
 -- its queues
@@ -82,6 +82,7 @@ but_items c = record c {
   subs = map untaken c.subs;
   wire = [];
   more = false;
+  half = false;
   next = 0;
 }
 

@@ -7,11 +7,12 @@ ghost use Rattle.stomp_frame.specs.declared.fault.FrameFault.{FrameFault};
 ghost use Rattle.stomp_frame.specs.declared.raw_frame.RawFrame.{RawFrame};
 ghost use Rattle.stomp_frame.specs.ClientFrames.{raw_of};
 ghost use Rattle.broker_server.specs.BrokerRows.{AsksInOrder, BrokerRow};
-ghost use Rattle.broker_server.specs.Conversations.{PutsFrames, EndsByError, Connects, Begins, EndsSub, CommitsSends, CommitsBy, Acts, Answers, Concludes, IsLost};
-ghost use Rattle.broker_server.specs.Delivering.{DeliversRound, Drains, DrainsAll, DrainsQueues, TellsLag, begins_at, has_item, may_read};
+ghost use Rattle.broker_server.specs.Conversations.{PutsFrames, EndsByError, EndsSaying, Connects, Begins, EndsSub, CommitsSends, CommitsBy, Acts, Answers, Concludes, IsLost};
+ghost use Rattle.broker_server.specs.ConversationFaults.{tells_version};
+ghost use Rattle.broker_server.specs.Delivering.{DeliversRound, may_read};
 ghost use Rattle.delivery.specs.Core.Outcomes.{is_any};
 ghost use Rattle.stomp_session.specs.Open.{IsKnownTo};
-ghost use Rattle.broker_server.specs.Hearing.{AcceptsFrame, DeniesFrame, GoesOn, Hears, IsNewTo, Rests, TakesAll, TakesFrame, TakesFrames};
+ghost use Rattle.broker_server.specs.Hearing.{AcceptsFrame, DeniesFrame, GoesOn, HearsOrKeeps, IsNewTo, Rests, TakesAll, TakesFrame, TakesFrames};
 ghost use Rattle.broker_server.specs.Wires.{GoesOut};
 ghost use Rattle.broker_server.specs.Conversations.{closed, IsNew, closing_rows, gate_rows, is_of_id, next_without, replies};
 ghost use Rattle.stomp_session.specs.declared.action.Action.TheVariants as actions;
@@ -21,8 +22,12 @@ mod closing;
 mod conversation_fault;
 mod drained;
 mod exit;
+mod ignored;
+mod ignored_so_far;
+mod item_rest;
 mod named_last;
 mod open_sub;
+mod taking;
 
 use crate::draining::drain_wire;
 use crate::program_fault::ProgramFault;
@@ -30,8 +35,10 @@ use crate::wire::Wire;
 pub use broker_calls::BrokerCalls;
 use closing::end_subs;
 pub use conversation_fault::ConversationFault;
-use drained::{Drained, Taking};
+use drained::Taking;
 pub use exit::Exit;
+pub use ignored::Ignored;
+use ignored_so_far::IgnoredSoFar;
 use mcast_txn::{Topic, Txn};
 use named_last::NamedLast;
 use open_sub::OpenSub;
@@ -40,6 +47,7 @@ use std::alloc::Global;
 use std::io::Write;
 use std::marker::Model;
 use std::mem;
+use taking::drain_queues;
 use stomp_frame::{
     ClientFrame, FrameFault, FrameReader, Limits, NoMemory, Octets, RawFrame, ServerFrame, classify,
 };
@@ -48,14 +56,10 @@ use stomp_session::{Action, Names, Session, Step};
 /// From as many octets that wait on, nothing more is read (our choice).
 const MOST: usize = 1_048_576;
 
-/// So many calls are made of one queue before another is taken, at most (our choice). An item writes an octet or
-/// more, so the wire is full before.
-const MOST_CALLS: usize = 65_536;
-
 /// One connection of the server, without its socket. In contracts it is what came and isn't read yet, its session, its
 /// sender's gate, its open subscriptions, the transaction that waits for room, the octets that wait to be written to
-/// it, why it leaves, once it does, whether a reply was left out, whether items may be left in its queues, how many each
-/// of these holds, and which of them is looked at first.
+/// it, why it leaves, once it does, whether a reply was left out, whether items may be left in its queues, whether one
+/// is half out, how many each queue holds, and which of them is looked at first.
 pub struct Conversation<C: BrokerCalls> {
     alloc: Global,
     reader: FrameReader,
@@ -74,6 +78,8 @@ pub struct Conversation<C: BrokerCalls> {
     cut: bool,
     /// Whether items may be left in the queues.
     more: bool,
+    /// Whether an item is half out: the rest of it comes before anything else.
+    half: bool,
     /// The index of the subscription whose queue is taken next.
     next: usize,
     /// How many items a queue holds at most.
@@ -82,6 +88,8 @@ pub struct Conversation<C: BrokerCalls> {
     sends: u64,
     /// The topics that frames' destinations named last. No contract speaks of them.
     named: NamedLast,
+    /// What it asked for that is ignored, for the log: no contract speaks of it.
+    ignored: IgnoredSoFar,
 }
 
 impl<C: BrokerCalls> Drop for Conversation<C> {
@@ -99,10 +107,12 @@ impl<C: BrokerCalls> Drop for Conversation<C> {
             exit: _,
             cut: _,
             more: _,
+            half: _,
             next: _,
             capacity: _,
             sends: _,
             named: _,
+            ignored: _,
         } = self;
         drop(reader);
         drop(session);
@@ -130,6 +140,7 @@ impl<C: BrokerCalls> Model for Conversation<C> {
       exit = c.exit;
       cut = c.cut;
       more = c.more;
+      half = c.half;
       capacity = c.capacity;
       next = c.next;
     } };
@@ -152,10 +163,12 @@ impl<C: BrokerCalls> Conversation<C> {
             exit: None,
             cut: false,
             more: false,
+            half: false,
             next: 0,
             capacity,
             sends: 0,
             named: NamedLast::new(),
+            ignored: IgnoredSoFar::new(),
         }
     }
 
@@ -180,6 +193,18 @@ impl<C: BrokerCalls> Conversation<C> {
     /// How many SENDs it committed.
     pub(crate) fn sends(&self) -> u64 {
         self.sends
+    }
+
+    /// What it asked for so far that is ignored.
+    pub(crate) fn ignored(&self) -> Ignored {
+        self.ignored.asked
+    }
+
+    /// Notes what a frame asks for that is ignored.
+    fn note_ignored(&mut self, frame: &RawFrame)
+        ensures { self.new ≡ self.old }
+    {
+        self.ignored.look(frame);
     }
 
     /// What waits to be written.
@@ -234,16 +259,16 @@ impl<C: BrokerCalls> Conversation<C> {
         self.held.is_some()
     }
 
-    /// Whether more may be read: it doesn't leave, no transaction waits for room, and fewer than 1,048,576 octets wait
-    /// to be written.
+    /// Whether more may be read: it doesn't leave, no transaction waits for room, no item is half out, and fewer than
+    /// 1,048,576 octets wait to be written.
     pub fn may_read(&self) -> bool
         ensures { result ≡ may_read self.now }
     {
-        self.exit.is_none() && self.held.is_none() && self.wire.len() < MOST
+        self.exit.is_none() && self.held.is_none() && !self.half && self.wire.len() < MOST
     }
 
-    /// Whether items may be left in the queues of its subscriptions, since too many octets waited: `deliver` is to be
-    /// called again once some were written.
+    /// Whether items, or MESSAGEs of one, may be left in the queues of its subscriptions, since too many octets waited:
+    /// `deliver` is to be called again once some were written.
     pub fn has_more(&self) -> bool
         ensures { result ≡ self.now.more }
     {
@@ -251,15 +276,16 @@ impl<C: BrokerCalls> Conversation<C> {
     }
 
     /// Takes a piece that came, and does what each frame that it ends asks for. Once it leaves, the rest is dropped;
-    /// while a transaction waits for room, what is behind it is kept.
+    /// while a transaction waits for room, what is behind it is kept; and while an item is half out, so is all.
     pub fn hear(&mut self, calls: &mut C, piece: &[u8])
         ensures { (asked : List BrokerRow) × AsksInOrder C.called calls.old asked calls.new
-            × Hears piece.now self.old asked self.new }
+            × HearsOrKeeps piece.now self.old asked self.new }
     {
         if self.exit.is_some() {
             return;
         }
         match self.reader.feed(piece) {
+            Ok(()) if self.half => {}
             Ok(()) => self.hear_all(calls),
             Err(NoMemory) => self.fail(calls, ConversationFault::NoMemory, None),
         }
@@ -323,10 +349,13 @@ impl<C: BrokerCalls> Conversation<C> {
         ensures { (asked : List BrokerRow) × AsksInOrder C.called calls.old asked calls.new
             × TakesFrame frame self.old asked self.new }
     {
+        self.note_ignored(&frame);
         let frame = match classify(frame) {
             Ok(frame) => frame,
             Err((frame, fault)) => {
-                self.fail(calls, ConversationFault::from(fault), frame.receipt());
+                let fault = ConversationFault::from(fault);
+                let version = fault.says_version(Some(&frame));
+                self.fail_saying(calls, version, fault, frame.receipt());
                 return;
             }
         };
@@ -398,7 +427,7 @@ impl<C: BrokerCalls> Conversation<C> {
         ensures { (asked : List BrokerRow) × AsksInOrder C.called calls.old asked calls.new
             × Acts (record { action = actions.Commit txn; receipt = receipt }) self.old asked self.new }
     {
-        match calls.reserve(txn.topics().as_slice()) {
+        match calls.reserve(&txn) {
             Some(room) => {
                 let done = self.commit(calls, txn, room);
                 self.conclude(calls, done, false, &receipt);
@@ -498,13 +527,16 @@ impl<C: BrokerCalls> Conversation<C> {
         }
         match calls.subscribe(topic) {
             Ok(sub) => {
+                let parts = self.session.asks_parts(id.as_slice());
                 self.subs.push_reserved(OpenSub {
                     id,
+                    parts,
                     topic,
                     sub,
                     run: 0,
                     until_lag: self.capacity,
                     lagged: false,
+                    rest: None,
                 });
                 Ok(())
             }
@@ -570,22 +602,38 @@ impl<C: BrokerCalls> Conversation<C> {
         self.exit = Some(exit);
         self.held = None;
         self.more = false;
+        self.half = false;
         self.session.end();
         let subs = mem::replace(&mut self.subs, Vec::new(self.alloc));
         end_subs(self.alloc, calls, subs);
         give_up(calls, self.gate.take());
     }
 
-    /// Ends what is open, and then sends an ERROR, which is the last that is sent; out of memory it is left out.
+    /// Ends what is open, and then sends an ERROR, which is the last that is sent; out of memory it is left out. The
+    /// fault is none of a frame's.
     fn fail(&mut self, calls: &mut C, fault: ConversationFault, receipt: Option<&[u8]>)
         ensures fails { EndsByError fault (option_map (λ id. id.now) receipt.entry) self.old self.new }
+        ensures rows { AsksInOrder C.called calls.old (closing_rows self.old) calls.new }
+    {
+        self.fail_saying(calls, fault.says_version(None), fault, receipt);
+    }
+
+    /// The same, where the ERROR says which version is supported, or doesn't.
+    fn fail_saying(
+        &mut self,
+        calls: &mut C,
+        version: bool,
+        fault: ConversationFault,
+        receipt: Option<&[u8]>,
+    )
+        ensures fails { EndsSaying version fault (option_map (λ id. id.now) receipt.entry) self.old self.new }
         ensures rows { AsksInOrder C.called calls.old (closing_rows self.old) calls.new }
     {
         self.close(calls, Exit::Error(fault));
         let error = ServerFrame::Error {
             message: fault.title(),
             receipt,
-            version: fault.says_version(),
+            version,
         };
         match self.wire.put_frame(&error) {
             Ok(()) => {}
@@ -602,9 +650,9 @@ impl<C: BrokerCalls> Conversation<C> {
     }
 
     /// Takes what is there of each queue and sends it, while few octets wait; whether something came of it. It begins
-    /// behind the subscription where it stopped last, so that none waits for another for ever. A subscription that has
-    /// lagged ends the connection once all that it had accepted was taken, but not while a transaction waits for room:
-    /// then by a later call.
+    /// with the rest of an item that is half out, and else behind the subscription where it stopped last, so that none
+    /// waits for another for ever. A subscription that has lagged ends the connection once all that it had accepted was
+    /// taken, but not while a transaction waits for room: then by a later call.
     pub fn deliver(&mut self, calls: &mut C) -> bool
         ensures { (asked : List BrokerRow) × AsksInOrder C.called calls.old asked calls.new
             × DeliversRound self.old asked result self.new }
@@ -613,6 +661,7 @@ impl<C: BrokerCalls> Conversation<C> {
             return false;
         }
         let waits = self.held.is_some();
+        let writes_on = self.half && self.wire.may_take();
         let queues = self.subs.as_mut_slice();
         let (drained, next) = drain_queues(
             calls,
@@ -623,18 +672,13 @@ impl<C: BrokerCalls> Conversation<C> {
             waits,
         );
         self.next = next;
-        self.more = false;
-        match drained.end {
-            Taking::Emptied => drained.any,
-            Taking::Stopped => {
-                self.more = true;
-                drained.any
-            }
-            Taking::Failed(fault) => {
-                self.fail(calls, fault, None);
-                true
-            }
+        self.more = drained.end.is_stopped();
+        self.half = drained.end.is_halfway();
+        if let Taking::Failed(fault) = drained.end {
+            self.fail(calls, fault, None);
+            return true;
         }
+        drained.any || writes_on
     }
 }
 
@@ -651,129 +695,6 @@ fn next_without(next: usize, index: usize) -> usize
     ensures { result ≡ next_without index next }
 {
     if index < next { next - 1 } else { next }
-}
-
-/// At which of so many queues it begins: at the one that is next, or at the first where none has its index.
-fn begins_at(next: usize, count: usize) -> usize
-    ensures at { result ≡ begins_at next count }
-    ensures there { result ≤ count }
-{
-    if next < count { next } else { 0 }
-}
-
-/// Takes what is there of each queue, from the next one to the last, and then from the first to that one; and which
-/// is next later.
-fn drain_queues<C: BrokerCalls>(
-    calls: &mut C,
-    queues: &mut [OpenSub<C>],
-    next: usize,
-    wire: &mut Wire,
-    capacity: u64,
-    waits: bool,
-) -> (Drained, usize)
-    ensures { (asked : List BrokerRow) × AsksInOrder C.called calls.old asked calls.new
-        × DrainsQueues waits capacity next asked queues.old wire.old result.0.end queues.new wire.new result.1
-        × (result.0.any ≡ has_item asked) }
-{
-    let count = queues.len();
-    let first = begins_at(next, count);
-    let (front, back) = queues.split_at_mut(first);
-    let (drained, left) = drain_all(calls, back, wire, capacity, waits);
-    let Taking::Emptied = drained.end else {
-        let behind = count.saturating_sub(left);
-        return (drained, behind);
-    };
-    let (others, left) = drain_all(calls, front, wire, capacity, waits);
-    let later = first.saturating_sub(left);
-    let any = drained.any || others.any;
-    let end = others.end;
-    (Drained { any, end }, later)
-}
-
-/// Takes what is there of these queues, one after the other, up to the first that isn't emptied; and how many are left
-/// behind that one. A connection has 64 of them at most.
-fn drain_all<C: BrokerCalls>(
-    calls: &mut C,
-    queues: &mut [OpenSub<C>],
-    wire: &mut Wire,
-    capacity: u64,
-    waits: bool,
-) -> (Drained, usize)
-    ensures { (asked : List BrokerRow) × AsksInOrder C.called calls.old asked calls.new
-        × DrainsAll waits capacity asked queues.old wire.old result.0.end queues.new wire.new result.1
-        × (result.0.any ≡ has_item asked) }
-{
-    let mut any = false;
-    let mut left = queues.len();
-    for queue in queues.iter_mut() {
-        left = left.saturating_sub(1);
-        let drained = drain_queue(calls, queue, wire, capacity, waits);
-        any = any || drained.any;
-        let Taking::Emptied = drained.end else {
-            let end = drained.end;
-            return (Drained { any, end }, left);
-        };
-    }
-    let end = Taking::Emptied;
-    (Drained { any, end }, left)
-}
-
-/// Takes what is there of a subscription's queue and writes it, while few octets wait. Where as many items were taken
-/// as a queue holds, the broker is asked whether it has lagged; then what is left is taken, and that is the fault.
-fn drain_queue<C: BrokerCalls>(
-    calls: &mut C,
-    queue: &mut OpenSub<C>,
-    wire: &mut Wire,
-    capacity: u64,
-    waits: bool,
-) -> Drained
-    ensures { (asked : List BrokerRow) × AsksInOrder C.called calls.old asked calls.new
-        × Drains waits capacity 0 asked queue.old wire.old result.end queue.new wire.new
-        × (result.any ≡ has_item asked) }
-{
-    let mut any = false;
-    for _call in 0..MOST_CALLS {
-        if !wire.may_take() {
-            break;
-        }
-        match calls.take(&mut queue.sub) {
-            Some(item) => {
-                any = true;
-                queue.run = queue.run.saturating_add(1);
-                queue.until_lag = queue.until_lag.saturating_sub(1);
-                if wire.put_item(queue.id.as_slice(), &item).is_err() {
-                    let end = Taking::Failed(ConversationFault::NoReply);
-                    return Drained { any, end };
-                }
-            }
-            None if queue.lagged => {
-                let end = end_of_lag(queue.topic, queue.run, waits);
-                return Drained { any, end };
-            }
-            None if queue.until_lag == 0 && calls.has_lagged(&queue.sub) => {
-                queue.lagged = true;
-            }
-            None => {
-                queue.run = 0;
-                queue.until_lag = capacity;
-                let end = Taking::Emptied;
-                return Drained { any, end };
-            }
-        }
-    }
-    let end = Taking::Stopped;
-    Drained { any, end }
-}
-
-/// What a queue at this topic comes to that has lagged, once it is empty and so many items were taken: a fault, but
-/// while a transaction waits for room nothing yet.
-fn end_of_lag(topic: Topic, items: u64, waits: bool) -> Taking
-    ensures { TellsLag waits result }
-{
-    if waits {
-        return Taking::Emptied;
-    }
-    Taking::Failed(ConversationFault::Lagged { topic, items })
 }
 
 /// Gives the gate back, if there is one.

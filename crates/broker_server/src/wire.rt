@@ -1,19 +1,18 @@
 //! What a connection has to write.
 
-ghost use Rattle.std.specs.Prelude.{◌≡◌, ◌++◌, ◌≤◌, ◌<◌, ◌↔◌, [], IsTrue, length, drop, OnOk, OnErr};
-ghost use Rattle.std.specs.List.{flat_map};
+ghost use Rattle.std.specs.Prelude.{◌≡◌, ◌++◌, ◌≤◌, ◌<◌, ◌↔◌, [], IsTrue, length, drop, nat_lt, slice_get, IfSome, OnOk, OnErr};
 ghost use Rattle.stomp_frame.specs.ServerFrames.{raw_of_server};
-ghost use Rattle.delivery.specs.Core.Output.{item_messages};
+ghost use Rattle.delivery.specs.Core.Output.{messages_for};
 ghost use Rattle.broker_server.specs.Delivering.{full_wire};
 ghost use Rattle.broker_server.specs.Wires.{spelling_with_eol};
 
-use crate::writing::{write_item, write_with_eol};
+use crate::writing::{write_message, write_with_eol};
 use mcast_txn::Released;
 use std::alloc::Global;
 use std::marker::Model;
 use stomp_frame::{NoMemory, Octets, ServerFrame};
 
-/// As many octets as may wait before no further item is taken. As many that were written may lie before those that
+/// As many octets as may wait before no further item is taken, and no further MESSAGE of one put. As many that were written may lie before those that
 /// wait, and as many may have been in the room that an empty wire keeps (our choice).
 const FULL: usize = 65_536;
 
@@ -78,15 +77,22 @@ impl Wire {
         write_with_eol(frame, &mut self.octets)
     }
 
-    /// Puts the MESSAGEs of an item, for the subscription of this id, each with its EOL, behind the octets that wait.
-    /// After `NoMemory` nothing has changed.
-    pub fn put_item(&mut self, id: &[u8], item: &Released) -> Result<(), NoMemory>
-        ensures ok { OnOk result
-            (self.new ≡ self.old ++ flat_map spelling_with_eol (item_messages id.now item.now)) }
+    /// Puts the MESSAGE of an item's SEND, by its index, behind the octets that wait, with its EOL: for the subscription
+    /// of this id, which asked for parts or didn't. After `NoMemory` nothing has changed.
+    pub fn put_message(
+        &mut self,
+        id: &[u8],
+        parts: bool,
+        item: &Released,
+        at: usize,
+    ) -> Result<(), NoMemory>
+        requires { at < length item.now.sends }
+        ensures ok { OnOk result (IfSome (slice_get (messages_for parts id.now item.now) at)
+            (λ f. self.new ≡ self.old ++ spelling_with_eol f)) }
         ensures err { OnErr result (self.new ≡ self.old) }
     {
         self.tidy();
-        write_item(id, item, &mut self.octets)
+        write_message(id, parts, item, at, &mut self.octets)
     }
 
     /// The octets that wait.
@@ -129,9 +135,9 @@ impl Wire {
         self.written = 0;
     }
 
-    /// Whether a further item may be taken: fewer than 65,536 octets wait.
+    /// Whether a further item may be taken, or a further MESSAGE of one put: fewer than 65,536 octets wait.
     pub fn may_take(&self) -> bool
-        ensures { IsTrue result ↔ (length self.now < full_wire) }
+        ensures { result ≡ nat_lt (length self.now) full_wire }
     {
         self.len() < FULL
     }

@@ -7,6 +7,7 @@ pub mod ClaimRows
 pub mod InUseRows
 pub mod MoreRows
 pub mod OctetsRow
+pub mod PartRows
 pub mod ToldEnds
 pub mod QueueOfReport
 pub mod DeliveredRow
@@ -16,6 +17,7 @@ pub mod WholeRow
 pub mod SteppedRows
 -- The delivery of every run.
 pub mod Said
+pub mod SenderPlaces
 pub mod ClaimsStand
 pub mod Speaking
 pub mod ByRun
@@ -27,6 +29,8 @@ pub mod AccountOfRun
 pub mod SaidParts
 pub mod AtNext
 pub mod LagsAsTold
+pub mod Moments
+pub mod BoundedAtEach
 pub mod Tells
 pub mod ToldSettled
 pub mod ToldOfSteps

@@ -8,6 +8,7 @@ pub mod FloorsAreStamps
 pub mod HandedIsPrefix
 pub mod LagsEndBeforeRow
 pub mod LogIsOfAnswers
+pub mod LogsGrow
 pub mod MoreRows
 pub mod MovesAreAnswered
 pub mod NeverRefused

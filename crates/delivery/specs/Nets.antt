@@ -5,17 +5,17 @@ use Rattle.delivery.specs.declared.kept.Kept.{Kept}
 use Rattle.delivery.specs.declared.outcome.Outcome.{Outcome}
 use Rattle.delivery.specs.Topics.{TopicList}
 use Rattle.delivery.specs.Machine.Moves.{Answer}
-use Rattle.delivery.specs.Core.Steps.{CoreStep, kept_of}
+use Rattle.delivery.specs.Core.Steps.{CoreStep, kept_of, AreReadings}
 use Rattle.delivery.specs.Core.Account.{account_of}
-use Rattle.delivery.specs.Core.Told.{Told, told_of}
+use Rattle.delivery.specs.Core.Told.{told_of}
 use Rattle.delivery.specs.Core.State.{Core, core_of}
 use Rattle.delivery.specs.Core.Outcomes.{IsCoreRun, MayStep}
 use Rattle.delivery.specs.Core.Reports.{Report, report_of}
-use Rattle.delivery.specs.Core.Delivery.{Delivers, IsReadAndWritten, kept_run}
+use Rattle.delivery.specs.Core.Delivery.{Delivers, IsWritten, kept_run}
 
 -- The topics that it began with, the capacity of its queues, its kept run, the oldest event first, its steps,
 -- and how many more events it has room to keep. The steps are the events of the kept run, the newest first,
--- each with what it read and its outcome: `IsRunOfCore` says which they are.
+-- each with what it read and its outcome: `IsDelivered` says which they are.
 pub record KeptRun : Type 0 where
   pub topics : TopicList
   pub capacity : ℕ
@@ -56,27 +56,25 @@ pub record HasAnswered (event : Event) (outcome : Outcome) (old new : KeptRun) :
   pub is_new : new.steps ≡ step ∷ old.steps
   pub may : MayStep (core_of_net old) step
 
--- The net is a run of the core, and the report is that core's.
+-- The report is that of the net's core, which could make each of its steps.
 -- as_many: each topic has a name and an opening clock.
--- are_kept: the steps are those of the kept run.
--- is_run: each of them was one that a core of these topics and this capacity could make.
+-- is_run: each step was one that a core of these topics and this capacity could make.
 pub record IsRunOfCore (net : KeptRun) (r : Report) : Type 0 where
   pub as_many : length net.topics.clocks ≡ length net.topics.names
-  pub are_kept : net.kept ≡ kept_run net.steps
   pub is_run : IsCoreRun net.topics net.capacity net.steps
   pub is_report : r ≡ report_of (core_of_net net)
 
--- what a net's steps tell
-abbrev pub told_of_net : KeptRun → List Told
-told_of_net net = told_of net.topics.names net.steps
-
 -- What the net reports is delivered.
+-- kept: what it kept is the run of its steps.
+-- read: what was read of each connection are the first frames of its octets.
 -- delivered: commits, logs, spans and queues are those that its steps tell.
--- written: what was read and written of each connection is what the steps say.
+-- written: what was written to each connection is what the steps say.
 -- answered: the steps are a run of the core, and the report is its core's.
 pub record IsDelivered (net : KeptRun) (r : Report) : Type 0 where
-  pub delivered : Delivers net.capacity (told_of_net net) r
-  pub written : IsReadAndWritten net.topics.names net.steps r
+  pub kept : net.kept ≡ kept_run net.steps
+  pub read : AreReadings net.steps
+  pub delivered : Delivers net.capacity (told_of net.topics.names net.steps) r
+  pub written : IsWritten net.topics.names net.steps r
   pub answered : IsRunOfCore net r
 
 -- the report of the net's core is delivered

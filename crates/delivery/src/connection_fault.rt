@@ -1,11 +1,12 @@
 //! Why a connection ends by an ERROR.
 
 ghost use Rattle.std.specs.Prelude.{◌≡◌};
-ghost use Rattle.delivery.specs.Core.Output.{says_version};
+ghost use Rattle.std.specs.Option.{option_map};
+ghost use Rattle.delivery.specs.Core.Output.{offers_ours, says_version};
 ghost use Rattle.delivery.specs.Faults.{connection_number, connection_title};
 
-use stomp_frame::{CaseFault, Check, RequiredHeader};
-use stomp_session::SessionFault;
+use stomp_frame::{CaseFault, Check, RawFrame, RequiredHeader};
+use stomp_session::{SessionFault, has_version};
 use thiserror::Error;
 
 /// Why a connection ends by an ERROR. That of a transaction which a topic refused isn't among these: its outcome is the
@@ -34,6 +35,16 @@ pub enum ConnectionFault {
     /// 72: the reader found no memory, so no frame was read.
     #[error("72 NoMemory: out of memory before a frame was read; connect again")]
     ReaderNoMemory,
+}
+
+/// Whether the client of this CONNECT offers our version.
+fn offers_ours(frame: &RawFrame) -> bool
+    ensures { result ≡ offers_ours frame.now }
+{
+    match frame.headers.first(b"accept-version") {
+        Some(versions) => has_version(b"1.2", versions),
+        None => false,
+    }
 }
 
 impl ConnectionFault {
@@ -68,15 +79,18 @@ impl ConnectionFault {
     }
 
     /// Whether its ERROR says which version is supported: where the client's have none in common with ours (STOMP 1.2,
-    /// "Protocol Negotiation"), also where a CONNECT lacks what those since 1.1 have.
-    pub fn says_version(self) -> bool
-        ensures { result ≡ says_version self }
+    /// "Protocol Negotiation"), also where a CONNECT lacks what those since 1.1 have. It is of this frame, if one was
+    /// read.
+    pub fn says_version(self, read: Option<&RawFrame>) -> bool
+        ensures { result ≡ says_version (option_map (λ f. f.now) read.entry) self }
     {
         match self {
             ConnectionFault::Session(SessionFault::NoVersion) => true,
-            ConnectionFault::Frame(CaseFault::Missing(header)) => {
-                matches!(header, RequiredHeader::AcceptVersion | RequiredHeader::Host)
-            }
+            ConnectionFault::Frame(CaseFault::Missing(RequiredHeader::AcceptVersion)) => true,
+            ConnectionFault::Frame(CaseFault::Missing(RequiredHeader::Host)) => match read {
+                Some(frame) => !offers_ours(frame),
+                None => false,
+            },
             _ => false,
         }
     }

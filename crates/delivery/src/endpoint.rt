@@ -5,11 +5,11 @@ ghost use Rattle.std.specs.List.{flat_map, position};
 ghost use Rattle.std.specs.Option.{is_some};
 ghost use Rattle.stomp_frame.specs.ServerFrames.{raw_of_server, error_frame};
 ghost use Rattle.stomp_frame.specs.Writing.{spelling_of};
-ghost use Rattle.delivery.specs.Core.Output.{item_messages};
+ghost use Rattle.delivery.specs.Core.Output.{messages_for};
 ghost use Rattle.delivery.specs.Inner.Leaving.{has_parting, gone_endpoint};
 ghost use Rattle.delivery.specs.Inner.Nexts.{JudgesAt, staged_endpoint};
 ghost use Rattle.delivery.specs.Inner.Senders.{receipt_in, asked_endpoint, confirmed_endpoint_if, reads_frames, refused_endpoint};
-ghost use Rattle.delivery.specs.Inner.Subscriptions.{shorter_endpoint, longer_endpoint};
+ghost use Rattle.delivery.specs.Inner.Subscriptions.{shorter_endpoint, longer_endpoint, stage_parts};
 ghost use Rattle.delivery.specs.Inner.View.{new_endpoint, fed_endpoint, written_endpoint};
 
 use crate::connection_fault::ConnectionFault;
@@ -136,14 +136,31 @@ impl Endpoint {
         self.write(&ServerFrame::Receipt { id: id.as_slice() })
     }
 
-    /// Writes an item's MESSAGEs, for the subscription of this id, to its octets out. After `NoMemory` it is what it
-    /// was.
-    pub(crate) fn write_item(&mut self, id: &[u8], item: &Released) -> Result<(), NoMemory>
+    /// Writes an item's MESSAGEs, for the subscription of this id, which asked for parts or didn't, to its octets out.
+    /// After `NoMemory` it is what it was.
+    pub(crate) fn write_item(
+        &mut self,
+        parts: bool,
+        id: &[u8],
+        item: &Released,
+    ) -> Result<(), NoMemory>
         ensures ok { OnOk result
-            (self.new ≡ written_endpoint (flat_map spelling_of (item_messages id.now item.now)) self.old) }
+            (self.new ≡ written_endpoint (flat_map spelling_of (messages_for parts id.now item.now)) self.old) }
         ensures err { OnErr result (self.new ≡ self.old) }
     {
-        write_messages(id, item, &mut self.output)
+        write_messages(parts, id, item, &mut self.output)
+    }
+
+    /// Whether the SUBSCRIBE of the open subscription of this id asked for parts; none of an endpoint that isn't open
+    /// did.
+    pub(crate) fn asks_parts(&self, id: &[u8]) -> bool
+        ensures { result ≡ stage_parts id.now self.now.stage }
+    {
+        match &self.stage {
+            Stage::Open(open) => open.session.asks_parts(id),
+            Stage::Leaving(_) => false,
+            Stage::Gone => false,
+        }
     }
 
     /// Keeps the receipt that the frame of its transaction asked for, if it is open.

@@ -2,8 +2,10 @@
 
 ghost use Rattle.std.specs.Prelude.{◌≡◌, ◌≤◌, ◌<◌, ◌+◌, ◌-◌, [], ◌∷◌, ◌++◌, length, slice_get, IfOk, OnOk, OnErr};
 ghost use Rattle.std.specs.Option.{option_map};
-ghost use Rattle.delivery.specs.Nets.{KeptRun, max_capacity, told_of_net, HasTaken, HasAnswered, IsRunOfCore, HasReport};
-ghost use Rattle.delivery.specs.Core.Delivery.{Delivers, IsReadAndWritten};
+ghost use Rattle.delivery.specs.Nets.{KeptRun, max_capacity, HasTaken, HasAnswered, IsRunOfCore, HasReport};
+ghost use Rattle.delivery.specs.Core.Steps.{AreReadings};
+ghost use Rattle.delivery.specs.Core.Told.{told_of};
+ghost use Rattle.delivery.specs.Core.Delivery.{Delivers, IsWritten, kept_run};
 ghost use Rattle.delivery.specs.Traces.{IsTraced};
 
 use crate::event::Event;
@@ -117,12 +119,15 @@ impl Net {
         self.kept.get(i)
     }
 
-    /// What came of all events so far: what was delivered, by what its steps tell; what was read and written of
-    /// each connection; and that the steps are a run of the core, whose report this is. A reader may stop after the
-    /// first clause. It takes no memory, and nothing is copied.
+    /// What came of all events so far. The first three clauses say what was delivered: the kept run is that of the
+    /// steps; what was read of each connection are the first frames of its octets; and the report is what the steps
+    /// tell to deliver. A reader may stop after them. Then what was written to each connection, and that the steps
+    /// are a run of the core, whose report this is. It takes no memory, and nothing is copied.
     pub fn report(&self) -> Report<'_>
-        ensures delivered { Delivers self.now.capacity (told_of_net self.now) result }
-        ensures written { IsReadAndWritten self.now.topics.names self.now.steps result }
+        ensures kept { self.now.kept ≡ kept_run self.now.steps }
+        ensures read { AreReadings self.now.steps }
+        ensures delivered { Delivers self.now.capacity (told_of self.now.topics.names self.now.steps) result }
+        ensures written { IsWritten self.now.topics.names self.now.steps result }
         ensures answered { IsRunOfCore self.now result }
     {
         Report { state: &self.state }

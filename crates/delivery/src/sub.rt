@@ -6,12 +6,13 @@ use std::marker::Model;
 use stomp_frame::Octets;
 use sub_queue::VecOutlet;
 
-/// A subscription: its connection, its id there, its topic, the stamp after which its span begins, and what it left if
-/// it was closed. Until then its queue is at its topic.
+/// A subscription: its connection, its id there, whether it asked for parts, its topic, the stamp after which its span
+/// begins, and what it left if it was closed. Until then its queue is at its topic.
 #[derive(Drop)]
 pub(crate) struct Sub {
     pub(crate) connection: u64,
     pub(crate) id: Octets,
+    pub(crate) parts: bool,
     pub(crate) topic: Topic,
     pub(crate) from: Stamp,
     pub(crate) left: Option<Ended<VecOutlet>>,
@@ -26,6 +27,7 @@ impl Model for Sub {
     ghost view = { λ s. record {
       connection = s.connection;
       id = s.id;
+      parts = s.parts;
       topic = s.topic;
       from = s.from;
       left = option_map left_of s.left;

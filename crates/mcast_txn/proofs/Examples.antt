@@ -1,5 +1,5 @@
 -- Worked rows: each is computed from the definitions.
-use Rattle.std.specs.Prelude.{◌≡◌, ℕ, true, false, List, [], ◌∷◌, map, Some, None, Ok, Err}
+use Rattle.std.specs.Prelude.{◌≡◌, ℕ, true, false, List, [], ◌∷◌, map, replicate, Some, None, Ok, Err}
 use Rattle.std.proofs.Common.{refl}
 use Rattle.mcast_txn.specs.declared.fault.BallotFault.TheVariants.{NotNamed, Twice}
 use Rattle.mcast_txn.specs.declared.id.Topic.{Topic}
@@ -16,7 +16,7 @@ use Rattle.mcast_txn.specs.Slots.{free_slots, held_at, slot_at, with_slot}
 use Rattle.mcast_txn.specs.Span.{in_span}
 use Rattle.mcast_txn.specs.Stamp.{greatest, stamp_lt, zero_stamp}
 use Rattle.mcast_txn.specs.TopicSet.{names}
-use Rattle.mcast_txn.specs.Transaction.{part_of, topics_of}
+use Rattle.mcast_txn.specs.Transaction.{octets_at, octets_to, octets_with, part_of, topics_of}
 
 abbrev topic : ℕ → Topic
 topic n = record { 0 = n }
@@ -78,6 +78,26 @@ part_keeps_bodies = refl
 
 no_part_elsewhere : part_of (topic 1) sends ≡ []
 no_part_elsewhere = refl
+
+-- ---- octets
+
+-- "hello" with receipt:7
+hello_with_receipt : octets_with ((114 ∷ 101 ∷ 99 ∷ 101 ∷ 105 ∷ 112 ∷ 116 ∷ [], 55 ∷ []) ∷ []) (104 ∷ 101 ∷ 108 ∷ 108 ∷ 111 ∷ []) ≡ 13
+hello_with_receipt = refl
+
+-- SENDs of 3, 5 and 7 octets
+abbrev sized : List SentMessage
+sized = record { topic = topic 2; headers = []; body = replicate 3 65 } ∷ record { topic = topic 0; headers = []; body = replicate 5 65 }
+    ∷ record { topic = topic 2; headers = (65 ∷ [], 66 ∷ []) ∷ []; body = replicate 5 65 } ∷ []
+
+octets_of_both : octets_at (topic 2) sized ≡ 10
+octets_of_both = refl
+
+octets_elsewhere : octets_at (topic 1) sized ≡ 0
+octets_elsewhere = refl
+
+octets_to_another : octets_to (topic 1) (record { topic = topic 2; headers = []; body = replicate 3 65 }) ≡ 0
+octets_to_another = refl
 
 names_topic_0 : names (topic 0) (topics_of sends) ≡ true
 names_topic_0 = refl

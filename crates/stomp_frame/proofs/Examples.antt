@@ -17,6 +17,7 @@ use Rattle.stomp_frame.specs.Grammar.{Stream}
 use Rattle.stomp_frame.specs.Checks.{IsOpen, IsAtFault}
 use Rattle.stomp_frame.specs.Cases.{case_fault}
 use Rattle.stomp_frame.specs.ContentLength.{length_of}
+use Rattle.stomp_frame.specs.ServerFrames.{message_frame, message_id, part_message_frame}
 use Rattle.stomp_frame.specs.Inner.Parser.{Open, line_at, after_eols, checked, command_of, field_of, header_of, headers_at, counted_at, uncounted_at, body_at, frame_at}
 use Rattle.stomp_frame.proofs.Digits.{is_ascii, ascii_text}
 use Rattle.stomp_frame.proofs.Whole.{begins, leaves, opens}
@@ -152,3 +153,27 @@ cases_in_order = (refl, refl, refl, refl, refl)
 -- leading zeros count as digits, and more than ten aren't read
 pub lengths : (length_of (codes "007") ≡ Some 7) × (length_of (codes "00000000001") ≡ None) × (length_of [] ≡ None)
 lengths = (refl, refl, refl)
+
+-- ---- which of its transaction's MESSAGEs one is
+
+-- The second of three says so behind its content-length, and its SEND's own `part` isn't passed on.
+pub second_of_three :
+    part_message_frame 2 3 (codes "s") (message_id 7 0 4) ((codes "destination", codes "A") ∷ (codes "part", codes "1/1") ∷ (codes "k", codes "v") ∷ []) (codes "hi")
+    ≡ record {
+      command = commands.Message;
+      headers = (codes "subscription", codes "s")
+          ∷ (codes "message-id", codes "7.0.4")
+          ∷ (codes "destination", codes "A")
+          ∷ (codes "content-length", codes "2")
+          ∷ (codes "part", codes "2/3")
+          ∷ (codes "k", codes "v")
+          ∷ [];
+      body = codes "hi";
+    }
+second_of_three = refl
+
+-- without parts it has no such header, and the SEND's own is passed on
+pub without_parts :
+    (message_frame (codes "s") (message_id 7 0 4) ((codes "destination", codes "A") ∷ (codes "part", codes "1/1") ∷ (codes "k", codes "v") ∷ []) (codes "hi")).headers
+    ≡ (codes "subscription", codes "s") ∷ (codes "message-id", codes "7.0.4") ∷ (codes "destination", codes "A") ∷ (codes "content-length", codes "2") ∷ (codes "part", codes "1/1") ∷ (codes "k", codes "v") ∷ []
+without_parts = refl

@@ -10,15 +10,15 @@ use Rattle.std.proofs.lemmas.List.{append-nil}
 use Rattle.std.proofs.lemmas.List.Folds.{list_any-append}
 use Rattle.std.proofs.lemmas.Slice.Eq.{bytes_eq-Decides}
 use Rattle.stomp_frame.specs.Headers.{Header, first_of}
-use Rattle.stomp_frame.specs.ServerFrames.{first_entries, withheld}
+use Rattle.stomp_frame.specs.ServerFrames.{first_entries}
 
 -- the name is among these
 abbrev pub has : List (List ℕ) → List ℕ → Bool
 has names q = list_any (λ n. bytes_eq q n) names
 
--- the names of headers, and those that are withheld
-abbrev pub seen : List Header → List (List ℕ)
-seen headers = map (λ h. h.0) headers ++ withheld
+-- the names of headers, and these, which are withheld
+abbrev pub seen : List (List ℕ) → List Header → List (List ℕ)
+seen kept headers = map (λ h. h.0) headers ++ kept
 
 -- the test that two texts are equal answers the same with the two exchanged
 pub either_way : (xs ys : List ℕ) → bytes_eq xs ys ≡ bytes_eq ys xs
@@ -51,8 +51,8 @@ first_has [] q = refl
 first_has (h ∷ hs) q = is_some_cond (bytes_eq h.0 q) h (find (λ g. bytes_eq g.0 q) hs) ∙ ap (λ b. b || is_some (first_of q hs)) (either_way h.0 q) ∙ ap (λ b. bytes_eq q h.0 || b) (first_has hs q)
 
 -- what tells whether a header is passed over: the names withheld, and then the first header of that name
-pub seen_is : (hs : List Header) (q : List ℕ) (kept found : Bool) → kept ≡ has withheld q → found ≡ is_some (first_of q hs) → (kept || found) ≡ has (seen hs) q
-seen_is hs q kept found k f = or_swap kept found ∙ ap (λ b. b || kept) (f ∙ first_has hs q) ∙ ap (λ b. has (map (λ h. h.0) hs) q || b) k ∙ sym (list_any-append (λ n. bytes_eq q n) (map (λ h. h.0) hs) withheld)
+pub seen_is : (kept : List (List ℕ)) (hs : List Header) (q : List ℕ) (own found : Bool) → own ≡ has kept q → found ≡ is_some (first_of q hs) → (own || found) ≡ has (seen kept hs) q
+seen_is kept hs q own found k f = or_swap own found ∙ ap (λ b. b || own) (f ∙ first_has hs q) ∙ ap (λ b. has (map (λ h. h.0) hs) q || b) k ∙ sym (list_any-append (λ n. bytes_eq q n) (map (λ h. h.0) hs) kept)
 
 -- names that tell the same give the same first entries
 pub same_names : (hs : List Header) (names others : List (List ℕ)) → ((q : List ℕ) → has names q ≡ has others q) → first_entries names hs ≡ first_entries others hs
@@ -62,9 +62,9 @@ same_names (h ∷ hs) names others e =
     (ap (λ (l : List Header). h ∷ l) (same_names hs (h.0 ∷ names) (h.0 ∷ others) (λ q. ap (λ b. bytes_eq q h.0 || b) (e q))))
 
 -- one more header after the others puts its name among those that were seen
-pub seen_more : (hs : List Header) (h : Header) (q : List ℕ) → has (seen (hs ++ h ∷ [])) q ≡ has (h.0 ∷ seen hs) q
-seen_more [] h q = refl
-seen_more (g ∷ hs) h q = ap (λ b. bytes_eq q g.0 || b) (seen_more hs h q) ∙ or_third (bytes_eq q g.0) (bytes_eq q h.0) (has (seen hs) q)
+pub seen_more : (kept : List (List ℕ)) (hs : List Header) (h : Header) (q : List ℕ) → has (seen kept (hs ++ h ∷ [])) q ≡ has (h.0 ∷ seen kept hs) q
+seen_more kept [] h q = refl
+seen_more kept (g ∷ hs) h q = ap (λ b. bytes_eq q g.0 || b) (seen_more kept hs h q) ∙ or_third (bytes_eq q g.0) (bytes_eq q h.0) (has (seen kept hs) q)
 
 -- the headers from an index on are the one at it, and those from the next on
 pub rest_at : (hs : List Header) (i : ℕ) (h : Header) → slice_get hs i ≡ Some h → drop i hs ≡ h ∷ drop (i + 1) hs
@@ -77,17 +77,17 @@ pub at_cons : (hs rest : List Header) (h : Header) (names : List (List ℕ)) →
 at_cons hs rest h names e = ap (first_entries names) e
 
 -- at a header that is passed over nothing is put
-pub passed_over : (out whole sent : List Header) (i : ℕ) (h : Header) → slice_get sent i ≡ Some h → has (seen out) h.0 ≡ true → out ++ first_entries (seen out) (drop i sent) ≡ whole → out ++ first_entries (seen out) (drop (i + 1) sent) ≡ whole
-passed_over out whole sent i h at found e =
-    let one : first_entries (seen out) (drop i sent) ≡ first_entries (seen out) (drop (i + 1) sent) = at_cons (drop i sent) (drop (i + 1) sent) h (seen out) (rest_at sent i h at) ∙ rw found refl in
+pub passed_over : (kept : List (List ℕ)) (out whole sent : List Header) (i : ℕ) (h : Header) → slice_get sent i ≡ Some h → has (seen kept out) h.0 ≡ true → out ++ first_entries (seen kept out) (drop i sent) ≡ whole → out ++ first_entries (seen kept out) (drop (i + 1) sent) ≡ whole
+passed_over kept out whole sent i h at found e =
+    let one : first_entries (seen kept out) (drop i sent) ≡ first_entries (seen kept out) (drop (i + 1) sent) = at_cons (drop i sent) (drop (i + 1) sent) h (seen kept out) (rest_at sent i h at) ∙ rw found refl in
     ap (λ (l : List Header). out ++ l) (sym one) ∙ e
 
 -- at any other it is put, and its name was then seen
-pub put_next : (out whole sent : List Header) (i : ℕ) (h : Header) → slice_get sent i ≡ Some h → has (seen out) h.0 ≡ false → out ++ first_entries (seen out) (drop i sent) ≡ whole → (out ++ h ∷ []) ++ first_entries (seen (out ++ h ∷ [])) (drop (i + 1) sent) ≡ whole
-put_next out whole sent i h at absent e =
-    let one : first_entries (seen out) (drop i sent) ≡ h ∷ first_entries (h.0 ∷ seen out) (drop (i + 1) sent) = at_cons (drop i sent) (drop (i + 1) sent) h (seen out) (rest_at sent i h at) ∙ rw absent refl in
-    let names = same_names (drop (i + 1) sent) (seen (out ++ h ∷ [])) (h.0 ∷ seen out) (seen_more out h) in
-    append_assoc out (h ∷ []) (first_entries (seen (out ++ h ∷ [])) (drop (i + 1) sent)) ∙ ap (λ (l : List Header). out ++ h ∷ l) names ∙ ap (λ (l : List Header). out ++ l) (sym one) ∙ e
+pub put_next : (kept : List (List ℕ)) (out whole sent : List Header) (i : ℕ) (h : Header) → slice_get sent i ≡ Some h → has (seen kept out) h.0 ≡ false → out ++ first_entries (seen kept out) (drop i sent) ≡ whole → (out ++ h ∷ []) ++ first_entries (seen kept (out ++ h ∷ [])) (drop (i + 1) sent) ≡ whole
+put_next kept out whole sent i h at absent e =
+    let one : first_entries (seen kept out) (drop i sent) ≡ h ∷ first_entries (h.0 ∷ seen kept out) (drop (i + 1) sent) = at_cons (drop i sent) (drop (i + 1) sent) h (seen kept out) (rest_at sent i h at) ∙ rw absent refl in
+    let names = same_names (drop (i + 1) sent) (seen kept (out ++ h ∷ [])) (h.0 ∷ seen kept out) (seen_more kept out h) in
+    append_assoc out (h ∷ []) (first_entries (seen kept (out ++ h ∷ [])) (drop (i + 1) sent)) ∙ ap (λ (l : List Header). out ++ h ∷ l) names ∙ ap (λ (l : List Header). out ++ l) (sym one) ∙ e
 
 adds_none : (a b : Bool) → (a ≡ true → b ≡ true) → (a || b) ≡ b
 adds_none true b f = sym (f refl)
@@ -98,14 +98,14 @@ pub again : (names : List (List ℕ)) (name q : List ℕ) → has names name ≡
 again names name q e = adds_none (bytes_eq q name) (has names q) (λ t. subst (λ (n : List ℕ). has names n ≡ true) (sym ((bytes_eq-Decides q name).0 t)) e)
 
 -- headers whose names are all withheld add nothing to them
-only_kept : (hs : List Header) (q : List ℕ) → AllByRecursion (λ h. IsTrue (has withheld h.0)) hs → has (seen hs) q ≡ has withheld q
-only_kept [] q w = refl
-only_kept (h ∷ hs) q w = ap (λ b. bytes_eq q h.0 || b) (only_kept hs q w.1) ∙ adds_none (bytes_eq q h.0) (has withheld q) (λ e. subst (λ (t : List ℕ). has withheld t ≡ true) (sym ((bytes_eq-Decides q h.0).0 e)) w.0)
+only_kept : (kept : List (List ℕ)) (hs : List Header) (q : List ℕ) → AllByRecursion (λ h. IsTrue (has kept h.0)) hs → has (seen kept hs) q ≡ has kept q
+only_kept kept [] q w = refl
+only_kept kept (h ∷ hs) q w = ap (λ b. bytes_eq q h.0 || b) (only_kept kept hs q w.1) ∙ adds_none (bytes_eq q h.0) (has kept q) (λ e. subst (λ (t : List ℕ). has kept t ≡ true) (sym ((bytes_eq-Decides q h.0).0 e)) w.0)
 
 -- where only headers that are withheld were put, all first entries are left to put
-pub none_seen : (out sent : List Header) → AllByRecursion (λ h. IsTrue (has withheld h.0)) out → out ++ first_entries (seen out) (drop 0 sent) ≡ out ++ first_entries withheld sent
-none_seen out sent w = ap (λ (l : List Header). out ++ l) (same_names sent (seen out) withheld (λ q. only_kept out q w))
+pub none_seen : (kept : List (List ℕ)) (out sent : List Header) → AllByRecursion (λ h. IsTrue (has kept h.0)) out → out ++ first_entries (seen kept out) (drop 0 sent) ≡ out ++ first_entries kept sent
+none_seen kept out sent w = ap (λ (l : List Header). out ++ l) (same_names sent (seen kept out) kept (λ q. only_kept kept out q w))
 
 -- once all were seen nothing is left to put
-pub all_seen : (out whole sent : List Header) (i : ℕ) → drop i sent ≡ [] → out ++ first_entries (seen out) (drop i sent) ≡ whole → out ≡ whole
-all_seen out whole sent i none e = sym (ap (λ (l : List Header). out ++ first_entries (seen out) l) none ∙ append-nil out) ∙ e
+pub all_seen : (kept : List (List ℕ)) (out whole sent : List Header) (i : ℕ) → drop i sent ≡ [] → out ++ first_entries (seen kept out) (drop i sent) ≡ whole → out ≡ whole
+all_seen kept out whole sent i none e = sym (ap (λ (l : List Header). out ++ first_entries (seen kept out) l) none ∙ append-nil out) ∙ e

@@ -8,8 +8,8 @@ use Rattle.std.proofs.lemmas.List.Folds.{list_any-append}
 use Rattle.stomp_escape.specs.Escape.{escaped}
 use Rattle.stomp_frame.specs.Headers.{Header}
 use Rattle.stomp_frame.specs.Writing.{header_line, header_lines, spelling_of, Extends}
-use Rattle.stomp_frame.specs.ServerFrames.{optional_header, first_entries, withheld, message_id, receipt_frame, error_frame}
-use Rattle.stomp_frame.proofs.Digits.{decimal_plain, id_plain}
+use Rattle.stomp_frame.specs.ServerFrames.{optional_header, first_entries, message_id, part_value, receipt_frame, error_frame}
+use Rattle.stomp_frame.proofs.Digits.{decimal_plain, id_plain, part_plain}
 use Rattle.stomp_frame.proofs.Names.{has, seen, either_way, or_swap, seen_more, rest_at, same_names, at_cons, again}
 use Rattle.stomp_frame.proofs.Written.{taken}
 
@@ -41,6 +41,15 @@ id_put old e n topic index ln lt li q =
     ∙ append_assoc (decimal n ++ codes ".") (decimal topic) (46 ∷ last) ∙ append_assoc (decimal n) (codes ".") later in
     q ∙ ap (λ (t : List ℕ). old ++ (codes "message-id:" ++ t)) (sym ended)
     ∙ ap (λ (t : List ℕ). old ++ (codes "message-id:" ++ (t ++ 10 ∷ []))) (sym (id_plain n topic index ln lt li))
+
+-- a header `part`, appended
+pub part_put : (old e : List ℕ) (at count : ℕ) → at < 2 ^ 64 → count < 2 ^ 64 → e ≡ old ++ (codes "part:" ++ (decimal at ++ 47 ∷ (decimal count ++ 10 ∷ []))) → e ≡ old ++ line_of (codes "part") (part_value at count)
+part_put old e at count la lc q =
+    let value = part_value at count in
+    let last = decimal count ++ 10 ∷ [] in
+    let ended : value ++ 10 ∷ [] ≡ decimal at ++ 47 ∷ last = append_assoc (decimal at ++ codes "/") (decimal count) (10 ∷ []) ∙ append_assoc (decimal at) (codes "/") last in
+    q ∙ ap (λ (t : List ℕ). old ++ (codes "part:" ++ t)) (sym ended)
+    ∙ ap (λ (t : List ℕ). old ++ (codes "part:" ++ (t ++ 10 ∷ []))) (sym (part_plain at count la lc))
 
 -- ---- whole frames
 
@@ -77,6 +86,14 @@ headers_put old a b c d e subscription id destination size others pa pb pc pd pe
     ∙ ap (λ (t : List ℕ). old ++ t) (append_assoc word s (i ++ (lines own ++ (l ++ last))))
     ∙ ap (λ (t : List ℕ). old ++ (word ++ (s ++ (i ++ t)))) (sym (flat_map-append (λ h. header_line true h ++ 10 ∷ []) own ((codes "content-length", size) ∷ others)))
 
+-- those of a MESSAGE that says which it is
+pub part_headers_put : (old a b c d p e subscription id : List ℕ) (destination : Option (List ℕ)) (size part : List ℕ) (others : List Header) → a ≡ old ++ (codes "MESSAGE\nsubscription:" ++ (escaped subscription ++ 10 ∷ [])) → b ≡ a ++ line_of (codes "message-id") id
+    → c ≡ b ++ lines (optional_header (codes "destination") destination) → d ≡ c ++ line_of (codes "content-length") size → p ≡ d ++ line_of (codes "part") part → e ≡ p ++ lines others
+    → e ≡ old ++ (codes "MESSAGE\n" ++ lines ((codes "subscription", subscription) ∷ (codes "message-id", id) ∷ (optional_header (codes "destination") destination ++ (codes "content-length", size) ∷ (codes "part", part) ∷ others)))
+part_headers_put old a b c d p e subscription id destination size part others pa pb pc pd pp pe =
+    let whole : e ≡ d ++ lines ((codes "part", part) ∷ others) = pe ∙ ap (λ (t : List ℕ). t ++ lines others) pp ∙ append_assoc d (line_of (codes "part") part) (lines others) in
+    headers_put old a b c d e subscription id destination size ((codes "part", part) ∷ others) pa pb pc pd whole
+
 -- an ERROR, appended in parts
 pub error_put : (old b c d e message : List ℕ) (receipt : Option (List ℕ)) (version : Bool) → b ≡ old ++ (codes "ERROR\nmessage:" ++ (escaped message ++ 10 ∷ [])) → c ≡ b ++ lines (optional_header (codes "receipt-id") receipt)
     → d ≡ c ++ lines (optional_header (codes "version") (if version then Some (codes "1.2") else None)) → e ≡ d ++ (codes "content-length:0" ++ 10 ∷ 10 ∷ 0 ∷ []) → e ≡ old ++ spelling_of (error_frame message receipt version)
@@ -104,31 +121,31 @@ before_has [] q = refl
 before_has (h ∷ hs) q = ap (λ b. b || list_any (λ g. bytes_eq g.0 q) hs) (either_way h.0 q) ∙ ap (λ b. bytes_eq q h.0 || b) (before_has hs q)
 
 -- whether a header is dropped: its name is withheld, or came before
-pub dropped_by : (hs : List Header) (q : List ℕ) (kept before : Bool) → kept ≡ has withheld q → before ≡ list_any (λ h. bytes_eq h.0 q) hs → (kept || before) ≡ has (seen hs) q
-dropped_by hs q kept before k f =
-    or_swap kept before ∙ ap (λ b. b || kept) (f ∙ before_has hs q) ∙ ap (λ b. has (map (λ h. h.0) hs) q || b) k ∙ sym (list_any-append (λ n. bytes_eq q n) (map (λ h. h.0) hs) withheld)
+pub dropped_by : (kept : List (List ℕ)) (hs : List Header) (q : List ℕ) (own before : Bool) → own ≡ has kept q → before ≡ list_any (λ h. bytes_eq h.0 q) hs → (own || before) ≡ has (seen kept hs) q
+dropped_by kept hs q own before k f =
+    or_swap own before ∙ ap (λ b. b || own) (f ∙ before_has hs q) ∙ ap (λ b. has (map (λ h. h.0) hs) q || b) k ∙ sym (list_any-append (λ n. bytes_eq q n) (map (λ h. h.0) hs) kept)
 
 -- what is still due after the first i headers
-abbrev pub due : List Header → ℕ → List ℕ
-due sent i = lines (first_entries (seen (take i sent)) (drop i sent))
+abbrev pub due : List (List ℕ) → List Header → ℕ → List ℕ
+due kept sent i = lines (first_entries (seen kept (take i sent)) (drop i sent))
 
-seen_next : (sent : List Header) (i : ℕ) (h : Header) (q : List ℕ) → slice_get sent i ≡ Some h → has (seen (take (i + 1) sent)) q ≡ has (h.0 ∷ seen (take i sent)) q
-seen_next sent i h q at = ap (λ (hs : List Header). has (seen hs) q) (taken sent i h at) ∙ seen_more (take i sent) h q
+seen_next : (kept : List (List ℕ)) (sent : List Header) (i : ℕ) (h : Header) (q : List ℕ) → slice_get sent i ≡ Some h → has (seen kept (take (i + 1) sent)) q ≡ has (h.0 ∷ seen kept (take i sent)) q
+seen_next kept sent i h q at = ap (λ (hs : List Header). has (seen kept hs) q) (taken sent i h at) ∙ seen_more kept (take i sent) h q
 
 -- a header that is passed over
-pub due_passed : (sent : List Header) (i : ℕ) (h : Header) → slice_get sent i ≡ Some h → has (seen (take i sent)) h.0 ≡ true → due sent i ≡ due sent (i + 1)
-due_passed sent i h at found =
+pub due_passed : (kept : List (List ℕ)) (sent : List Header) (i : ℕ) (h : Header) → slice_get sent i ≡ Some h → has (seen kept (take i sent)) h.0 ≡ true → due kept sent i ≡ due kept sent (i + 1)
+due_passed kept sent i h at found =
     let rest = drop (i + 1) sent in
-    let one : first_entries (seen (take i sent)) (drop i sent) ≡ first_entries (seen (take i sent)) rest = at_cons (drop i sent) rest h (seen (take i sent)) (rest_at sent i h at) ∙ rw found refl in
-    let names = same_names rest (seen (take i sent)) (seen (take (i + 1) sent)) (λ q. sym (seen_next sent i h q at ∙ again (seen (take i sent)) h.0 q found)) in
+    let one : first_entries (seen kept (take i sent)) (drop i sent) ≡ first_entries (seen kept (take i sent)) rest = at_cons (drop i sent) rest h (seen kept (take i sent)) (rest_at sent i h at) ∙ rw found refl in
+    let names = same_names rest (seen kept (take i sent)) (seen kept (take (i + 1) sent)) (λ q. sym (seen_next kept sent i h q at ∙ again (seen kept (take i sent)) h.0 q found)) in
     ap lines (one ∙ names)
 
 -- a header that is put
-pub due_put : (sent : List Header) (i : ℕ) (h : Header) → slice_get sent i ≡ Some h → has (seen (take i sent)) h.0 ≡ false → due sent i ≡ (header_line true h ++ 10 ∷ []) ++ due sent (i + 1)
-due_put sent i h at absent =
+pub due_put : (kept : List (List ℕ)) (sent : List Header) (i : ℕ) (h : Header) → slice_get sent i ≡ Some h → has (seen kept (take i sent)) h.0 ≡ false → due kept sent i ≡ (header_line true h ++ 10 ∷ []) ++ due kept sent (i + 1)
+due_put kept sent i h at absent =
     let rest = drop (i + 1) sent in
-    let one : first_entries (seen (take i sent)) (drop i sent) ≡ h ∷ first_entries (h.0 ∷ seen (take i sent)) rest = at_cons (drop i sent) rest h (seen (take i sent)) (rest_at sent i h at) ∙ rw absent refl in
-    let names = same_names rest (h.0 ∷ seen (take i sent)) (seen (take (i + 1) sent)) (λ q. sym (seen_next sent i h q at)) in
+    let one : first_entries (seen kept (take i sent)) (drop i sent) ≡ h ∷ first_entries (h.0 ∷ seen kept (take i sent)) rest = at_cons (drop i sent) rest h (seen kept (take i sent)) (rest_at sent i h at) ∙ rw absent refl in
+    let names = same_names rest (h.0 ∷ seen kept (take i sent)) (seen kept (take (i + 1) sent)) (λ q. sym (seen_next kept sent i h q at)) in
     ap lines one ∙ ap (λ (l : List Header). (header_line true h ++ 10 ∷ []) ++ lines l) names
 
 -- what was appended is no more due

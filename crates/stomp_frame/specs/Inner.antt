@@ -3,3 +3,4 @@ pub mod Parser
 pub mod Usual
 pub mod NameKinds
 pub mod PartialFrames
+pub mod Withheld

@@ -27,8 +27,10 @@ pub use headers::Headers;
 pub use limits::Limits;
 pub use raw_frame::RawFrame;
 pub use reading::reader::FrameReader;
+pub use server::part_message::PartMessage;
 pub use server::server_frame::{ServerFrame, render};
 pub use stomp_escape::{NoMemory, Octets};
+pub use writing::part_writer::write_part_message;
 pub use writing::server_writer::write_server;
 pub use writing::writer::{writable, write_frame};
 

@@ -8,9 +8,9 @@ use Rattle.stomp_session.specs.declared.fault.SessionFault.TheVariants as faults
 use Rattle.std.proofs.lemmas.Bool.{false≢true}
 use Rattle.std.specs.List.{repeat}
 use Rattle.mcast_txn.specs.Lists.{In}
-use Rattle.stomp_session.specs.Open.{IsKnownTo, StandsFor, held_after, open_subscriptions, open_transactions, phase_of, state_of}
+use Rattle.stomp_session.specs.Open.{IsKnownTo, StandsFor, asks_parts, held_after, open_subscriptions, open_transactions, phase_of, state_of}
 use Rattle.stomp_session.specs.Names.{index_of, is_name}
-use Rattle.stomp_session.specs.Frames.{client_of, send_of, with_destination}
+use Rattle.stomp_session.specs.Frames.{client_of, send_of, wants_parts, with_destination}
 use Rattle.stomp_session.specs.Refusals.{session_fault}
 use Rattle.stomp_session.specs.Answers.{takes_memory}
 use Rattle.stomp_session.specs.Versions.{has_version}
@@ -134,3 +134,26 @@ pub memory_is_taken :
     × (takes_memory commands.Commit (held_after names (connect ∷ begin (codes "x") ∷ [])) (commit (codes "x")) ≡ false)
     × (takes_memory commands.Commit (held_after names (connect ∷ begin (codes "x") ∷ send (codes "x") ∷ [])) (commit (codes "x")) ≡ true)
 memory_is_taken = (refl, refl, refl)
+
+-- a SUBSCRIBE with these headers `part`
+abbrev subscribe_parts : List ℕ → List (List ℕ × List ℕ) → RawFrame
+subscribe_parts id parts = frame commands.Subscribe ((codes "id", id) ∷ (codes "destination", codes "A") ∷ parts)
+
+-- the first `part` counts, and only `yes` is one that wants parts
+pub parts_are_wanted :
+    (wants_parts (subscribe_parts (codes "a") ((codes "part", codes "yes") ∷ (codes "part", codes "no") ∷ [])) ≡ true)
+    × (wants_parts (subscribe_parts (codes "a") ((codes "part", codes "no") ∷ (codes "part", codes "yes") ∷ [])) ≡ false)
+    × (wants_parts (subscribe_parts (codes "a") ((codes "part", codes "YES") ∷ [])) ≡ false)
+    × (wants_parts (subscribe (codes "a") (codes "A")) ≡ false)
+parts_are_wanted = (refl, refl, refl, refl)
+
+abbrev with_parts : List RawFrame
+with_parts = connect ∷ subscribe_parts (codes "a") ((codes "part", codes "yes") ∷ []) ∷ []
+
+-- a asked for parts, and b didn't, which isn't open; a doesn't once it is subscribed anew without
+pub parts_are_asked :
+    (asks_parts (codes "a") (state_of (held_after names with_parts)) ≡ true)
+    × (asks_parts (codes "b") (state_of (held_after names with_parts)) ≡ false)
+    × (asks_parts (codes "a") (state_of (held_after names (with_parts ++ unsubscribe (codes "a") ∷ []))) ≡ false)
+    × (asks_parts (codes "a") (state_of (held_after names (with_parts ++ unsubscribe (codes "a") ∷ subscribe (codes "a") (codes "A") ∷ []))) ≡ false)
+parts_are_asked = (refl, refl, refl, refl)

@@ -16,8 +16,8 @@ use Rattle.stomp_session.specs.declared.phase.Phase.{Phase}
 use Rattle.stomp_session.specs.declared.phase.Phase.TheVariants.{New, Connected, Closed}
 use Rattle.stomp_session.specs.declared.fault.SessionFault.{SessionFault}
 use Rattle.stomp_session.specs.declared.fault.SessionFault.TheVariants as faults
-use Rattle.stomp_session.specs.Frames.{topic_of, id_of, transaction_of, is_subscribe, is_unsubscribe, is_begin, is_end, is_send, is_disconnect, names_subscription, names_transaction, is_send_in, send_of}
-use Rattle.stomp_session.specs.Open.{Held, subscriptions_left, transactions_left, is_connected, is_ended, phase_of, held_after}
+use Rattle.stomp_session.specs.Frames.{topic_of, id_of, transaction_of, is_subscribe, is_unsubscribe, is_begin, is_end, is_send, is_disconnect, names_subscription, names_transaction, is_send_in, send_of, wants_parts}
+use Rattle.stomp_session.specs.Open.{Held, subscribed_with, subscriptions_left, parts_left, transactions_left, is_connected, is_ended, phase_of, held_after}
 use Rattle.stomp_session.specs.Refusals.{Condition, is_closed, is_new, is_open, is_full, has_other_ack, has_bad_destination, has_one_topic_too_many, open_refusals, refusals_by}
 use Rattle.mcast_txn.specs.Checks.{first_refusal}
 use Rattle.stomp_session.specs.Inner.Effects.{entries_without, with_send, effect, refusal_by}
@@ -33,11 +33,26 @@ opens_transaction f = is_begin f.command
 abbrev sends_of : List (List ℕ) → RawFrame → List RawFrame → List SentMessage
 sends_of names f after = map (send_of names) (filter (is_send_in (transaction_of f)) after)
 
--- the subscriptions that frames left open are those opened and not named since
+-- the subscriptions that frames left open are those opened and not named since, whatever is said of each
+pub subscribed_with-opened : {X : Type 0} (value : RawFrame → X) (frames : List RawFrame) → subscribed_with value frames ≡ opened opens_subscription names_subscription id_of (λ f after. value f) frames
+subscribed_with-opened value [] = refl
+subscribed_with-opened value (f ∷ after) =
+    λ i. cond (is_subscribe f.command && not (list_any (names_subscription (id_of f)) after)) ((id_of f, value f) ∷ subscribed_with-opened value after i) (subscribed_with-opened value after i)
+
+-- so they are with their topics
 pub subscriptions_left-opened : (names : List (List ℕ)) (frames : List RawFrame) → subscriptions_left names frames ≡ opened opens_subscription names_subscription id_of (λ f after. topic_of names f) frames
-subscriptions_left-opened names [] = refl
-subscriptions_left-opened names (f ∷ after) =
-    λ i. cond (is_subscribe f.command && not (list_any (names_subscription (id_of f)) after)) ((id_of f, topic_of names f) ∷ subscriptions_left-opened names after i) (subscriptions_left-opened names after i)
+subscriptions_left-opened names frames = subscribed_with-opened (topic_of names) frames
+
+-- the same are open, whatever is said of each
+pub subscribed_with-ids : {X Y : Type 0} (value : RawFrame → X) (other : RawFrame → Y) (id : List ℕ) (frames : List RawFrame) → is_open id (subscribed_with value frames) ≡ is_open id (subscribed_with other frames)
+subscribed_with-ids value other id [] = refl
+subscribed_with-ids value other id (f ∷ after) = by (is_subscribe f.command && not (list_any (names_subscription (id_of f)) after)) (subscribed_with-ids value other id after)
+  where
+    by : (b : Bool) → is_open id (subscribed_with value after) ≡ is_open id (subscribed_with other after)
+        → is_open id (cond b ((id_of f, value f) ∷ subscribed_with value after) (subscribed_with value after))
+        ≡ is_open id (cond b ((id_of f, other f) ∷ subscribed_with other after) (subscribed_with other after))
+    by true same = ap (λ b. bytes_eq id (id_of f) || b) same
+    by false same = same
 
 transactions_left-opened : (names : List (List ℕ)) (frames : List RawFrame) → transactions_left names frames ≡ opened opens_transaction names_transaction transaction_of (sends_of names) frames
 transactions_left-opened names [] = refl
@@ -71,26 +86,27 @@ sends_of-quiet : (names : List (List ℕ)) (f : RawFrame) → ((x : List ℕ) �
 sends_of-quiet names f quiet g after =
     sends_of-push names f g after ∙ ap (λ b. if b then sends_of names g after ++ send_of names f ∷ [] else sends_of names g after) (quiet (transaction_of g))
 
-module _ (names : List (List ℕ)) (frames : List RawFrame) (f : RawFrame) where
-  subscriptions_left-quiet : is_subscribe f.command ≡ false → is_unsubscribe f.command ≡ false → subscriptions_left names (frames ++ f ∷ []) ≡ subscriptions_left names frames
-  subscriptions_left-quiet no_subscribe no_unsubscribe =
+module _ {X : Type 0} (value : RawFrame → X) (frames : List RawFrame) (f : RawFrame) where
+  subscribed_with-quiet : is_subscribe f.command ≡ false → is_unsubscribe f.command ≡ false → subscribed_with value (frames ++ f ∷ []) ≡ subscribed_with value frames
+  subscribed_with-quiet no_subscribe no_unsubscribe =
       let none : (x : List ℕ) → names_subscription x f ≡ false = λ x i. (no_subscribe i || no_unsubscribe i) && bytes_eq (id_of f) x in
-      subscriptions_left-opened names (frames ++ f ∷ []) ∙ opened-quiet opens_subscription names_subscription id_of (λ f after. topic_of names f) f no_subscribe none (λ g after. refl) frames ∙ sym (subscriptions_left-opened names frames)
+      subscribed_with-opened value (frames ++ f ∷ []) ∙ opened-quiet opens_subscription names_subscription id_of (λ f after. value f) f no_subscribe none (λ g after. refl) frames ∙ sym (subscribed_with-opened value frames)
 
-  subscriptions_left-open : is_subscribe f.command ≡ true → is_open (id_of f) (subscriptions_left names frames) ≡ false → subscriptions_left names (frames ++ f ∷ []) ≡ subscriptions_left names frames ++ (id_of f, topic_of names f) ∷ []
-  subscriptions_left-open opens shut =
-      let shut_here : is_open (id_of f) (opened opens_subscription names_subscription id_of (λ f after. topic_of names f) frames) ≡ false = ap (is_open (id_of f)) (sym (subscriptions_left-opened names frames)) ∙ shut in
-      subscriptions_left-opened names (frames ++ f ∷ [])
-      ∙ opened-open opens_subscription names_subscription id_of (λ f after. topic_of names f) f opens (λ x. subscription_by_id x f opens) (λ g after. refl) frames shut_here
-      ∙ ap (λ them. them ++ (id_of f, topic_of names f) ∷ []) (sym (subscriptions_left-opened names frames))
+  subscribed_with-open : is_subscribe f.command ≡ true → is_open (id_of f) (subscribed_with value frames) ≡ false → subscribed_with value (frames ++ f ∷ []) ≡ subscribed_with value frames ++ (id_of f, value f) ∷ []
+  subscribed_with-open opens shut =
+      let shut_here : is_open (id_of f) (opened opens_subscription names_subscription id_of (λ f after. value f) frames) ≡ false = ap (is_open (id_of f)) (sym (subscribed_with-opened value frames)) ∙ shut in
+      subscribed_with-opened value (frames ++ f ∷ [])
+      ∙ opened-open opens_subscription names_subscription id_of (λ f after. value f) f opens (λ x. subscription_by_id x f opens) (λ g after. refl) frames shut_here
+      ∙ ap (λ them. them ++ (id_of f, value f) ∷ []) (sym (subscribed_with-opened value frames))
 
-  subscriptions_left-close : is_subscribe f.command ≡ false → is_unsubscribe f.command ≡ true → subscriptions_left names (frames ++ f ∷ []) ≡ entries_without (id_of f) (subscriptions_left names frames)
-  subscriptions_left-close no_subscribe closes =
+  subscribed_with-close : is_subscribe f.command ≡ false → is_unsubscribe f.command ≡ true → subscribed_with value (frames ++ f ∷ []) ≡ entries_without (id_of f) (subscribed_with value frames)
+  subscribed_with-close no_subscribe closes =
       let by_id : (x : List ℕ) → names_subscription x f ≡ bytes_eq (id_of f) x = λ x i. (no_subscribe i || closes i) && bytes_eq (id_of f) x in
-      subscriptions_left-opened names (frames ++ f ∷ [])
-      ∙ opened-close opens_subscription names_subscription id_of (λ f after. topic_of names f) f subscription_by_id no_subscribe by_id (λ g after. refl) frames
-      ∙ ap (entries_without (id_of f)) (sym (subscriptions_left-opened names frames))
+      subscribed_with-opened value (frames ++ f ∷ [])
+      ∙ opened-close opens_subscription names_subscription id_of (λ f after. value f) f subscription_by_id no_subscribe by_id (λ g after. refl) frames
+      ∙ ap (entries_without (id_of f)) (sym (subscribed_with-opened value frames))
 
+module _ (names : List (List ℕ)) (frames : List RawFrame) (f : RawFrame) where
   transactions_left-quiet : is_begin f.command ≡ false → is_end f.command ≡ false → ((x : List ℕ) → is_send_in x f ≡ false) → transactions_left names (frames ++ f ∷ []) ≡ transactions_left names frames
   transactions_left-quiet no_begin no_end no_send =
       let none : (x : List ℕ) → names_transaction x f ≡ false = λ x i. (no_begin i || no_end i) && bytes_eq (transaction_of f) x in
@@ -125,6 +141,7 @@ live names frames = record {
   names = names;
   phase = if is_connected frames then Connected else New;
   subscriptions = subscriptions_left names frames;
+  parts = parts_left frames;
   transactions = transactions_left names frames;
 }
 
@@ -133,6 +150,7 @@ held_after-live names frames going = λ i. record {
   names = names;
   phase = if going i then Closed else (if is_connected frames then Connected else New);
   subscriptions = if going i then [] else subscriptions_left names frames;
+  parts = if going i then [] else parts_left frames;
   transactions = if going i then [] else transactions_left names frames;
 }
 
@@ -183,17 +201,18 @@ module _ (names : List (List ℕ)) (frames : List RawFrame) (f : RawFrame) where
   is_connected-push = list_any-push (λ f. is_connect f.command) frames f
 
   -- one more frame that doesn't end the session, by what it changes
-  live-push : (phase : Phase) (subscriptions : List (List ℕ × Topic)) (transactions : List (List ℕ × List SentMessage))
+  live-push : (phase : Phase) (subscriptions : List (List ℕ × Topic)) (parts : List (List ℕ × Bool)) (transactions : List (List ℕ × List SentMessage))
       → is_ended frames ≡ false → is_disconnect f.command ≡ false
       → (if is_connected frames || is_connect f.command then Connected else New) ≡ phase
       → subscriptions_left names (frames ++ f ∷ []) ≡ subscriptions
+      → parts_left (frames ++ f ∷ []) ≡ parts
       → transactions_left names (frames ++ f ∷ []) ≡ transactions
-      → record { names = names; phase = phase; subscriptions = subscriptions; transactions = transactions } ≡ held_after names (frames ++ f ∷ [])
-  live-push phase subscriptions transactions going no_disconnect phase_is subscriptions_are transactions_are =
+      → record { names = names; phase = phase; subscriptions = subscriptions; parts = parts; transactions = transactions } ≡ held_after names (frames ++ f ∷ [])
+  live-push phase subscriptions parts transactions going no_disconnect phase_is subscriptions_are parts_are transactions_are =
       let goes_on : is_ended (frames ++ f ∷ []) ≡ false = is_ended-push ∙ (λ i. going i || no_disconnect i) in
       let phase_now : (if is_connected (frames ++ f ∷ []) then Connected else New) ≡ phase = ap (λ b. if b then Connected else New) is_connected-push ∙ phase_is in
-      let now : live names (frames ++ f ∷ []) ≡ record { names = names; phase = phase; subscriptions = subscriptions; transactions = transactions } =
-      λ i. record { names = names; phase = phase_now i; subscriptions = subscriptions_are i; transactions = transactions_are i } in
+      let now : live names (frames ++ f ∷ []) ≡ record { names = names; phase = phase; subscriptions = subscriptions; parts = parts; transactions = transactions } =
+      λ i. record { names = names; phase = phase_now i; subscriptions = subscriptions_are i; parts = parts_are i; transactions = transactions_are i } in
       sym now ∙ sym (held_after-live names (frames ++ f ∷ []) goes_on)
 
   -- what a frame but CONNECT is refused for, where no fault is found
@@ -206,14 +225,15 @@ module _ (names : List (List ℕ)) (frames : List RawFrame) (f : RawFrame) where
       subst (λ p. first_refusal ((is_closed p, faults.Closed) ∷ (is_new p, faults.NotConnected) ∷ others) ≡ None) phase_is none)
 
   -- any but a CONNECT or a DISCONNECT
-  connected-push : (subscriptions : List (List ℕ × Topic)) (transactions : List (List ℕ × List SentMessage))
+  connected-push : (subscriptions : List (List ℕ × Topic)) (parts : List (List ℕ × Bool)) (transactions : List (List ℕ × List SentMessage))
       → is_ended frames ≡ false → is_disconnect f.command ≡ false → is_connected frames ≡ true
       → subscriptions_left names (frames ++ f ∷ []) ≡ subscriptions
+      → parts_left (frames ++ f ∷ []) ≡ parts
       → transactions_left names (frames ++ f ∷ []) ≡ transactions
-      → record { names = names; phase = if is_connected frames then Connected else New; subscriptions = subscriptions; transactions = transactions } ≡ held_after names (frames ++ f ∷ [])
-  connected-push subscriptions transactions going no_disconnect connected subscriptions_are transactions_are =
+      → record { names = names; phase = if is_connected frames then Connected else New; subscriptions = subscriptions; parts = parts; transactions = transactions } ≡ held_after names (frames ++ f ∷ [])
+  connected-push subscriptions parts transactions going no_disconnect connected subscriptions_are parts_are transactions_are =
       let phase_is : (if is_connected frames || is_connect f.command then Connected else New) ≡ (if is_connected frames then Connected else New) = rw connected in
-      live-push (if is_connected frames then Connected else New) subscriptions transactions going no_disconnect phase_is subscriptions_are transactions_are
+      live-push (if is_connected frames then Connected else New) subscriptions parts transactions going no_disconnect phase_is subscriptions_are parts_are transactions_are
 
   not_send : is_send f.command ≡ false → (x : List ℕ) → is_send_in x f ≡ false
   not_send none x = λ i. none i && option_map_or (λ y. bytes_eq y x) (first_of (codes "transaction") f.headers) false
@@ -233,8 +253,9 @@ module _ (names : List (List ℕ)) (frames : List RawFrame) (f : RawFrame) where
       let checked : (is_connected frames ≡ true) × (first_refusal (refusals_by commands.Subscribe s f) ≡ None) = connected-refusals (refusals_by commands.Subscribe s f) going none in
       let shut_here : is_open (id_of f) s.subscriptions ≡ false = fourth (has_other_ack f) (has_bad_destination s f) (has_one_topic_too_many s f) (is_open (id_of f) s.subscriptions) (is_full s.subscriptions) faults.AckMode faults.BadDestination faults.TooManyTopics faults.SubIdInUse faults.TooManySubs checked.1 in
       let shut : is_open (id_of f) (subscriptions_left names frames) ≡ false = subst (λ b. is_open (id_of f) (if b then [] else subscriptions_left names frames) ≡ false) going shut_here in
-      to_live commands.Subscribe going (connected-push _ _ going (ap is_disconnect e) checked.0
-      (subscriptions_left-open names frames f (ap is_subscribe e) shut)
+      to_live commands.Subscribe going (connected-push _ _ _ going (ap is_disconnect e) checked.0
+      (subscribed_with-open (topic_of names) frames f (ap is_subscribe e) shut)
+      (subscribed_with-open wants_parts frames f (ap is_subscribe e) (subscribed_with-ids wants_parts (topic_of names) (id_of f) frames ∙ shut))
       (transactions_left-quiet names frames f (ap is_begin e) (ap is_end e) (not_send (ap is_send e))))
 
   -- Follows holds of an UNSUBSCRIBE
@@ -243,8 +264,9 @@ module _ (names : List (List ℕ)) (frames : List RawFrame) (f : RawFrame) where
       let s : Held = held_after names frames in
       let going : is_ended frames ≡ false = accepted-going commands.Unsubscribe names frames f none in
       let checked : (is_connected frames ≡ true) × (first_refusal (refusals_by commands.Unsubscribe s f) ≡ None) = connected-refusals (refusals_by commands.Unsubscribe s f) going none in
-      to_live commands.Unsubscribe going (connected-push _ _ going (ap is_disconnect e) checked.0
-      (subscriptions_left-close names frames f (ap is_subscribe e) (ap is_unsubscribe e))
+      to_live commands.Unsubscribe going (connected-push _ _ _ going (ap is_disconnect e) checked.0
+      (subscribed_with-close (topic_of names) frames f (ap is_subscribe e) (ap is_unsubscribe e))
+      (subscribed_with-close wants_parts frames f (ap is_subscribe e) (ap is_unsubscribe e))
       (transactions_left-quiet names frames f (ap is_begin e) (ap is_end e) (not_send (ap is_send e))))
 
   -- Follows holds of a BEGIN
@@ -255,8 +277,9 @@ module _ (names : List (List ℕ)) (frames : List RawFrame) (f : RawFrame) where
       let checked : (is_connected frames ≡ true) × (first_refusal (refusals_by commands.Begin s f) ≡ None) = connected-refusals (refusals_by commands.Begin s f) going none in
       let shut_here : is_open (transaction_of f) s.transactions ≡ false = first (is_open (transaction_of f) s.transactions) (is_full s.transactions) faults.TxnInUse faults.TooManyTxns checked.1 in
       let shut : is_open (transaction_of f) (transactions_left names frames) ≡ false = subst (λ b. is_open (transaction_of f) (if b then [] else transactions_left names frames) ≡ false) going shut_here in
-      to_live commands.Begin going (connected-push _ _ going (ap is_disconnect e) checked.0
-      (subscriptions_left-quiet names frames f (ap is_subscribe e) (ap is_unsubscribe e))
+      to_live commands.Begin going (connected-push _ _ _ going (ap is_disconnect e) checked.0
+      (subscribed_with-quiet (topic_of names) frames f (ap is_subscribe e) (ap is_unsubscribe e))
+      (subscribed_with-quiet wants_parts frames f (ap is_subscribe e) (ap is_unsubscribe e))
       (transactions_left-open names frames f (ap is_begin e) (not_send (ap is_send e)) shut))
 
   -- Follows holds of a COMMIT
@@ -265,8 +288,9 @@ module _ (names : List (List ℕ)) (frames : List RawFrame) (f : RawFrame) where
       let s : Held = held_after names frames in
       let going : is_ended frames ≡ false = accepted-going commands.Commit names frames f none in
       let checked : (is_connected frames ≡ true) × (first_refusal (refusals_by commands.Commit s f) ≡ None) = connected-refusals (refusals_by commands.Commit s f) going none in
-      to_live commands.Commit going (connected-push _ _ going (ap is_disconnect e) checked.0
-      (subscriptions_left-quiet names frames f (ap is_subscribe e) (ap is_unsubscribe e))
+      to_live commands.Commit going (connected-push _ _ _ going (ap is_disconnect e) checked.0
+      (subscribed_with-quiet (topic_of names) frames f (ap is_subscribe e) (ap is_unsubscribe e))
+      (subscribed_with-quiet wants_parts frames f (ap is_subscribe e) (ap is_unsubscribe e))
       (transactions_left-close names frames f (ap is_begin e) (ap is_end e) (not_send (ap is_send e))))
 
   -- Follows holds of an ABORT
@@ -275,8 +299,9 @@ module _ (names : List (List ℕ)) (frames : List RawFrame) (f : RawFrame) where
       let s : Held = held_after names frames in
       let going : is_ended frames ≡ false = accepted-going commands.Abort names frames f none in
       let checked : (is_connected frames ≡ true) × (first_refusal (refusals_by commands.Abort s f) ≡ None) = connected-refusals (refusals_by commands.Abort s f) going none in
-      to_live commands.Abort going (connected-push _ _ going (ap is_disconnect e) checked.0
-      (subscriptions_left-quiet names frames f (ap is_subscribe e) (ap is_unsubscribe e))
+      to_live commands.Abort going (connected-push _ _ _ going (ap is_disconnect e) checked.0
+      (subscribed_with-quiet (topic_of names) frames f (ap is_subscribe e) (ap is_unsubscribe e))
+      (subscribed_with-quiet wants_parts frames f (ap is_subscribe e) (ap is_unsubscribe e))
       (transactions_left-close names frames f (ap is_begin e) (ap is_end e) (not_send (ap is_send e))))
 
   -- Follows holds of a DISCONNECT
@@ -287,6 +312,7 @@ module _ (names : List (List ℕ)) (frames : List RawFrame) (f : RawFrame) where
         names = names;
         phase = if ended i then Closed else (if is_connected (frames ++ f ∷ []) then Connected else New);
         subscriptions = if ended i then [] else subscriptions_left names (frames ++ f ∷ []);
+        parts = if ended i then [] else parts_left (frames ++ f ∷ []);
         transactions = if ended i then [] else transactions_left names (frames ++ f ∷ []);
       }
 
@@ -294,7 +320,7 @@ module _ (names : List (List ℕ)) (frames : List RawFrame) (f : RawFrame) where
       → is_ended frames ≡ false → effect commands.Connect (live names frames) f ≡ held_after names (frames ++ f ∷ [])
   connect-effect connects no_subscribe no_unsubscribe no_begin no_end no_send no_disconnect going =
       let phase_is : (if is_connected frames || is_connect f.command then Connected else New) ≡ Connected = ap (λ b. if is_connected frames || b then Connected else New) connects ∙ ap (λ b. if b then Connected else New) (or_all (is_connected frames)) in
-      live-push Connected _ _ going no_disconnect phase_is (subscriptions_left-quiet names frames f no_subscribe no_unsubscribe) (transactions_left-quiet names frames f no_begin no_end (not_send no_send))
+      live-push Connected _ _ _ going no_disconnect phase_is (subscribed_with-quiet (topic_of names) frames f no_subscribe no_unsubscribe) (subscribed_with-quiet wants_parts frames f no_subscribe no_unsubscribe) (transactions_left-quiet names frames f no_begin no_end (not_send no_send))
 
   -- Follows holds of a CONNECT
   pub connect-follows : Follows commands.Connect
@@ -317,15 +343,17 @@ module _ (names : List (List ℕ)) (frames : List RawFrame) (f : RawFrame) where
       to_live commands.Send going (by going checked.0 (first_of (codes "transaction") f.headers) refl e)
     where
       by : is_ended frames ≡ false → is_connected frames ≡ true → (o : Option (List ℕ)) → first_of (codes "transaction") f.headers ≡ o → f.command ≡ commands.Send
-          → option_map_or (λ x. record { names = names; phase = if is_connected frames then Connected else New; subscriptions = subscriptions_left names frames; transactions = with_send x (send_of names f) (transactions_left names frames) }) (first_of (codes "transaction") f.headers) (live names frames)
+          → option_map_or (λ x. record { names = names; phase = if is_connected frames then Connected else New; subscriptions = subscriptions_left names frames; parts = parts_left frames; transactions = with_send x (send_of names f) (transactions_left names frames) }) (first_of (codes "transaction") f.headers) (live names frames)
           ≡ held_after names (frames ++ f ∷ [])
       by going connected None at e =
           let outside : (x : List ℕ) → is_send_in x f ≡ false = λ x. (λ i. is_send (e i) && option_map_or (λ y. bytes_eq y x) (at i) false) in
-          rw at (connected-push (subscriptions_left names frames) (transactions_left names frames) going (ap is_disconnect e) connected
-          (subscriptions_left-quiet names frames f (ap is_subscribe e) (ap is_unsubscribe e))
+          rw at (connected-push (subscriptions_left names frames) (parts_left frames) (transactions_left names frames) going (ap is_disconnect e) connected
+          (subscribed_with-quiet (topic_of names) frames f (ap is_subscribe e) (ap is_unsubscribe e))
+          (subscribed_with-quiet wants_parts frames f (ap is_subscribe e) (ap is_unsubscribe e))
           (transactions_left-quiet names frames f (ap is_begin e) (ap is_end e) outside))
       by going connected (Some x) at e =
           let inside : (y : List ℕ) → is_send_in y f ≡ bytes_eq x y = λ y. (λ i. is_send (e i) && option_map_or (λ z. bytes_eq z y) (at i) false) in
-          rw at (connected-push (subscriptions_left names frames) (with_send x (send_of names f) (transactions_left names frames)) going (ap is_disconnect e) connected
-          (subscriptions_left-quiet names frames f (ap is_subscribe e) (ap is_unsubscribe e))
+          rw at (connected-push (subscriptions_left names frames) (parts_left frames) (with_send x (send_of names f) (transactions_left names frames)) going (ap is_disconnect e) connected
+          (subscribed_with-quiet (topic_of names) frames f (ap is_subscribe e) (ap is_unsubscribe e))
+          (subscribed_with-quiet wants_parts frames f (ap is_subscribe e) (ap is_unsubscribe e))
           (transactions_left-send names frames f (ap is_begin e) (ap is_end e) x inside))

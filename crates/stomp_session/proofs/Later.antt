@@ -15,7 +15,7 @@ use Rattle.mcast_txn.specs.Lists.{In}
 use Rattle.mcast_txn.proofs.Members.{In-push_cases}
 use Rattle.stomp_session.specs.Names.{is_known, index_of, with_name}
 use Rattle.stomp_session.specs.Frames.{field, has_destination, with_destination, is_send, is_send_in, is_subscribe, is_begin, names_subscription, names_transaction, id_of, topic_of, transaction_of, send_of}
-use Rattle.stomp_session.specs.Open.{state_of, IsKnownTo, LaterNamesStand, held_after, is_ended, phase_of, subscriptions_left, transactions_left}
+use Rattle.stomp_session.specs.Open.{state_of, IsKnownTo, LaterNamesStand, held_after, is_ended, open_parts, phase_of, subscriptions_left, transactions_left}
 
 -- the number of the first of these names that passes; how many there are where none does
 abbrev pub first_index : (List ℕ → Bool) → List (List ℕ) → ℕ
@@ -172,6 +172,7 @@ pub state-same : (names others : List (List ℕ)) (frames : List RawFrame) → (
 state-same names others frames same = λ i. record {
   phase = phase_of frames;
   subscriptions = if is_ended frames then [] else subscriptions_left-same names others frames same i;
+  parts = open_parts frames;
   transactions = if is_ended frames then [] else transactions_left-same names others frames same i;
 }
 
@@ -202,6 +203,7 @@ held-later names more frames known = λ i. record {
   names = names ++ more;
   phase = phase_of frames;
   subscriptions = (state-later names more frames known i).subscriptions;
+  parts = (state-later names more frames known i).parts;
   transactions = (state-later names more frames known i).transactions;
 }
 

@@ -38,6 +38,12 @@ client_of f = first_of (codes "client-id") f.headers
 abbrev pub id_of : RawFrame → List ℕ
 id_of f = field (codes "id") f
 
+-- Whether a SUBSCRIBE wants each MESSAGE to say which of its transaction's MESSAGEs at its topic it is (own):
+-- its first header `part` is `yes`. So `part:yes` before `part:no` wants it, and `part:YES` doesn't.
+abbrev pub wants_parts : RawFrame → Bool
+wants_parts f =
+    option_map_or (λ part. bytes_eq part (codes "yes")) (first_of (codes "part") f.headers) false
+
 -- a BEGIN's, COMMIT's or ABORT's transaction
 abbrev pub transaction_of : RawFrame → List ℕ
 transaction_of f = field (codes "transaction") f

@@ -6,11 +6,15 @@ mod destination;
 mod fault;
 mod judged;
 pub mod law;
+mod name;
+mod name_set;
 mod names;
 mod opened;
 mod phase;
 mod route;
 mod session;
+mod subscription;
+mod subscriptions;
 mod transactions;
 mod versions;
 
@@ -19,6 +23,7 @@ pub use fault::SessionFault;
 pub use names::{MAX_TOPICS, Names, is_name};
 pub use phase::Phase;
 pub use session::Session;
+pub use versions::has_version;
 
 #[cfg(test)]
 mod tests;

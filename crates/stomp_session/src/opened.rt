@@ -2,6 +2,7 @@
 
 ghost use Rattle.std.specs.Prelude.{◌≡◌, false, [], ◌∷◌, ◌++◌, is_some, OnOk};
 ghost use Rattle.std.specs.Map.{lookup};
+ghost use Rattle.std.specs.Option.{option_map};
 ghost use Rattle.std.specs.Str.{bytes_eq};
 ghost use Rattle.stomp_session.specs.Inner.Effects.{entries_without};
 ghost use Rattle.stomp_session.specs.Refusals.{is_open, is_full};
@@ -48,6 +49,13 @@ impl<T> Opened<T> {
         ensures { result ≡ is_open id.now self.now }
     {
         self.values.contains_key(id)
+    }
+
+    /// What there is of this id, or `None` where none is open.
+    pub(crate) fn get(&self, id: &[u8]) -> Option<&T>
+        ensures { option_map (λ v. v.now) result ≡ lookup (bytes_eq id.now) self.now }
+    {
+        self.values.get(id)
     }
 
     /// Whether no more may be opened.

@@ -9,8 +9,8 @@ ghost use Rattle.stomp_session.specs.declared.action.Action.TheVariants as actio
 ghost use Rattle.stomp_session.specs.declared.phase.Phase.TheVariants as phases;
 ghost use Rattle.stomp_session.specs.declared.fault.SessionFault.TheVariants as faults;
 ghost use Rattle.stomp_session.specs.Names.{with_name};
-ghost use Rattle.stomp_session.specs.Frames.{field, with_destination};
-ghost use Rattle.stomp_session.specs.Open.{after_close, held_after, StandsFor};
+ghost use Rattle.stomp_session.specs.Frames.{field, wants_parts, with_destination};
+ghost use Rattle.stomp_session.specs.Open.{after_close, asks_parts, held_after, StandsFor};
 ghost use Rattle.mcast_txn.specs.Checks.{first_refusal};
 ghost use Rattle.stomp_session.specs.Refusals.{is_closed, is_new, has_other_ack};
 ghost use Rattle.stomp_session.specs.Answers.{Accepts, AreTexts, Refuses};
@@ -24,6 +24,7 @@ use crate::names::Names;
 use crate::opened::Opened;
 use crate::phase::Phase;
 use crate::route::Route;
+use crate::subscriptions::Subscriptions;
 use crate::versions::has_version;
 use mcast_txn::{Draft, Topic, Txn};
 use std::alloc::Global;
@@ -38,7 +39,7 @@ use stomp_frame::{
 pub struct Session {
     alloc: Global,
     phase: Phase,
-    subscriptions: Opened<Topic>,
+    subscriptions: Subscriptions,
     transactions: Opened<Draft>,
 }
 
@@ -64,11 +65,13 @@ impl Model for Session {
 
     ghost view = { λ s. record {
       phase = s.phase;
-      subscriptions = s.subscriptions;
+      subscriptions = s.subscriptions.topics;
+      parts = s.subscriptions.parts;
       transactions = s.transactions;
     } };
 
-    ghost invariant = { λ s. IsSoundSession s.phase s.subscriptions s.transactions };
+    ghost invariant = { λ s.
+        IsSoundSession s.phase s.subscriptions.topics s.subscriptions.parts s.transactions };
 }
 
 /// Whether the frame has an ack of another mode than auto.
@@ -77,6 +80,16 @@ fn has_other_ack(frame: &RawFrame) -> bool
 {
     match frame.headers.first(b"ack") {
         Some(ack) => ack != b"auto".as_slice(),
+        None => false,
+    }
+}
+
+/// Whether the first header `part` of a SUBSCRIBE is `yes`.
+fn wants_parts(frame: &RawFrame) -> bool
+    ensures { result ≡ wants_parts frame.now }
+{
+    match frame.headers.first(b"part") {
+        Some(part) => part == b"yes".as_slice(),
         None => false,
     }
 }
@@ -117,7 +130,7 @@ impl Session {
         Session {
             alloc,
             phase: Phase::New,
-            subscriptions: Opened::new(alloc),
+            subscriptions: Subscriptions::new(alloc),
             transactions: Opened::new(alloc),
         }
     }
@@ -130,6 +143,15 @@ impl Session {
         self.phase = Phase::Closed;
         self.subscriptions.clear();
         self.transactions.clear();
+    }
+
+    /// Whether the open subscription of this id asked that each MESSAGE say which of its transaction's MESSAGEs at its
+    /// topic it is: its SUBSCRIBE has `part:yes` (our own header, not the standard's; the first one counts). Not where
+    /// none of this id is open.
+    pub fn asks_parts(&self, id: &[u8]) -> bool
+        ensures { result ≡ asks_parts id.now self.now }
+    {
+        self.subscriptions.asks_parts(id)
     }
 
     /// Whether it is connected: 60 before a CONNECT, 73 where it is closed.
@@ -186,7 +208,8 @@ impl Session {
         if self.subscriptions.is_full() {
             return Err(SessionFault::TooManySubs);
         }
-        self.subscriptions.open(id, topic)?;
+        self.subscriptions
+            .open(id, topic, wants_parts(&frame.raw))?;
         if is_new {
             names.add(frame.destination())?;
         }
@@ -199,7 +222,7 @@ impl Session {
             → Handles commands.Unsubscribe (held_with names self.old) frame.now.raw result self.new }
     {
         self.connected()?;
-        if self.subscriptions.take(frame.id()).is_none() {
+        if !self.subscriptions.end(frame.id()) {
             return Err(SessionFault::NoSuchSub);
         }
         Ok(Judged::Unsubscribe)

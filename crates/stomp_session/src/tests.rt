@@ -7,6 +7,8 @@ mod histories;
 mod made;
 mod memory;
 mod names;
+mod parts;
 mod plain;
 mod session;
+mod shared;
 mod transactions;

@@ -26,7 +26,7 @@ fn trimmed_text(text: &[u8]) -> &[u8]
 
 /// Whether the version is among those of an accept-version header, which commas part (STOMP 1.2,
 /// "Protocol Negotiation"); that spaces round one are ignored is (our choice, not the standard's).
-pub(crate) fn has_version(version: &[u8], text: &[u8]) -> bool
+pub fn has_version(version: &[u8], text: &[u8]) -> bool
     ensures { result ≡ has_version version.now text.now }
 {
     text.split(|b| *b == b',')

@@ -3,7 +3,7 @@
 use crate::conversation::conversation_fault::ConversationFault;
 use broker_locks::CommitFault;
 use mcast_group::SubFault;
-use mcast_txn::{Released, Topic};
+use mcast_txn::{Released, Topic, Txn};
 use sender_gate::{ClaimFault, Flying, Gate};
 use stomp_frame::ClientFrame;
 use stomp_session::{Names, Session, Step};
@@ -15,6 +15,7 @@ pub trait BrokerCalls {
     ghost use Rattle.std.specs.Prelude.{◌≡◌, ℕ, List, map, Ok, Err, IfOk, IfErr};
     ghost use Rattle.std.specs.Option.{is_some, option_map};
     ghost use Rattle.stomp_frame.specs.ClientFrames.{raw_of};
+    ghost use Rattle.mcast_txn.specs.Transaction.{topics_of};
     ghost use Rattle.broker_locks.specs.Commits.{IsUntouched};
     ghost use Rattle.broker_server.specs.Judging.{Grows, IsFrameAccepted, IsFrameRefused};
     ghost use Rattle.broker_server.specs.BrokerRows.{AsksInOrder, BrokerRow, IsGateAfter, SubName, LooksUp, Claims, GivesBack, Subscribes, Unsubscribes, AsksLag, Takes, AsksRoom, GivesRoomBack, Commits};
@@ -85,9 +86,9 @@ pub trait BrokerCalls {
         ensures taken { called self.old (Takes (name sub.old) result) self.new }
         ensures same { name sub.new ≡ name sub.old };
 
-    /// Asks for room at these topics: there is some at each of them, or none is reserved.
-    fn reserve(&mut self, topics: &[Topic]) -> Option<Self::Room>
-        ensures { called self.old (AsksRoom topics.now (is_some result)) self.new };
+    /// Asks for room at the topics of a transaction: there is some at each of them, or none is reserved.
+    fn reserve(&mut self, txn: &Txn) -> Option<Self::Room>
+        ensures { called self.old (AsksRoom (topics_of txn.now) (is_some result)) self.new };
 
     /// Gives room back that isn't used.
     fn give_room_back(&mut self, room: Self::Room)

@@ -1,6 +1,7 @@
 //! Why a connection ends by an ERROR.
 
 ghost use Rattle.std.specs.Prelude.{◌≡◌};
+ghost use Rattle.std.specs.Option.{option_map};
 ghost use Rattle.broker_server.specs.ConversationFaults.{conversation_title, fault_of_reader, tells_version};
 ghost use Rattle.broker_server.specs.declared.conversation.conversation_fault.ConversationFault.TheVariants as faults;
 
@@ -9,7 +10,7 @@ use delivery::ConnectionFault;
 use mcast_group::SubFault;
 use mcast_txn::Topic;
 use sender_gate::{ClaimFault, GateFault};
-use stomp_frame::{CaseFault, Check, FrameFault, NoMemory};
+use stomp_frame::{CaseFault, Check, FrameFault, NoMemory, RawFrame};
 use stomp_session::SessionFault;
 
 /// Why a connection of the server ends by an ERROR.
@@ -34,7 +35,7 @@ pub enum ConversationFault {
     },
     /// 72: there was no memory for what a frame asks for, which had no effect.
     NoMemory,
-    /// 72: there was no memory for a reply, or for the MESSAGEs of an item.
+    /// 72: there was no memory for a reply, or for a MESSAGE of an item, of which those before it are out.
     NoReply,
 }
 
@@ -55,12 +56,12 @@ impl ConversationFault {
         }
     }
 
-    /// Whether its ERROR says which version is supported.
-    pub(crate) fn says_version(self) -> bool
-        ensures { result ≡ tells_version self }
+    /// Whether its ERROR says which version is supported, where it is a fault of this frame, if one was read.
+    pub(crate) fn says_version(self, read: Option<&RawFrame>) -> bool
+        ensures { result ≡ tells_version (option_map (λ f. f.now) read.entry) self }
     {
         match self {
-            ConversationFault::Connection(fault) => fault.says_version(),
+            ConversationFault::Connection(fault) => fault.says_version(read),
             _ => false,
         }
     }

@@ -1,5 +1,8 @@
 //! What the taking of queues came to.
 
+ghost use Rattle.std.specs.Prelude.{◌≡◌};
+ghost use Rattle.broker_server.specs.Delivering.{is_halfway, is_stopped};
+
 use crate::conversation::conversation_fault::ConversationFault;
 
 /// How the taking of queues ended.
@@ -9,8 +12,26 @@ pub(crate) enum Taking {
     Emptied,
     /// Too many octets wait, or another queue is taken.
     Stopped,
+    /// Too many octets wait, and an item is half out: nothing else is taken before the rest of it is written.
+    Halfway,
     /// The connection is to end by this fault.
     Failed(ConversationFault),
+}
+
+impl Taking {
+    /// Whether items, or MESSAGEs of one, may be left.
+    pub(crate) fn is_stopped(self) -> bool
+        ensures { result ≡ is_stopped self }
+    {
+        matches!(self, Taking::Stopped | Taking::Halfway)
+    }
+
+    /// Whether an item is half out.
+    pub(crate) fn is_halfway(self) -> bool
+        ensures { result ≡ is_halfway self }
+    {
+        matches!(self, Taking::Halfway)
+    }
 }
 
 /// What the taking of queues came to.

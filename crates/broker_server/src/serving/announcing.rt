@@ -1,5 +1,6 @@
-//! The log's lines of who came and who left.
+//! The log's lines of who came, who left, and who asks for what is ignored.
 
+use crate::conversation::Ignored;
 use crate::serving::hub::Hub;
 use crate::serving::line_rate::Admitted;
 use crate::serving::peer::Peer;
@@ -31,6 +32,31 @@ pub(crate) fn say_left<R: Wait + Clock + Log, W: Side, T: Side>(
         WhyLeft::Untaken => warn!(rt; target: "serve", "{peer} left: {left}"),
         _ if admits(rt, hub) => info!(rt; target: "serve", "{peer} left: {left}"),
         _ => {}
+    }
+}
+
+/// Says what this peer's client asks for that is ignored, unless too many lines do. A subscriber gets other MESSAGEs than it
+/// asked for by the first three; many clients ask for the others unasked.
+pub(crate) fn say_ignored<R: Wait + Clock + Log, W: Side, T: Side>(
+    rt: &R,
+    hub: &Hub<R, W, T>,
+    peer: Peer,
+    ignored: Ignored,
+) {
+    if ignored.selector && admits(rt, hub) {
+        warn!(rt; target: "serve", "{peer} asks for a selector: ignored");
+    }
+    if ignored.durable && admits(rt, hub) {
+        warn!(rt; target: "serve", "{peer} asks for a durable subscription: ignored");
+    }
+    if ignored.wildcard && admits(rt, hub) {
+        warn!(rt; target: "serve", "{peer} asks for a wildcard: it names a topic");
+    }
+    if ignored.persistent && admits(rt, hub) {
+        info!(rt; target: "serve", "{peer} asks for persistent messages: ignored");
+    }
+    if ignored.heart_beat && admits(rt, hub) {
+        info!(rt; target: "serve", "{peer} asks for heart-beats: ignored");
     }
 }
 

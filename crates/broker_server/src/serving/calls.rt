@@ -1,6 +1,7 @@
 //! What one connection asks of the broker.
 
 ghost use Rattle.std.specs.Prelude.{◌≡◌, ◌<◌, ◌⊎◌, ◌==◌, [], true, IfSome, None, Some};
+ghost use Rattle.mcast_txn.specs.Transaction.{topics_of};
 ghost use Rattle.broker_server.specs.Lines.{IsRoomAt};
 ghost use Rattle.broker_server.specs.UnturnedTopics.{none_unturned};
 
@@ -22,7 +23,7 @@ use crate::spelled::Spelled;
 use broker_locks::{CommitFault, NoRoom, Reserved, Side, Worker};
 use log::{Log, info, warn};
 use mcast_group::{SubFault, SubState};
-use mcast_txn::{NoMemory, Released, Topic};
+use mcast_txn::{NoMemory, Released, Topic, Txn};
 use sender_gate::{ClaimFault, Flying, Gate};
 use std::alloc::{AllocError, Global};
 use std::slice::from_ref;
@@ -377,18 +378,16 @@ impl<'a, R: Wait + Log + Clock, W: Side, T: Side> Calls<'a, R, W, T> {
         self.hub.release_room(self.rt, other);
     }
 
-    /// Room at these topics. Where there is none, and it owes no turns, it waits. Out of memory for the reservation it is
-    /// room at none of them: a commit that lacks memory, too, says so, and waits for nothing.
+    /// Room at the topics of this transaction. Where there is none, and it owes no turns, it waits. Out of memory for the
+    /// reservation it is room at none of them: a commit that lacks memory, too, says so, and waits for nothing.
     #[tactic(auto, using(crate::proofs::LineLemmas::first_of))]
-    fn room_at(&mut self, topics: &[Topic]) -> Option<Reserved>
-        ensures { IfSome result (λ room. (room ≡ topics.now) ⊎ (room ≡ [])) }
+    fn room_at(&mut self, txn: &Txn) -> Option<Reserved>
+        ensures { IfSome result (λ room. (room ≡ topics_of txn.now) ⊎ (room ≡ [])) }
     {
         let mut room = self.hub.running.broker.no_room();
-        match self.hub.reserve(self.rt, topics, &mut room) {
+        match self.hub.reserve(self.rt, txn, &mut room) {
             Ok(()) => Some(room),
-            Err(NoRoom::Full { topic: _, sub: _ }) if self.commits == 0 => {
-                self.tries(topics, room)
-            }
+            Err(NoRoom::Full { topic: _, sub: _ }) if self.commits == 0 => self.tries(txn, room),
             Err(NoRoom::Full { topic: _, sub: _ }) => {
                 self.keep_room(room);
                 None
@@ -397,41 +396,43 @@ impl<'a, R: Wait + Log + Clock, W: Side, T: Side> Calls<'a, R, W, T> {
         }
     }
 
-    /// Room at these topics, for which it waits. (What it keeps is at the first of them; else it is given up.)
+    /// Room at the topics of this transaction, for which it waits. (What it keeps is at the first of them; else it is given
+    /// up.)
     #[inline(never)]
-    fn room_after_wait(&mut self, topics: &[Topic]) -> Option<Reserved>
-        ensures { IfSome result (λ room. (room ≡ topics.now) ⊎ (room ≡ [])) }
+    fn room_after_wait(&mut self, txn: &Txn) -> Option<Reserved>
+        ensures { IfSome result (λ room. (room ≡ topics_of txn.now) ⊎ (room ≡ [])) }
     {
         let room = self.kept_room();
-        if !is_at(topics, &room) {
+        if !is_at(txn.topics().as_slice(), &room) {
             return self.without_room(room);
         }
-        self.tries(topics, room)
+        self.tries(txn, room)
     }
 
-    /// Room at these topics, where it is the first of a line: it stays so, if it is that of the first of these.
+    /// Room at the topics of this transaction, where it is the first of a line: it stays so, if it is that of the first of
+    /// these.
     #[inline(never)]
-    fn room_as_first(&mut self, topics: &[Topic]) -> Option<Reserved>
-        ensures { IfSome result (λ room. (room ≡ topics.now) ⊎ (room ≡ [])) }
+    fn room_as_first(&mut self, txn: &Txn) -> Option<Reserved>
+        ensures { IfSome result (λ room. (room ≡ topics_of txn.now) ⊎ (room ≡ [])) }
     {
         let asker = self.asker();
-        self.waiting.comes(&asker, topics);
+        self.waiting.comes(&asker, txn.topics().as_slice());
         if self.waiting.is_idle() {
-            return self.room_at(topics);
+            return self.room_at(txn);
         }
         let none = self.hub.running.broker.no_room();
-        self.tries(topics, none)
+        self.tries(txn, none)
     }
 
-    /// Room at these topics, of which it has this at the first of them; or it waits.
+    /// Room at the topics of this transaction, of which it has this at the first of them; or it waits.
     #[inline(never)]
-    fn tries(&mut self, topics: &[Topic], room: Reserved) -> Option<Reserved>
-        requires { IsRoomAt topics.now room }
-        ensures { IfSome result (λ room. (room ≡ topics.now) ⊎ (room ≡ [])) }
+    fn tries(&mut self, txn: &Txn, room: Reserved) -> Option<Reserved>
+        requires { IsRoomAt (topics_of txn.now) room }
+        ensures { IfSome result (λ room. (room ≡ topics_of txn.now) ⊎ (room ≡ [])) }
     {
         let mut room = room;
         let asker = self.asker();
-        let tried = self.waiting.tries(&asker, topics, &mut room);
+        let tried = self.waiting.tries(&asker, txn, &mut room);
         let passed_over = self.waiting.take_passed_over();
         self.activity.passes_over(passed_over);
         match tried {
@@ -645,17 +646,17 @@ impl<'a, R: Wait + Log + Clock, W: Side, T: Side> BrokerCalls for Calls<'a, R, W
 
     /// Where it owes turns, and there is no room, these come first: there may be some then. They come first, too, where
     /// it is to stand in for those who sleep.
-    fn reserve(&mut self, topics: &[Topic]) -> Option<Reserved> {
+    fn reserve(&mut self, txn: &Txn) -> Option<Reserved> {
         if self.waiting.is_held() {
-            return self.room_after_wait(topics);
+            return self.room_after_wait(txn);
         }
         if self.commits == AT_ONCE && self.heard_little && self.few_sleep() {
             return None;
         }
         if self.waiting.is_idle() {
-            return self.room_at(topics);
+            return self.room_at(txn);
         }
-        self.room_as_first(topics)
+        self.room_as_first(txn)
     }
 
     fn give_room_back(&mut self, room: Reserved) {

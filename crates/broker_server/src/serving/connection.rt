@@ -7,8 +7,8 @@ ghost use Rattle.broker_server.specs.Delivering.{DeliversRound};
 ghost use Rattle.broker_server.specs.Hearing.{Hears};
 ghost use Rattle.broker_server.specs.declared.serving.connection.Round.TheVariants.{Idle};
 
-use crate::conversation::{Conversation, ConversationFault, Exit};
-use crate::serving::announcing::{say_came, say_left};
+use crate::conversation::{Conversation, ConversationFault, Exit, Ignored};
+use crate::serving::announcing::{say_came, say_ignored, say_left};
 use crate::serving::calls::Calls;
 use crate::serving::desk::Desk;
 use crate::serving::desks::Desks;
@@ -111,6 +111,8 @@ struct Connection<'a, 'b, R: Wait + Log + Clock, W: Side, T: Side> {
     heard: usize,
     /// The seats of those who sleep, for whom it stands in.
     asleep: Vec<Arc<Seat>>,
+    /// What was said that it asked for, and is ignored.
+    said: Ignored,
 }
 
 impl<'a, 'b, R: Wait + Log + Clock, W: Side, T: Side> Connection<'a, 'b, R, W, T> {
@@ -147,6 +149,7 @@ impl<'a, 'b, R: Wait + Log + Clock, W: Side, T: Side> Connection<'a, 'b, R, W, T
             match desk.read(self.outfit.room.as_mut_slice()) {
                 Came::Octets(n) => {
                     self.hear_read(desk, n);
+                    self.tell_ignored(desk);
                     desk.note_heard(n);
                     self.go_on(desk);
                     round = Round::Busy;
@@ -455,6 +458,17 @@ impl<'a, 'b, R: Wait + Log + Clock, W: Side, T: Side> Connection<'a, 'b, R, W, T
         }
     }
 
+    /// Says what it asked for that is ignored, each kind once.
+    #[inline(always)]
+    fn tell_ignored(&mut self, desk: &Desk<'a, R, W, T>) {
+        let asked = desk.talk.ignored();
+        let unsaid = asked.without(self.said);
+        if unsaid.is_any() {
+            say_ignored(self.rt, self.hub, self.outfit.peer, unsaid);
+            self.said = asked;
+        }
+    }
+
     /// Says how far behind a subscription has lagged, if that is why the connection leaves. That it lagged was said.
     fn tell_lag(&self, desk: &Desk<'a, R, W, T>) {
         if let Some(Exit::Error(ConversationFault::Lagged { topic, items })) = desk.talk.exit() {
@@ -487,6 +501,7 @@ impl<'a, 'b, R: Wait + Log + Clock, W: Side, T: Side> Connection<'a, 'b, R, W, T
 
     /// Leaves, once the conversation has ended so, and nobody else comes to the desk; why it left.
     fn leave(&mut self, ended: Result<(), WhyLeft>, desk: &mut Desk<'a, R, W, T>) -> WhyLeft {
+        self.tell_ignored(desk);
         self.tell_lag(desk);
         desk.talk.lose(&mut desk.calls);
         desk.calls.end_wait();
@@ -545,6 +560,7 @@ fn talk_over<'a, 'b, R: Wait + Log + Clock, W: Side, T: Side>(
                 came: Moment::now(rt),
                 heard: 0,
                 asleep: Vec::new(alloc),
+                said: Ignored::nothing(),
             };
             connection.run(desk)
         }

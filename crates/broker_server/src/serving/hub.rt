@@ -2,6 +2,7 @@
 
 ghost use Rattle.std.specs.Prelude.{◌≡◌, ◌≤◌, ◌++◌, length, take, Ok, OnOk, OnErr, slice_get};
 ghost use Rattle.std.specs.Option.{option_map};
+ghost use Rattle.mcast_txn.specs.Transaction.{topics_of};
 ghost use Rattle.broker_server.specs.Lines.{IsRoomFrom};
 
 use crate::serving::bell::Bell;
@@ -15,9 +16,9 @@ use crate::serving::totals::Totals;
 use crate::serving::unturned::Unturned;
 use crate::serving::waiters::Waiters;
 use crate::serving::why_left::WhyLeft;
-use broker_locks::{NoRoom, Reserved, Side};
+use broker_locks::{NoRoom, PartOctets, Reserved, Side};
 use delivery::MAX_TOPICS;
-use mcast_txn::{NoMemory, Topic};
+use mcast_txn::{NoMemory, Topic, Txn};
 use std::alloc::{AllocError, Global};
 use std::sync::atomic::{AtomicBool, AtomicU64, Ordering};
 use std::sync::{Arc, Mutex, Wait};
@@ -209,17 +210,18 @@ impl<R: Wait, W: Side, T: Side> Hub<R, W, T> {
         }
     }
 
-    /// Room at each of these topics, where nobody waits for it: at all of them, or at the first of them.
+    /// Room at each topic of this transaction, where nobody waits for it: at all of them, or at the first of them.
     #[tactic(auto, using(crate::proofs::LineLemmas::put_none, crate::proofs::LineLemmas::put_next, crate::proofs::LineLemmas::put_at, crate::proofs::LineLemmas::put_all))]
     pub(crate) fn reserve(
         &self,
         rt: &R,
-        topics: &[Topic],
+        txn: &Txn,
         room: &mut Reserved,
     ) -> Result<(), NoRoom>
-        ensures all { OnOk result (room.new ≡ room.old ++ topics.now) }
-        ensures first { OnErr result (IsRoomFrom room.old topics.now room.new) }
+        ensures all { OnOk result (room.new ≡ room.old ++ topics_of txn.now) }
+        ensures first { OnErr result (IsRoomFrom room.old (topics_of txn.now) room.new) }
     {
+        let topics = txn.topics().as_slice();
         for topic in topics {
             if self.is_awaited(*topic) {
                 return Err(NoRoom::Full {
@@ -227,7 +229,10 @@ impl<R: Wait, W: Side, T: Side> Hub<R, W, T> {
                     sub: None,
                 });
             }
-            self.running.broker.reserve_at(rt, *topic, 0, room)?;
+            let octets = PartOctets(txn.octets_at(*topic));
+            self.running
+                .broker
+                .reserve_at(rt, *topic, octets, 0, room)?;
         }
         Ok(())
     }

@@ -9,7 +9,7 @@ use crate::serving::look::Look;
 use crate::serving::moment::Moment;
 use crate::serving::topic_seats::TopicSeats;
 use crate::serving::wait_news::WaitNews;
-use broker_locks::Side;
+use broker_locks::{PartOctets, Side};
 use mcast_txn::Topic;
 use std::alloc::Global;
 use std::sync::Wait;
@@ -60,21 +60,25 @@ impl RoomWait {
         }
     }
 
-    /// It has found no room at this topic, and looks whom it waits for: those for whom it may not wait are passed over.
-    /// Where nobody lacks room, only what is pending or reserved fills the topic, and that isn't looked at. How many it
-    /// passed over.
+    /// It has found no room at this topic for a part of so many octets, and looks whom it waits for: those for whom it may
+    /// not wait are passed over. Where nobody lacks room, only what is pending or reserved fills the topic, and that isn't
+    /// looked at. How many it passed over.
     pub(crate) fn look<R: Wait + Clock, W: Side, T: Side>(
         &mut self,
         rt: &R,
         alloc: Global,
         hub: &Hub<R, W, T>,
         topic: Topic,
+        octets: PartOctets,
     ) -> u64
         ensures counted { (self.new.counted_at ≡ self.old.counted_at) ⊎ (self.new.counted_at ≡ None)
             ⊎ (self.new.counted_at ≡ Some topic) }
     {
         let mut lacking = Vec::new(alloc);
-        let _ = hub.running.broker.lacking(rt, topic, &mut lacking);
+        let _ = hub
+            .running
+            .broker
+            .lacking(rt, topic, octets, &mut lacking);
         if lacking.is_empty() && self.counted_at.is_none() {
             return 0;
         }
@@ -87,7 +91,7 @@ impl RoomWait {
             return 0;
         };
         self.counted_at = Some(topic);
-        let passed_over = pass_over_those(rt, hub, seats, topic, now, &look);
+        let passed_over = pass_over_those(rt, hub, seats, topic, octets, now, &look);
         if let Some(news) = news_of(rt, seats, topic, now, &look, passed_over) {
             self.news = Some(news);
         }
@@ -121,23 +125,33 @@ fn pass_over_those<R: Wait, W: Side, T: Side>(
     hub: &Hub<R, W, T>,
     seats: &TopicSeats,
     topic: Topic,
+    octets: PartOctets,
     now: Moment,
     look: &Look,
 ) -> u64 {
-    let mut count = pass_over(rt, hub, seats, topic, now, look.given_up.as_slice());
+    let mut count = pass_over(
+        rt,
+        hub,
+        seats,
+        topic,
+        octets,
+        now,
+        look.given_up.as_slice(),
+    );
     if !look.may_wait {
-        let dear = pass_over(rt, hub, seats, topic, now, look.dear.as_slice());
+        let dear = pass_over(rt, hub, seats, topic, octets, now, look.dear.as_slice());
         count = count.saturating_add(dear);
     }
     count
 }
 
-/// Passes over these subscriptions, as far as they lack room still; how many.
+/// Passes over these subscriptions, as far as they lack room still for a part of so many octets; how many.
 fn pass_over<R: Wait, W: Side, T: Side>(
     rt: &R,
     hub: &Hub<R, W, T>,
     seats: &TopicSeats,
     topic: Topic,
+    octets: PartOctets,
     now: Moment,
     subs: &[u64],
 ) -> u64
@@ -145,7 +159,7 @@ fn pass_over<R: Wait, W: Side, T: Side>(
 {
     let mut count = 0u64;
     for sub in subs {
-        if hub.running.broker.pass_over(rt, topic, *sub) {
+        if hub.running.broker.pass_over(rt, topic, octets, *sub) {
             seats.pass_over(rt, *sub, now);
             count = count.saturating_add(1);
         }

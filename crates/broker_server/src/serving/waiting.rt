@@ -1,6 +1,7 @@
 //! A transaction that waits for room.
 
 ghost use Rattle.std.specs.Prelude.{◌≡◌, ◌≤◌, ◌++◌, ◌∷◌, [], true, length, slice_get, None, OnOk, OnErr};
+ghost use Rattle.mcast_txn.specs.Transaction.{topics_of};
 ghost use Rattle.broker_server.specs.Lines.{IsRoomAt};
 ghost use Rattle.broker_server.specs.declared.serving.room_step.RoomStep.TheVariants as step;
 
@@ -10,8 +11,8 @@ use crate::serving::mark::Mark;
 use crate::serving::room_step::{RoomFacts, RoomStep, Spot};
 use crate::serving::room_wait::RoomWait;
 use crate::serving::stand::Stand;
-use broker_locks::{NoRoom, Reserved, Side};
-use mcast_txn::Topic;
+use broker_locks::{NoRoom, PartOctets, Reserved, Side};
+use mcast_txn::{Topic, Txn};
 use std::sync::Wait;
 use std::time::Clock;
 
@@ -136,29 +137,29 @@ impl Waiting {
         count
     }
 
-    /// Goes on with one to these topics that has room at the first of them, until it has room at all, or waits.
+    /// Goes on with this one, which has room at the first of its topics, until it has room at all, or waits.
     #[tactic(auto, using(crate::proofs::LineLemmas::whole))]
     pub(crate) fn tries<R: Wait + Clock, W: Side, T: Side>(
         &mut self,
         asker: &Asker<'_, R, W, T>,
-        topics: &[Topic],
+        txn: &Txn,
         room: &mut Reserved,
     ) -> Result<(), Stop>
-        requires { IsRoomAt topics.now room.old }
-        ensures { OnOk result (room.new ≡ topics.now) }
+        requires { IsRoomAt (topics_of txn.now) room.old }
+        ensures { OnOk result (room.new ≡ topics_of txn.now) }
     {
         let rt = asker.rt;
         for _ in rt.forever() {
-            match self.next_step(asker, topics, room) {
+            match self.next_step(asker, txn, room) {
                 RoomStep::Done => {
                     self.finish(asker, room);
                     return Ok(());
                 }
                 RoomStep::Sleep => return Err(Stop::Waits),
-                RoomStep::Ask => self.asks(asker, topics, room)?,
-                RoomStep::TakePlace => self.takes_place(asker, topics, room)?,
-                RoomStep::Join => self.joins(asker, topics, room)?,
-                RoomStep::Look => self.looks(asker, topics, room)?,
+                RoomStep::Ask => self.asks(asker, txn, room)?,
+                RoomStep::TakePlace => self.takes_place(asker, txn, room)?,
+                RoomStep::Join => self.joins(asker, txn, room)?,
+                RoomStep::Look => self.looks(asker, txn, room)?,
             }
         }
         unreachable!()
@@ -168,17 +169,17 @@ impl Waiting {
     fn next_step<R: Wait, W: Side, T: Side>(
         &self,
         asker: &Asker<'_, R, W, T>,
-        topics: &[Topic],
+        txn: &Txn,
         room: &Reserved,
     ) -> RoomStep
-        ensures { result ≡ step.Done → length topics.now ≤ length room.now }
+        ensures { result ≡ step.Done → length (topics_of txn.now) ≤ length room.now }
     {
         let facts = RoomFacts {
-            topics: topics.len(),
+            topics: txn.topics().len(),
             room: room.topics().len(),
             places: self.places,
-            is_refused: self.refused || is_awaited(asker, topics, room),
-            spot: self.spot(asker, topics, room),
+            is_refused: self.refused || is_awaited(asker, txn, room),
+            spot: self.spot(asker, txn, room),
         };
         facts.next_step()
     }
@@ -187,7 +188,7 @@ impl Waiting {
     fn spot<R: Wait, W: Side, T: Side>(
         &self,
         asker: &Asker<'_, R, W, T>,
-        topics: &[Topic],
+        txn: &Txn,
         room: &Reserved,
     ) -> Spot {
         let topic = match self.stand {
@@ -195,7 +196,7 @@ impl Waiting {
             Stand::ForPlace(_) => return Spot::ForPlace,
             Stand::InLine(topic) => topic,
         };
-        match next_topic(topics, room) {
+        match next_topic(txn, room) {
             Some(next) if next.0 == topic.0 => {}
             _ => return Spot::Nowhere,
         }
@@ -210,16 +211,16 @@ impl Waiting {
     fn asks<R: Wait + Clock, W: Side, T: Side>(
         &mut self,
         asker: &Asker<'_, R, W, T>,
-        topics: &[Topic],
+        txn: &Txn,
         room: &mut Reserved,
     ) -> Result<(), Stop>
-        requires { IsRoomAt topics.now room.old }
-        ensures { IsRoomAt topics.now room.new }
+        requires { IsRoomAt (topics_of txn.now) room.old }
+        ensures { IsRoomAt (topics_of txn.now) room.new }
     {
-        let Some(topic) = next_topic(topics, room) else {
+        let Some(topic) = next_topic(txn, room) else {
             return Ok(());
         };
-        match self.asks_at(asker, topic, room) {
+        match self.asks_at(asker, topic, octets_at(txn, topic), room) {
             Ok(()) => Ok(()),
             Err(NoRoom::Full { topic: _, sub: _ }) => {
                 self.refused = true;
@@ -229,18 +230,19 @@ impl Waiting {
         }
     }
 
-    /// Asks for room at this topic; where there is some, it waits there no longer.
+    /// Asks for room at this topic, for a part of so many octets; where there is some, it waits there no longer.
     fn asks_at<R: Wait + Clock, W: Side, T: Side>(
         &mut self,
         asker: &Asker<'_, R, W, T>,
         topic: Topic,
+        octets: PartOctets,
         room: &mut Reserved,
     ) -> Result<(), NoRoom>
         ensures ok { OnOk result (room.new ≡ room.old ++ topic ∷ []) }
         ensures err { OnErr result (room.new ≡ room.old) }
     {
         let broker = &asker.hub.running.broker;
-        broker.reserve_at(asker.rt, topic, self.lacked, room)?;
+        broker.reserve_at(asker.rt, topic, octets, self.lacked, room)?;
         if self.ahead.take().is_some() {
             self.places = self.places.saturating_add(1);
         }
@@ -294,12 +296,13 @@ impl Waiting {
     fn takes_place<R: Wait + Clock, W: Side, T: Side>(
         &mut self,
         asker: &Asker<'_, R, W, T>,
-        topics: &[Topic],
+        txn: &Txn,
         room: &mut Reserved,
     ) -> Result<(), Stop>
-        requires { IsRoomAt topics.now room.old }
-        ensures { IsRoomAt topics.now room.new }
+        requires { IsRoomAt (topics_of txn.now) room.old }
+        ensures { IsRoomAt (topics_of txn.now) room.new }
     {
+        let topics = txn.topics().as_slice();
         let Some(&topic) = topics.get(self.places) else {
             return Ok(());
         };
@@ -333,10 +336,10 @@ impl Waiting {
     fn joins<R: Wait + Clock, W: Side, T: Side>(
         &mut self,
         asker: &Asker<'_, R, W, T>,
-        topics: &[Topic],
+        txn: &Txn,
         room: &Reserved,
     ) -> Result<(), Stop> {
-        let Some(topic) = next_topic(topics, room) else {
+        let Some(topic) = next_topic(txn, room) else {
             return Ok(());
         };
         let Some(seats) = asker.hub.seats(topic) else {
@@ -355,21 +358,22 @@ impl Waiting {
     fn looks<R: Wait + Clock, W: Side, T: Side>(
         &mut self,
         asker: &Asker<'_, R, W, T>,
-        topics: &[Topic],
+        txn: &Txn,
         room: &mut Reserved,
     ) -> Result<(), Stop>
-        requires { IsRoomAt topics.now room.old }
-        ensures { IsRoomAt topics.now room.new }
+        requires { IsRoomAt (topics_of txn.now) room.old }
+        ensures { IsRoomAt (topics_of txn.now) room.new }
     {
-        let Some(topic) = next_topic(topics, room) else {
+        let Some(topic) = next_topic(txn, room) else {
             return Ok(());
         };
         let Some(seats) = asker.hub.seats(topic) else {
             return Err(Stop::Waits);
         };
         let line = seats.line();
+        let octets = octets_at(txn, topic);
         line.set_mark(Mark::Anything);
-        match self.asks_at(asker, topic, room) {
+        match self.asks_at(asker, topic, octets, room) {
             Ok(()) => {
                 self.finds(asker, line);
                 Ok(())
@@ -379,7 +383,7 @@ impl Waiting {
                     line.set_mark(Mark::Rung);
                 } else {
                     self.marks(line, sub);
-                    self.looks_for_whom(asker, topic);
+                    self.looks_for_whom(asker, topic, octets);
                 }
                 Err(Stop::Waits)
             }
@@ -398,20 +402,23 @@ impl Waiting {
         }
     }
 
-    /// It looks whom it waits for at this topic, where somebody may be waited for too long: some connection is behind,
-    /// its thread was woken by time alone, or it is counted as one that waits. Where some were passed over it looks
-    /// again.
+    /// It looks whom it waits for at this topic, with a part of so many octets, where somebody may be waited for too long:
+    /// some connection is behind, its thread was woken by time alone, or it is counted as one that waits. Where some were
+    /// passed over it looks again.
     fn looks_for_whom<R: Wait + Clock, W: Side, T: Side>(
         &mut self,
         asker: &Asker<'_, R, W, T>,
         topic: Topic,
+        octets: PartOctets,
     ) {
         let was_timed = self.timed;
         self.timed = false;
         if !was_timed && !self.wait.is_counted() && !asker.hub.has_behind() {
             return;
         }
-        let count = self.wait.look(asker.rt, asker.alloc, asker.hub, topic);
+        let count = self
+            .wait
+            .look(asker.rt, asker.alloc, asker.hub, topic, octets);
         if count > 0 {
             self.passed_over = self.passed_over.saturating_add(count);
             asker.hub.waiters().ring(asker.rt, asker.desk);
@@ -452,21 +459,27 @@ impl Waiting {
     }
 }
 
-/// The first of these topics at which there is no room.
-fn next_topic(topics: &[Topic], room: &Reserved) -> Option<Topic>
-    ensures { result ≡ slice_get topics.now (length room.now) }
+/// The first topic of this transaction at which there is no room.
+fn next_topic(txn: &Txn, room: &Reserved) -> Option<Topic>
+    ensures { result ≡ slice_get (topics_of txn.now) (length room.now) }
 {
+    let topics = txn.topics().as_slice();
     topics.get(room.topics().len()).copied()
 }
 
 /// Whether others wait for room at the next topic.
 fn is_awaited<R: Wait, W: Side, T: Side>(
     asker: &Asker<'_, R, W, T>,
-    topics: &[Topic],
+    txn: &Txn,
     room: &Reserved,
 ) -> bool {
-    match next_topic(topics, room) {
+    match next_topic(txn, room) {
         Some(topic) => asker.hub.is_awaited(topic),
         None => false,
     }
+}
+
+/// How many octets the part of this transaction at the topic has.
+fn octets_at(txn: &Txn, topic: Topic) -> PartOctets {
+    PartOctets(txn.octets_at(topic))
 }

@@ -7,7 +7,7 @@ use Rattle.delivery.specs.declared.event.Event.{Event}
 use Rattle.delivery.specs.declared.refusal.Refusal.{Refusal}
 use Rattle.delivery.specs.declared.connection_fault.ConnectionFault.{ConnectionFault}
 use Rattle.delivery.specs.declared.outcome.Outcome.TheVariants.{Opened, Done, Flying, Proposed, Failed, Decided, Withdrawn, Cancelled, Turned, Faulted, Leaving, Gone, Refused}
-use Rattle.delivery.specs.Core.Claims.{Claim, begun_count, claims_of, kept_count, sender_claimed}
+use Rattle.delivery.specs.Core.Claims.{Claim, begun_count, claims_of, kept_count, sender_claimed, senders_of, sender_of}
 use Rattle.delivery.specs.Core.State.{Core, new_core}
 use Rattle.delivery.specs.Core.Reports.{report_of}
 use Rattle.delivery.proofs.Core.Agreement.{agreements, all_agree}
@@ -127,6 +127,13 @@ four_claims =
 
 four_senders : map (λ c. sender_claimed c four_claims) (0 ∷ 1 ∷ 2 ∷ 3 ∷ 4 ∷ []) ≡ Some 0 ∷ Some 1 ∷ Some 0 ∷ Some 2 ∷ None ∷ []
 four_senders = refl
+
+-- the senders in their order, and the number of each connection's
+senders_listed : senders_of four_claims ≡ Some p ∷ None ∷ Some q ∷ []
+senders_listed = refl
+
+numbers_of : map (λ c. sender_of c four_claims) (0 ∷ 1 ∷ 2 ∷ 3 ∷ 4 ∷ []) ≡ 0 ∷ 1 ∷ 0 ∷ 2 ∷ 0 ∷ []
+numbers_of = refl
 
 three_begun : begun_count four_claims ≡ 3
 three_begun = refl

@@ -1,7 +1,7 @@
 -- Whom each connection of a core speaks for, and how many senders there are, is as the accepted CONNECTs say.
 use Rattle.std.proofs.Common.{◌≡◌, ℕ, ◌+◌, ◌<◌, ◌==◌, Bool, true, false, cond, not, ◌&&◌, List, [], ◌∷◌, ◌++◌, length, get_or, set, Option, Some, None, inl, inr, refl, sym, ap, subst, ◌∙◌, arith, true≢false}
 use Rattle.std.specs.Prelude.{codes}
-use Rattle.std.specs.List.{list_all}
+use Rattle.std.specs.List.{list_all, position_or_len}
 use Rattle.std.specs.Option.{option_map, option_map_or, option_and_then, option_to_list, option_or, unwrap_or}
 use Rattle.std.proofs.lemmas.Bool.{false≢true, and_parts, ltb-true, eqb-true, eq-eqb, not-false}
 use Rattle.std.proofs.lemmas.List.{length_push}
@@ -42,13 +42,13 @@ use Rattle.delivery.specs.Machine.Moves.{Move, world_after, move_refusal, move_e
 use Rattle.delivery.specs.Machine.Moves.Move.{AddsTopic, Opens, Connects, Commits, Unsubscribes, Disconnects, Errs, Lost, Leaves, Proposes, Decides, Withdraws, Cancels, Learns, Takes}
 use Rattle.delivery.specs.Machine.Runs.{run}
 use Rattle.delivery.specs.Core.Steps.{CoreStep, Reading, frame_in, has_effect}
-use Rattle.delivery.specs.Core.Claims.{Claim, claim_of, claims_of, is_kept, begins, begun_count, kept_sender, claimed_sender, sender_claimed, sender_of}
+use Rattle.delivery.specs.Core.Claims.{Claim, claim_of, claims_of, is_kept, begins, begun_count, kept_sender, claimed_sender, sender_claimed, is_one_client, senders_of, sender_of}
 use Rattle.delivery.specs.Core.Output.{is_cut}
 use Rattle.delivery.specs.Core.State.{Core, core_for, core_of, names_at, moves, topic_moves, frame_move, session_at, is_no_memory}
 use Rattle.delivery.specs.Core.Outcomes.{unless, frame_no_memory, claim_fault, frame_fault, fault_outcomes, outcomes_without, reading_outcomes, outcomes, accepted_outcomes, IsCoreRun}
-use Rattle.sender_gate.proofs.KeptLemmas.{octets_pass}
 use Rattle.delivery.proofs.Machine.SubscriptionSteps.{at_push, set_length}
 use Rattle.delivery.proofs.Machine.InvariantIsKept.{by_refusal, checked}
+use Rattle.delivery.proofs.Core.SenderPlaces.{no_place, place_of}
 
 -- there are as many senders as have begun, and each connection speaks for whom it claimed
 pub record Stand (w : World) (claims : List Claim) : Type 0 where
@@ -334,18 +334,16 @@ number_claimed c [] = refl
 number_claimed c (claim ∷ before) = by (claim.connection == c) claim.client (number_claimed c before)
   where
     kept : (id : List ℕ) (k : Bool)
-        → unwrap_or (cond k (Some (kept_sender id before)) None) (begun_count before) ≡ cond (not k) (begun_count before) (kept_sender id before)
+        → unwrap_or (cond k (Some (kept_sender id before)) None) (begun_count before) ≡ cond k (kept_sender id before) (begun_count before)
     kept id true = refl
     kept id false = refl
 
     by : (b : Bool) (o : Option (List ℕ)) → unwrap_or (sender_claimed c before) 0 ≡ sender_of c before
         → unwrap_or (cond b (Some (unwrap_or (claimed_sender o before) (begun_count before))) (sender_claimed c before)) 0
-        ≡ cond b (option_map_or (λ id. kept_sender id (record { connection = claim.connection; client = o } ∷ before)) o (begun_count before)) (sender_of c before)
+        ≡ cond b (position_or_len (is_one_client o) (senders_of before)) (sender_of c before)
     by false o same = same
-    by true None same = refl
-    by true (Some id) same =
-        kept id (is_kept id before)
-        ∙ ap (λ z. cond (z && not (is_kept id before)) (begun_count before) (kept_sender id before)) (sym (octets_pass id))
+    by true None same = sym (no_place before)
+    by true (Some id) same = kept id (is_kept id before) ∙ sym (place_of id before)
 
 -- whom a connection speaks for its claim says
 pub claims_own : {w : World} (older : List CoreStep) → Stand w (claims_of older) → (c s : ℕ) → (connection_at w c).sender ≡ Some s → s ≡ sender_of c (claims_of older)

@@ -1,22 +1,25 @@
 -- What is delivered by an account in the machine's answers is delivered by what is told of them.
-use Rattle.std.proofs.Common.{◌≡◌, ℕ, ◌+◌, true, false, List, [], ◌∷◌, ◌++◌, map, length, Some, refl, sym, ap, subst, ◌∙◌}
+use Rattle.std.proofs.Common.{◌≡◌, ℕ, ◌+◌, ◌≤◌, true, false, List, [], ◌∷◌, ◌++◌, map, length, Some, refl, sym, ap, subst, ◌∙◌}
 use Rattle.std.proofs.lemmas.Bool.{true≢false}
 use Rattle.std.specs.Prelude.{take, slice_get}
+use Rattle.std.specs.List.{enumerate_from}
 use Rattle.mcast_txn.specs.declared.id.Topic.{Topic}
 use Rattle.mcast_txn.specs.declared.stamp.Stamp.{Stamp}
 use Rattle.mcast_txn.specs.Stamp.{zero_stamp, stamp_lt}
-use Rattle.mcast_txn.specs.Agreed.{CommitRow, committed_id, stamp_of, agreed, EachOnce, SenderOrder}
+use Rattle.mcast_txn.specs.Agreed.{CommitRow, Transaction, committed_id, stamp_of, agreed, EachOnce, SenderOrder}
 use Rattle.mcast_txn.specs.Lists.{In}
-use Rattle.mcast_txn.specs.Span.{Item, last_stamp}
+use Rattle.mcast_txn.specs.Span.{Item, LogRow, last_stamp}
 use Rattle.mcast_group.specs.declared.cause.Cause.TheVariants.{Asked}
 use Rattle.delivery.specs.Machine.Moves.{Answer}
+use Rattle.delivery.specs.Machine.Runs.{commits_of, delivered_items}
 use Rattle.delivery.specs.Theorem.Due.{log_row, due}
 use Rattle.delivery.specs.Theorem.Settled.{SilentAfterClose}
-use Rattle.delivery.specs.Core.Account.{released_frontier}
+use Rattle.delivery.specs.Core.Account.{released_log, released_frontier}
 use Rattle.delivery.specs.Core.Reports.{QueueReport, Report, log_in, span_of}
-use Rattle.delivery.specs.Core.Told.{Told, frontier_of}
-use Rattle.delivery.specs.Core.Answered.{LagsAsAnswered, IsAsAnswered, DeliversAnswers}
+use Rattle.delivery.specs.Core.Told.{Told, committed, frontier_of, handed_count}
+use Rattle.delivery.specs.Core.Answered.{reported_begun, LagsAsAnswered, IsAsAnswered, DeliversAnswers}
 use Rattle.delivery.specs.Core.Delivery.{EndsByLag, IsAsTold, Delivers}
+use Rattle.delivery.proofs.Core.Moments.{at_moment, from_moments, always_one, always_told}
 use Rattle.delivery.proofs.Core.Tells.{tells, tell, committed_told, log_told, frontier_told, handed_told, begun_told, tell_append}
 use Rattle.delivery.proofs.Core.ToldSettled.{end_from, settled_from, silent_at}
 
@@ -70,24 +73,50 @@ pub take_given : {X : Type 0} (xs ys : List X) → take (length xs) (xs ++ ys) �
 take_given [] ys = refl
 take_given (x ∷ xs) ys = ap (λ z. x ∷ z) (take_given xs ys)
 
-queue_told : (capacity s : ℕ) (account : List Answer) (r : Report) (q : QueueReport) → (q.cause ≡ Some Asked → EndsAt q.topic s account)
-    → IsAsAnswered capacity s account r q → IsAsTold capacity s (tell account) r q
-queue_told capacity s account r q asked h = record {
+-- at each moment of what is told a queue is within its bound
+bounded_told : (capacity s : ℕ) (account : List Answer) (q : QueueReport)
+    → ((later before : List Answer) → account ≡ later ++ before → length (due (commits_of account) (span_of q) (released_frontier q.topic before)) ≤ length (delivered_items s before) + capacity)
+    → (later before : List Told) → tell account ≡ later ++ before → length (due (committed (tell account)) (span_of q) (frontier_of q.topic before)) ≤ handed_count s before + capacity
+bounded_told capacity s account q h =
+    at_moment P (tell account) (always_told P (λ txn told k. k) account (always_one Q (λ (z : List Answer). P (tell z)) told account (from_moments Q account h)))
+  where
+    P : List Told → Type 0
+    P before = length (due (committed (tell account)) (span_of q) (frontier_of q.topic before)) ≤ handed_count s before + capacity
+
+    Q : List Answer → Type 0
+    Q before = length (due (commits_of account) (span_of q) (released_frontier q.topic before)) ≤ length (delivered_items s before) + capacity
+
+    told : (before : List Answer) → Q before → P (tell before)
+    told before k =
+        subst (λ (z : List CommitRow). length (due z (span_of q) (frontier_of q.topic (tell before))) ≤ handed_count s (tell before) + capacity) (sym (committed_told account))
+        (subst (λ (z : Stamp). length (due (commits_of account) (span_of q) z) ≤ handed_count s (tell before) + capacity) (sym (frontier_told q.topic before))
+        (subst (λ (n : ℕ). length (due (commits_of account) (span_of q) (released_frontier q.topic before)) ≤ n + capacity) (sym (handed_told s before)) k))
+
+queue_told : (capacity s : ℕ) (account : List Answer) (r : Report) (q : QueueReport) → log_in r q.topic ≡ released_log q.topic account
+    → (q.cause ≡ Some Asked → EndsAt q.topic s account) → IsAsAnswered capacity s account r q → IsAsTold capacity s (tell account) q
+queue_told capacity s account r q log asked h = record {
   ended = λ to i. h.told to (end_from s to account i);
   unended = h.unended;
   asked = λ cause. (let e = asked cause in let a = tell_append e.0 (Answer.Unsubscribed s e.2 ∷ e.1) in
       (a.0, tell e.1, e.2, ap tell e.3 ∙ a.1, e.4 ∙ sym (frontier_told q.topic e.1)));
   lag = λ cause. (let l = h.lag cause in (l.0, l.1, lag_told capacity s account q l.0 l.2));
   exactly_due = h.exactly_due
-      ∙ ap (λ (z : List CommitRow). due z (span_of q) (last_stamp zero_stamp (log_in r q.topic))) (sym (committed_told account));
+      ∙ (ap (λ (z : List LogRow). due (commits_of account) (span_of q) (last_stamp zero_stamp z)) log
+      ∙ (ap (λ (z : List CommitRow). due z (span_of q) (released_frontier q.topic account)) (sym (committed_told account))
+      ∙ ap (due (committed (tell account)) (span_of q)) (sym (frontier_told q.topic account))));
   handed = sym (take_given q.handed h.handed_prefix.0)
       ∙ (ap (λ (z : List Item). take (length q.handed) z) (sym h.handed_prefix.1)
       ∙ ap (λ (n : ℕ). take n q.queued) (ap (λ (z : List Item). length z) h.handed ∙ sym (handed_told s account)));
   taken = ap (λ (z : List Item). length z) h.handed ∙ sym (handed_told s account);
-  bounded = h.bounded;
+  bounded = bounded_told capacity s account q h.bounded;
 }
 
 -- ---- all of it
+
+-- subscriptions with their numbers
+begun_reported : (i : ℕ) (qs : List QueueReport) → enumerate_from i (map (λ (q : QueueReport). (q.topic, q.from)) qs) ≡ reported_begun i qs
+begun_reported i [] = refl
+begun_reported i (q ∷ qs) = ap (λ (z : List (ℕ × Topic × Stamp)). (i, q.topic, q.from) ∷ z) (begun_reported (i + 1) qs)
 
 -- What is delivered by the answers is delivered by what they tell.
 pub delivered_told : (capacity : ℕ) (account : List Answer) (r : Report)
@@ -97,11 +126,11 @@ delivered_told capacity account r asked silent d = record {
   commits = d.commits ∙ ap (map log_row) (sym (committed_told account));
   each_once = subst (λ (z : List CommitRow). EachOnce committed_id stamp_of (agreed z)) (sym (committed_told account)) d.each_once;
   fifo_order = subst (λ (z : List CommitRow). SenderOrder committed_id (agreed z)) (sym (committed_told account)) d.fifo_order;
-  logs = λ t l. d.logs t l ∙ sym (log_told t account);
-  begins = d.begins ∙ sym (begun_told account);
-  queues = λ s q e. queue_told capacity s account r q (asked s q e) (d.queues s q e);
+  logs = λ t. d.logs t ∙ sym (log_told t account);
+  begins = begun_reported 0 r.subscriptions ∙ (d.begins ∙ sym (begun_told account));
+  queues = λ s q e. queue_told capacity s account r q (d.logs q.topic) (asked s q e) (d.queues s q e);
   total_order = d.total_order;
-  validity = λ t row l settled i named. d.validity t row l (settled_from t account settled)
+  validity = λ t row settled i named. d.validity t row (settled_from t account settled)
       (subst (λ (z : List CommitRow). In row z) (committed_told account) i) named;
   silent_after_close = silent_at account silent;
 }

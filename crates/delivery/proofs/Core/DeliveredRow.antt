@@ -1,7 +1,9 @@
 -- The theorem's record, met by one row: its fields can be had together, and their premises are met. Beside it stand reports
--- that it refuses: of a closed subscription that stays open, of lags that are none, and of Takes that had no item.
-use Rattle.std.proofs.Common.{inl, inr, refl, sym, ap, subst, ◌∙◌, arith}
-use Rattle.std.specs.Prelude.{◌≡◌, ℕ, zero, suc, ◌+◌, ◌<◌, ◌++◌, true, length, slice_get, List, [], ◌∷◌, codes, Option, Some, None}
+-- that it refuses: of a closed subscription that stays open, of lags that are none, of one that is left out, of Takes that had
+-- no item, and without logs or a queue's item.
+use Rattle.std.proofs.Common.{inl, inr, refl, sym, ap, subst, ◌∙◌, arith, cond}
+use Rattle.std.proofs.lemmas.Bool.{false≢true}
+use Rattle.std.specs.Prelude.{◌≡◌, ℕ, zero, suc, ◌+◌, ◌≤◌, ◌++◌, Bool, true, false, length, map, slice_get, List, [], ◌∷◌, codes, Option, Some, None}
 use Rattle.mcast_txn.specs.Agreed.{CommitRow, Transaction}
 use Rattle.mcast_txn.specs.Lists.{In}
 use Rattle.mcast_txn.specs.TopicSet.{names}
@@ -11,15 +13,15 @@ use Rattle.mcast_group.specs.declared.cause.Cause.{Cause}
 use Rattle.mcast_group.specs.declared.cause.Cause.TheVariants.{Asked, Lag}
 use Rattle.mcast_group.proofs.Parts.{some_same, none_some}
 use Rattle.mcast_txn.specs.declared.stamp.Stamp.{Stamp}
-use Rattle.mcast_txn.specs.Span.{Item}
-use Rattle.delivery.specs.Theorem.Due.{log_row}
+use Rattle.mcast_txn.specs.Span.{LogRow, Item}
+use Rattle.delivery.specs.Theorem.Due.{log_row, item_at, is_due, due}
 use Rattle.delivery.specs.Machine.Moves.{Answer}
 use Rattle.delivery.specs.Theorem.Laws.{shared_marks}
-use Rattle.delivery.specs.Machine.Runs.{commits_of}
+use Rattle.delivery.specs.Machine.Runs.{commits_of, delivered_items}
 use Rattle.delivery.specs.Core.Reports.{QueueReport, Report}
-use Rattle.delivery.specs.Core.Account.{account_of, released_log}
-use Rattle.delivery.specs.Core.Reports.{report_of, log_in}
-use Rattle.delivery.specs.Core.Told.{Told, told_of, handed_count}
+use Rattle.delivery.specs.Core.Account.{account_of, released_log, released_frontier}
+use Rattle.delivery.specs.Core.Reports.{report_of, log_in, span_of}
+use Rattle.delivery.specs.Core.Told.{Told, told_of, committed as committed_rows, frontier_of, handed_count}
 use Rattle.delivery.specs.Core.Delivery.{Delivers}
 use Rattle.delivery.specs.Core.Answered.{IsAsAnswered, DeliversAnswers}
 use Rattle.delivery.proofs.Core.Acts.{topic, stamp, id, made, part, log_row as row, A}
@@ -54,13 +56,22 @@ report = record {
 ends_report : report_of ends ≡ report
 ends_report = refl
 
-logs : (n : ℕ) → n < 1 → log_in report (topic n) ≡ released_log (topic n) told
-logs zero lt = refl
-logs (suc n) lt = absurd (omega arith)
+logs : (n : ℕ) → log_in report (topic n) ≡ released_log (topic n) told
+logs zero = refl
+logs (suc n) = refl
 
 -- its one subscription
 abbrev ended : Option Stamp → Option Cause → QueueReport
 ended to cause = record { topic = topic 0; from = stamp 0 0; to = to; cause = cause; queued = item ∷ []; handed = [] }
+
+-- the one row that was committed
+abbrev only_row : CommitRow
+only_row = record { txn = record { id = id 0 1; sends = made 0 ((codes "destination", A) ∷ []) (codes "m") ∷ [] }; stamp = stamp 1 0 }
+
+-- it alone may be due
+one_due : (b : Bool) (n : ℕ) → length (map (item_at (topic 0)) (cond b (only_row ∷ []) [])) ≤ n + 64
+one_due true n = omega arith
+one_due false n = omega arith
 
 as_told : IsAsAnswered 64 0 told report (ended (Some (stamp 1 0)) (Some Asked))
 as_told = record {
@@ -71,7 +82,8 @@ as_told = record {
   exactly_due = refl;
   handed = refl;
   handed_prefix = (item ∷ [], refl);
-  bounded = omega arith;
+  bounded = λ later before e.
+      one_due (is_due (span_of (ended (Some (stamp 1 0)) (Some Asked))) (released_frontier (topic 0) before) only_row) (length (delivered_items 0 before));
 }
 
 queues_told : (s : ℕ) (q : QueueReport) → slice_get report.subscriptions s ≡ Some q → IsAsAnswered 64 s told report q
@@ -85,10 +97,11 @@ in_one_order p q (inl e) (inl d) = ap (λ (z : QueueReport). shared_marks z.queu
 in_one_order p q (inl e) (inr none) = absurd none
 in_one_order p q (inr none) j = absurd none
 
-is_logged : (n : ℕ) (row : CommitRow) → n < 1 → In row (commits_of told) → In (log_row row) (log_in report (topic n))
-is_logged zero row lt (inl e) = subst (λ (r : CommitRow). In (log_row r) (log_in report (topic 0))) e (inl refl)
-is_logged zero row lt (inr none) = absurd none
-is_logged (suc n) row lt i = absurd (omega arith)
+is_logged : (n : ℕ) (row : CommitRow) → In row (commits_of told) → names (topic n) (topics_of row.txn.sends) ≡ true → In (log_row row) (log_in report (topic n))
+is_logged zero row (inl e) named = subst (λ (r : CommitRow). In (log_row r) (log_in report (topic 0))) e (inl refl)
+is_logged zero row (inr none) named = absurd none
+is_logged (suc n) row (inl e) named = absurd (false≢true (ap (λ (r : CommitRow). names (topic (suc n)) (topics_of r.txn.sends)) e ∙ named))
+is_logged (suc n) row (inr none) named = absurd none
 
 -- topic 0 is settled: its one transaction was decided, and a turn came after
 abbrev before_turn : List Answer
@@ -113,11 +126,11 @@ by_answers = record {
   commits = refl;
   each_once = (λ y i. absurd i, tt);
   fifo_order = (λ y i same. absurd i, tt);
-  logs = λ t lt. logs t.0 lt;
+  logs = λ t. logs t.0;
   begins = refl;
   queues = queues_told;
   total_order = in_one_order;
-  validity = λ t row lt settled i named. is_logged t.0 row lt i;
+  validity = λ t row settled i named. is_logged t.0 row i named;
   silent_after_close = silent_at told tt;
 }
 
@@ -209,3 +222,46 @@ not_handed capacity d =
 handed_twice : (capacity : ℕ) → Delivers capacity (Told.Handed 0 ∷ Told.Handed 0 ∷ while_open) (record report { subscriptions = record (ended None None) { handed = item ∷ [] } ∷ [] }) → Prim.⊥
 handed_twice capacity d =
     let n : 1 ≡ 2 = (d.queues 0 (record (ended None None) { handed = item ∷ [] }) refl).taken in absurd (omega (arith, n))
+
+-- the row was released, and the report has no log
+no_logs : (capacity : ℕ) → Delivers capacity while_open (record report { logs = []; subscriptions = record (ended None None) { queued = [] } ∷ [] }) → Prim.⊥
+no_logs capacity d = let n : 0 ≡ 1 = ap (λ (z : List LogRow). length z) (d.logs (topic 0)) in absurd (omega (arith, n))
+
+-- nor has its queue the item
+not_queued : (capacity : ℕ) → Delivers capacity while_open (record report { subscriptions = record (ended None None) { queued = [] } ∷ [] }) → Prim.⊥
+not_queued capacity d =
+    let n : 0 ≡ 1 = ap (λ (z : List Item). length z) (d.queues 0 (record (ended None None) { queued = [] }) refl).exactly_due in absurd (omega (arith, n))
+
+-- a second row is released, and then an item is handed on
+abbrev second : Transaction
+second = record { id = id 0 2; sends = made 0 ((codes "destination", A) ∷ []) (codes "m") ∷ [] }
+
+abbrev later_item : Item
+later_item = record { id = id 0 2; stamp = stamp 2 0; sends = part 0 ((codes "destination", A) ∷ []) (codes "m") ∷ [] }
+
+abbrev overtaken : List Told
+overtaken =
+    Told.Handed 0 ∷ Told.Turned (topic 0) 1 ∷ Told.Decided second (stamp 2 0) ∷ Told.Ticket (id 0 2) (topic 0) ∷ Told.Begun second ∷ while_open
+
+-- so a queue of one lags at the first row; it is reported open, with both
+abbrev never_lagged : QueueReport
+never_lagged = record (ended None None) { queued = item ∷ later_item ∷ []; handed = item ∷ [] }
+
+abbrev without_lag : Report
+without_lag = record {
+  commits = row 0 1 1 0 (0 ∷ []) ∷ row 0 2 2 0 (0 ∷ []) ∷ [];
+  logs = (row 0 1 1 0 (0 ∷ []) ∷ row 0 2 2 0 (0 ∷ []) ∷ []) ∷ [];
+  subscriptions = never_lagged ∷ [];
+  outs = report.outs;
+}
+
+lag_left_out : Delivers 1 overtaken without_lag → Prim.⊥
+lag_left_out d =
+    let n : 2 ≤ 0 + 1 = (d.queues 0 never_lagged refl).bounded (Told.Handed 0 ∷ []) _ refl in absurd (omega (arith, n))
+
+-- it is no other clause that refuses it: its queue is what is due at the end, and within its capacity then
+queued_at_end : never_lagged.queued ≡ due (committed_rows overtaken) (span_of never_lagged) (frontier_of (topic 0) overtaken)
+queued_at_end = refl
+
+waiting_at_end : length never_lagged.queued ≤ length never_lagged.handed + 1
+waiting_at_end = omega arith

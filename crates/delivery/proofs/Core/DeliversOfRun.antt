@@ -23,18 +23,20 @@ use Rattle.delivery.specs.Core.State.{Core, core_of}
 use Rattle.delivery.specs.Theorem.Settled.{SilentAfterClose}
 use Rattle.delivery.specs.Core.Outcomes.{IsCoreRun}
 use Rattle.delivery.specs.Core.Reports.{QueueReport, Report, report_of, queue_report, each_number, log_in}
-use Rattle.delivery.specs.Core.Delivery.{reported_begun, Delivers}
+use Rattle.delivery.specs.Core.Delivery.{Delivers}
 use Rattle.delivery.specs.Core.Told.{Told, told_of}
-use Rattle.delivery.specs.Core.Answered.{IsAsAnswered, DeliversAnswers}
+use Rattle.delivery.specs.Core.Answered.{reported_begun, IsAsAnswered, DeliversAnswers}
 use Rattle.delivery.proofs.Theorem.AcceptedIsDue.{reached, accepted_is_due, shared_in_one_order, agreed_once, agreed_in_sender_order}
 use Rattle.delivery.proofs.Theorem.LogIsOfAnswers.{log_is_of_outcomes}
 use Rattle.delivery.proofs.Theorem.SettledLeavesNoneOut.{settled_in_log}
 use Rattle.delivery.proofs.Theorem.ClosedIsSilent.{closed_is_silent}
-use Rattle.delivery.proofs.Theorem.SpansAsAnswered.{handing, spans_end_as_told, queues_are_bounded}
+use Rattle.delivery.proofs.Theorem.SpansAsAnswered.{handing, spans_end_as_told}
 use Rattle.delivery.proofs.Core.Said.{said, said_from, commits_said, delivered_said, beginning_said, released_log_said, released_frontier_said, begun_said, settled_said, silent_said}
 use Rattle.delivery.proofs.Core.Started.{EndsAtFrontier, begin_of, numbered, begun_is, asked_at_frontier}
 use Rattle.delivery.proofs.Core.AccountOfRun.{run_of, core_at, core_is, account_is}
 use Rattle.delivery.proofs.Core.LagsAsTold.{lag_as_told, cause_by, end_by}
+use Rattle.delivery.proofs.Core.BoundedAtEach.{bounded_said}
+use Rattle.delivery.proofs.Core.Moments.{at_moment}
 use Rattle.delivery.proofs.Core.SaidParts.{said_append}
 use Rattle.delivery.proofs.Core.ToldEnds.{silent_at}
 use Rattle.delivery.proofs.Core.DeliveredAsTold.{EndsAt, take_given, delivered_told}
@@ -133,7 +135,7 @@ as_told r names steps s l =
           ∙ ap (λ (z : List LogRow). due (commits_of (said past)) (span_at w s) (last_stamp zero_stamp z)) (sym (log_is r names steps t)));
       handed = handed_is r s l ∙ sym (delivered_said s past);
       handed_prefix = (h.rest, h.is ∙ ap (λ z. z ++ h.rest) (sym (handed_is r s l)));
-      bounded = subst (λ (z : List Item). length (accepted_at w s) ≤ length z + r.capacity) (sym (handed_is r s l)) (queues_are_bounded r s l);
+      bounded = at_moment (λ (z : List Answer). length (due (commits_of (said past)) (span_at w s) (released_frontier t z)) ≤ length (delivered_items s z) + r.capacity) (said past) (bounded_said r s l);
     }
 
 one_order : (r : Run) (names : List (List ℕ)) (steps : List CoreStep) (p q : QueueReport)
@@ -154,13 +156,13 @@ delivers_said names r steps = record {
   commits = ap (map log_row) (sym (reached r).commits ∙ sym (commits_said past));
   each_once = subst (λ z. EachOnce committed_id stamp_of (agreed z)) (sym (commits_said past)) (agreed_once r);
   fifo_order = subst (λ z. SenderOrder committed_id (agreed z)) (sym (commits_said past)) (agreed_in_sender_order r);
-  logs = λ t l. log_is r names steps t ∙ (log_is_of_outcomes r t ∙ sym (released_log_said t past));
+  logs = λ t. log_is r names steps t ∙ (log_is_of_outcomes r t ∙ sym (released_log_said t past));
   begins = reported_is w 0 w.subscriptions (λ j l. ap (subscription_at w) (omega arith)) ∙ (sym (begun_is r) ∙ sym (begun_said past));
   queues = λ s q e. (let k = each_got (queue_report w) 0 w.subscriptions s q e in
       subst (λ (z : QueueReport). IsAsAnswered r.capacity s (said past) (report_at r names steps) z) (ap (queue_report w) (omega arith) ∙ k.1)
       (as_told r names steps s k.0));
   total_order = λ p q i j. one_order r names steps p q i j;
-  validity = λ t row l settled i named.
+  validity = λ t row settled i named.
       subst (λ z. In (log_row row) z) (sym (log_is r names steps t))
       (settled_in_log r t row (settled_said t past settled) (subst (λ z. In row z) (commits_said past) i) named);
   silent_after_close = silent_at (said past) (silent_said past (closed_is_silent r));

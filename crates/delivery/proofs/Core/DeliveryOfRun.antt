@@ -29,9 +29,9 @@ pub delivery : RunsDeliver
 delivery topics capacity steps same run =
     let k = core_of topics capacity steps in let n = counted topics capacity steps same run in
     let names : names_at k ≡ names_after topics.names steps = ap (λ (z : Core). names_at z) (core_is topics capacity steps) in record {
+      read = are_readings topics capacity steps run;
       delivered = delivers_told topics capacity steps run;
       written = record {
-        are_read = are_readings topics capacity steps run;
         output = written topics capacity steps;
         counts = (map_length (λ (x : TopicState). x.held) k.world.topics ∙ (n.0 ∙ ap (λ (z : List (List ℕ)). length z) names), length-each_number (λ c. text_out k.names c k.steps) 0 k.world.connections ∙ n.1);
       };

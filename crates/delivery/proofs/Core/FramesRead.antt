@@ -20,7 +20,7 @@ use Rattle.delivery.specs.Machine.World.{World, Connection, Standing, is_reading
 use Rattle.delivery.specs.Machine.Moves.{Move, needs_open, needs_idle}
 use Rattle.delivery.specs.Machine.Moves.Move.{Errs}
 use Rattle.delivery.specs.Machine.Runs.{run}
-use Rattle.delivery.specs.Core.Steps.{CoreStep, Reading, frame_in, is_fed, is_next, piece_to, fed_octets, frames_of, reader_limits, BeginsWithFrames, AreReadings}
+use Rattle.delivery.specs.Core.Steps.{CoreStep, Reading, frame_in, is_fed, is_next, fed_to, fed_octets, frames_of, reader_limits, BeginsWithFrames, AreReadings}
 use Rattle.delivery.specs.Core.State.{Core, core_of, moves, left_by, unread_after, unread_at, IsReadBy}
 use Rattle.delivery.specs.Core.Outcomes.{unless, fault_outcomes, reading_outcomes, outcomes, IsReadAt, IsCoreRun}
 use Rattle.mcast_txn.proofs.Members.{at_set_within}
@@ -230,13 +230,17 @@ next_of k c d rd o true e r i h =
 
 -- ---- every event
 
+fed_is : (c d : ℕ) (octets : List ℕ) (o : Outcome) → fed_to c (Event.Piece d octets) o ≡ cond (is_fed o) (cond (d == c) octets []) []
+fed_is c d octets Outcome.Fed = refl
+fed_is c d octets o = refl
+
 step_read : (k : Core) (c : ℕ) (e : Event) (rd : Reading) (o : Outcome) → IsReadAt k e rd → In o (outcomes k e rd) → ReadsAt k c
-    → ReadsAfter k c (cond (is_fed o) (piece_to c e) []) (cond (is_next c e) (option_to_list (frame_in rd)) []) (unread_after c (unread_at c k.steps) e rd o) (run (moves k e rd o) k.world)
-step_read k c (Event.Piece d octets) rd o r i h = piece_case k c d octets o (moves k (Event.Piece d octets) rd o) (d == c) (is_fed o) refl refl i h
-step_read k c (Event.Next d) rd o r i h =
-    subst (λ z. ReadsAfter k c z (cond (d == c) (option_to_list (frame_in rd)) []) (cond (d == c) (left_by (unread_at c k.steps) rd) (unread_at c k.steps)) (run (moves k (Event.Next d) rd o) k.world))
-    (sym (same_branch (is_fed o) [])) (next_of k c d rd o (d == c) refl r i h)
-step_read k c event rd o r i h = quiet k c (moves k event rd o) (cond (is_fed o) [] []) (same_branch (is_fed o) []) h
+    → ReadsAfter k c (fed_to c e o) (cond (is_next c e) (option_to_list (frame_in rd)) []) (unread_after c (unread_at c k.steps) e rd o) (run (moves k e rd o) k.world)
+step_read k c (Event.Piece d octets) rd o r i h =
+    subst (λ (z : List ℕ). ReadsAfter k c z [] (cond ((d == c) && is_fed o) (with_piece (unread_at c k.steps) octets) (unread_at c k.steps)) (run (moves k (Event.Piece d octets) rd o) k.world))
+    (sym (fed_is c d octets o)) (piece_case k c d octets o (moves k (Event.Piece d octets) rd o) (d == c) (is_fed o) refl refl i h)
+step_read k c (Event.Next d) rd o r i h = next_of k c d rd o (d == c) refl r i h
+step_read k c event rd o r i h = quiet k c (moves k event rd o) [] refl h
 
 reads_all : (topics : TopicList) (capacity : ℕ) (steps : List CoreStep) → IsCoreRun topics capacity steps → (c : ℕ) → ReadsAt (core_of topics capacity steps) c
 reads_all topics capacity [] is_run c = (refl, inl (refl, ([], ([], refl), refl)))

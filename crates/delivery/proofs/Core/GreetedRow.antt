@@ -76,9 +76,9 @@ first_if false = tt
 first : (c : ℕ) → BeginsWithFrames reader_limits (fed_octets c steps) (frames_of c steps)
 first c = first_if (0 == c)
 
-logs : (n : ℕ) → n < 1 → log_in report (topic n) ≡ released_log (topic n) (Answer.Opened 0 ∷ [])
-logs zero lt = refl
-logs (suc n) lt = absurd (omega arith)
+logs : (n : ℕ) → log_in report (topic n) ≡ released_log (topic n) (Answer.Opened 0 ∷ [])
+logs zero = refl
+logs (suc n) = refl
 
 outs : (c : ℕ) → c < 1 → out_in report c ≡ text_out topics.names c steps
 outs zero lt = refl
@@ -92,19 +92,19 @@ by_answers = record {
   commits = refl;
   each_once = tt;
   fifo_order = tt;
-  logs = λ t lt. logs t.0 lt;
+  logs = λ t. logs t.0;
   begins = refl;
   queues = λ s q e. none_some q e;
   total_order = λ p q i j. absurd i;
-  validity = λ t row lt settled i named. none_logged t.0 row i;
+  validity = λ t row settled i named. none_logged t.0 row i;
   silent_after_close = silent_at (Answer.Opened 0 ∷ []) tt;
 }
 
 is_delivered : Delivery topics 64 steps report
 is_delivered = record {
+  read = record { shown = refl; first = first };
   delivered = delivered_told 64 (Answer.Opened 0 ∷ []) report (λ s q e cause. none_some q e) tt by_answers;
   written = record {
-    are_read = record { shown = refl; first = first };
     output = outs;
     counts = (refl, refl);
   };

@@ -81,7 +81,7 @@ last_split : (base : Stamp) (xs others : List LogRow) (row : LogRow) → last_st
 last_split base [] others row = refl
 last_split base (x ∷ xs) others row = last_split x.stamp xs others row
 
-last_grows : (base : Stamp) (xs ys : List LogRow) → ((r : LogRow) → In r (xs ++ ys) → stamp_lt base r.stamp ≡ true) → Rises row_stamp (xs ++ ys)
+pub last_grows : (base : Stamp) (xs ys : List LogRow) → ((r : LogRow) → In r (xs ++ ys) → stamp_lt base r.stamp ≡ true) → Rises row_stamp (xs ++ ys)
     → stamp_lt (last_stamp base (xs ++ ys)) (last_stamp base xs) ≡ false
 last_grows base [] ys above rises = last_reaches base ys above rises
 last_grows base (x ∷ xs) ys above rises = last_grows x.stamp xs ys rises.0 rises.1

@@ -1,6 +1,6 @@
 -- What is told of the machine's answers comes of one of them. So a topic that is settled, and a subscription that is silent, by what
 -- is told of the answers is so by the answers.
-use Rattle.std.proofs.Common.{◌≡◌, ℕ, true, inl, inr, List, [], ◌∷◌, ◌++◌, refl, sym, ap, subst, ◌∙◌}
+use Rattle.std.proofs.Common.{◌≡◌, ◌⊎◌, ℕ, true, inl, inr, List, [], ◌∷◌, ◌++◌, refl, sym, ap, subst, ◌∙◌}
 use Rattle.std.proofs.lemmas.Bool.{eq-eqb}
 use Rattle.mcast_txn.specs.declared.id.Topic.{Topic}
 use Rattle.mcast_txn.specs.declared.id.TxnId.{TxnId}
@@ -10,7 +10,7 @@ use Rattle.mcast_txn.specs.Lists.{In}
 use Rattle.delivery.specs.Machine.Moves.{Answer}
 use Rattle.delivery.specs.Machine.Runs.{txn_of_id}
 use Rattle.delivery.specs.Theorem.Settled.{closes, SilentAfterClose, IsResolved as Resolved, AllResolved as Resolving, IsSettled as Settled, IsSilent as Silent}
-use Rattle.delivery.specs.Core.Told.{Told, IsResolved, AllResolved, IsSettled, IsSilent}
+use Rattle.delivery.specs.Core.Told.{Told, AllResolved, IsSettled, IsSilent}
 use Rattle.delivery.proofs.Machine.AnswerLemmas.{made_id}
 use Rattle.delivery.proofs.Core.Tells.{tells, tell, source, told_in}
 
@@ -80,7 +80,9 @@ cancelled_from id t past i =
     let h = source (Told.Cancelled id t) past i in
     subst (λ (o : Answer). In o past) (means (Told.Cancelled id t) h.by h.before h.says) h.stands
 
-resolved_from : (t : Topic) (past : List Answer) (txn : Transaction) → IsResolved t (tell past) txn → Resolved t past txn
+resolved_from : (t : Topic) (past : List Answer) (txn : Transaction)
+    → ((stamp : Stamp) × In (Told.Decided txn stamp) (tell past)) ⊎ (In (Told.Withdrawn txn) (tell past) × (In (Told.Ticket txn.id t) (tell past) → In (Told.Cancelled txn.id t) (tell past)))
+    → Resolved t past txn
 resolved_from t past txn (inl d) = inl (d.0, decided_from txn d.0 past d.1)
 resolved_from t past txn (inr d) =
     inr (

@@ -1,7 +1,7 @@
 -- One whole delivery: a connection subscribes to two topics, commits a transaction to both, is delivered an item of the first,
 -- and unsubscribes from it; its queue of the second, which takes one item, lags as a second transaction comes.
-use Rattle.std.proofs.Common.{inl, inr, refl, sym, ap, subst, ◌∙◌, arith}
-use Rattle.std.specs.Prelude.{◌≡◌, ℕ, zero, suc, nat_lt, ◌==◌, ◌<◌, ◌++◌, Bool, true, false, if◌then◌else◌, slice_get, List, [], ◌∷◌, codes, Ok, Some}
+use Rattle.std.proofs.Common.{inl, inr, refl, sym, ap, subst, ◌∙◌, arith, cond}
+use Rattle.std.specs.Prelude.{◌≡◌, ℕ, zero, suc, nat_lt, ◌==◌, ◌<◌, ◌≤◌, ◌+◌, ◌++◌, length, map, Bool, true, false, if◌then◌else◌, slice_get, List, [], ◌∷◌, codes, Ok, Some}
 use Rattle.std.specs.Fmt.{digits}
 use Rattle.std.specs.Option.{option_to_list}
 use Rattle.std.specs.Str.{is_utf8, chars}
@@ -12,6 +12,7 @@ use Rattle.stomp_frame.specs.declared.raw_frame.RawFrame.{RawFrame}
 use Rattle.stomp_frame.specs.declared.command.Command.TheVariants as commands
 use Rattle.stomp_frame.specs.Inner.Parser.{checked, line_at, after_eols, command_of, field_of, header_of, headers_at, counted_at, uncounted_at, body_at, frame_at}
 use Rattle.stomp_frame.proofs.Whole.{begins}
+use Rattle.mcast_txn.specs.declared.id.Topic.{Topic}
 use Rattle.mcast_txn.specs.declared.id.TxnId.{TxnId}
 use Rattle.mcast_txn.specs.declared.stamp.Stamp.{Stamp}
 use Rattle.mcast_txn.specs.Agreed.{CommitRow, Transaction, committed_id, stamp_of, agreed, EachOnce, SenderOrder}
@@ -22,18 +23,19 @@ use Rattle.mcast_txn.specs.Transaction.{topics_of}
 use Rattle.mcast_group.specs.declared.cause.Cause.TheVariants.{Asked, Lag}
 use Rattle.mcast_group.proofs.Parts.{some_same, none_some}
 use Rattle.delivery.specs.declared.event.Event.{Event}
+use Rattle.delivery.specs.declared.outcome.Outcome.{Outcome}
 use Rattle.delivery.specs.declared.outcome.Outcome.TheVariants.{Opened, Fed, Done, Subscribed, Unsubscribed, Flying, Proposed, Decided, Turned, Handed}
 use Rattle.delivery.specs.Topics.{TopicList}
-use Rattle.delivery.specs.Theorem.Due.{log_row}
+use Rattle.delivery.specs.Theorem.Due.{log_row, item_at, is_due}
 use Rattle.delivery.specs.Theorem.Laws.{shared_marks}
 use Rattle.delivery.specs.Theorem.Settled.{SilentAfterClose}
 use Rattle.delivery.specs.Machine.Moves.{Answer}
-use Rattle.delivery.specs.Machine.Runs.{commits_of}
-use Rattle.delivery.specs.Core.Steps.{CoreStep, BeginsWithFrames, fed_octets, frames_of, frame_in, is_fed, reader_limits}
-use Rattle.delivery.specs.Core.Account.{account_of, released_log}
+use Rattle.delivery.specs.Machine.Runs.{commits_of, delivered_items}
+use Rattle.delivery.specs.Core.Steps.{CoreStep, BeginsWithFrames, fed_octets, frames_of, frame_in, reader_limits}
+use Rattle.delivery.specs.Core.Account.{account_of, released_log, released_frontier}
 use Rattle.delivery.specs.Core.Output.{text_out}
 use Rattle.delivery.specs.Core.State.{new_core}
-use Rattle.delivery.specs.Core.Reports.{QueueReport, Report, report_of, log_in, out_in}
+use Rattle.delivery.specs.Core.Reports.{QueueReport, Report, report_of, log_in, out_in, span_of}
 use Rattle.delivery.specs.Core.Told.{Told, told_of}
 use Rattle.delivery.specs.Core.Delivery.{Delivery}
 use Rattle.delivery.specs.Core.Answered.{IsAsAnswered, DeliversAnswers}
@@ -135,13 +137,13 @@ unfolding checked line_at after_eols command_of field_of header_of headers_at co
 eight_is = refl
 
 -- what was fed to a connection and read of it, where it is connection 0, and where it isn't
-abbrev piece_if : Bool → Event → List ℕ
-piece_if b (Event.Piece d octets) = if b then octets else []
-piece_if b e = []
+abbrev piece_if : Bool → Event → Outcome → List ℕ
+piece_if b (Event.Piece d octets) Outcome.Fed = if b then octets else []
+piece_if b e o = []
 
 abbrev fed_if : Bool → List CoreStep → List ℕ
 fed_if b [] = []
-fed_if b (step ∷ older) = fed_if b older ++ (if is_fed step.outcome then piece_if b step.event else [])
+fed_if b (step ∷ older) = fed_if b older ++ piece_if b step.event step.outcome
 
 abbrev next_if : Bool → Event → Bool
 next_if b (Event.Next d) = b
@@ -281,10 +283,15 @@ once = (
 in_order : SenderOrder committed_id (agreed (commits_of told))
 in_order = ((λ y k same. elim k [ inl e ↦ subst (λ (z : CommitRow). nat_lt 1 z.txn.id.seq ≡ true) e refl | inr none ↦ absurd none ]), ((λ y k same. absurd k), tt))
 
-logs : (n : ℕ) → n < 2 → log_in report (topic n) ≡ released_log (topic n) told
-logs zero lt = refl
-logs (suc zero) lt = refl
-logs (suc (suc n)) lt = absurd (omega arith)
+logs : (n : ℕ) → log_in report (topic n) ≡ released_log (topic n) told
+logs zero = refl
+logs (suc zero) = refl
+logs (suc (suc n)) = refl
+
+-- where one row is due at most, a queue of one item is bounded
+one_due : (b : Bool) (row : CommitRow) (t : Topic) (n : ℕ) → length (map (item_at t) (cond b (row ∷ []) [])) ≤ n + 1
+one_due true row t n = omega arith
+one_due false row t n = omega arith
 
 closed_told : IsAsAnswered 1 0 told report closed
 closed_told = record {
@@ -295,7 +302,8 @@ closed_told = record {
   exactly_due = refl;
   handed = refl;
   handed_prefix = ([], refl);
-  bounded = omega arith;
+  bounded = λ later before e.
+      one_due (is_due (span_of closed) (released_frontier (topic 0) before) first_row) first_row (topic 0) (length (delivered_items 0 before));
 }
 
 lagged_told : IsAsAnswered 1 1 told report lagged
@@ -320,7 +328,8 @@ lagged_told = record {
   exactly_due = refl;
   handed = refl;
   handed_prefix = ([], refl);
-  bounded = omega arith;
+  bounded = λ later before e.
+      one_due (is_due (span_of lagged) (released_frontier (topic 1) before) first_row) first_row (topic 1) (length (delivered_items 1 before));
 }
 
 queues_told : (s : ℕ) (q : QueueReport) → slice_get report.subscriptions s ≡ Some q → IsAsAnswered 1 s told report q
@@ -344,14 +353,16 @@ in_one_order p q i j = by_first p q i (by_second q j)
     by_first p q (inr (inl e)) h = subst (λ (z : QueueReport). InOrder z q) e h.1
     by_first p q (inr (inr none)) h = absurd none
 
-is_logged : (n : ℕ) (r : CommitRow) → n < 2 → In r (commits_of told) → names (topic n) (topics_of r.txn.sends) ≡ true → In (log_row r) (log_in report (topic n))
-is_logged zero r lt (inl e) named = subst (λ (z : CommitRow). In (log_row z) (log_in report (topic 0))) e (inl refl)
-is_logged zero r lt (inr (inl e)) named = absurd (false≢true (ap (λ (z : CommitRow). names (topic 0) (topics_of z.txn.sends)) e ∙ named))
-is_logged zero r lt (inr (inr none)) named = absurd none
-is_logged (suc zero) r lt (inl e) named = subst (λ (z : CommitRow). In (log_row z) (log_in report (topic 1))) e (inl refl)
-is_logged (suc zero) r lt (inr (inl e)) named = subst (λ (z : CommitRow). In (log_row z) (log_in report (topic 1))) e (inr (inl refl))
-is_logged (suc zero) r lt (inr (inr none)) named = absurd none
-is_logged (suc (suc n)) r lt i named = absurd (omega arith)
+is_logged : (n : ℕ) (r : CommitRow) → In r (commits_of told) → names (topic n) (topics_of r.txn.sends) ≡ true → In (log_row r) (log_in report (topic n))
+is_logged zero r (inl e) named = subst (λ (z : CommitRow). In (log_row z) (log_in report (topic 0))) e (inl refl)
+is_logged zero r (inr (inl e)) named = absurd (false≢true (ap (λ (z : CommitRow). names (topic 0) (topics_of z.txn.sends)) e ∙ named))
+is_logged zero r (inr (inr none)) named = absurd none
+is_logged (suc zero) r (inl e) named = subst (λ (z : CommitRow). In (log_row z) (log_in report (topic 1))) e (inl refl)
+is_logged (suc zero) r (inr (inl e)) named = subst (λ (z : CommitRow). In (log_row z) (log_in report (topic 1))) e (inr (inl refl))
+is_logged (suc zero) r (inr (inr none)) named = absurd none
+is_logged (suc (suc n)) r (inl e) named = absurd (false≢true (ap (λ (z : CommitRow). names (topic (suc (suc n))) (topics_of z.txn.sends)) e ∙ named))
+is_logged (suc (suc n)) r (inr (inl e)) named = absurd (false≢true (ap (λ (z : CommitRow). names (topic (suc (suc n))) (topics_of z.txn.sends)) e ∙ named))
+is_logged (suc (suc n)) r (inr (inr none)) named = absurd none
 
 -- no item came after a close
 silent : SilentAfterClose told
@@ -365,11 +376,11 @@ by_answers = record {
   commits = refl;
   each_once = once;
   fifo_order = in_order;
-  logs = λ t lt. logs t.0 lt;
+  logs = λ t. logs t.0;
   begins = refl;
   queues = queues_told;
   total_order = in_one_order;
-  validity = λ t r lt settled i named. is_logged t.0 r lt i named;
+  validity = λ t r settled i named. is_logged t.0 r i named;
   silent_after_close = silent_at told silent;
 }
 
@@ -388,9 +399,9 @@ outs (suc c) lt = absurd (omega arith)
 
 is_delivered : Delivery topics 1 steps report
 is_delivered = record {
+  read = record { shown = refl; first = first };
   delivered = delivered_told 1 told report asked_at silent by_answers;
   written = record {
-    are_read = record { shown = refl; first = first };
     output = outs;
     counts = (refl, refl);
   };

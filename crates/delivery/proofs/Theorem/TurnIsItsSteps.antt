@@ -127,15 +127,15 @@ turn_is_its_steps w t = elim (cases_lt t.0 (length w.topics)) [
 -- ---- the log
 
 -- y's log is x's with more rows behind
-record Longer (x y : TopicState) : Type 0 where
-  rows : List LogRow
-  is : y.held ≡ x.held ++ rows
+pub record Longer (x y : TopicState) : Type 0 where
+  pub rows : List LogRow
+  pub is : y.held ≡ x.held ++ rows
 
 append_nothing : (xs : List LogRow) → xs ≡ xs ++ []
 append_nothing [] = refl
 append_nothing (x ∷ xs) = ap (λ z. x ∷ z) (append_nothing xs)
 
-Longer-same : (x y : TopicState) → y.held ≡ x.held → Longer x y
+pub Longer-same : (x y : TopicState) → y.held ≡ x.held → Longer x y
 Longer-same x y e = record { rows = []; is = e ∙ append_nothing x.held }
 
 Longer-then : (x y z : TopicState) → Longer x y → Longer y z → Longer x z
@@ -144,7 +144,7 @@ Longer-then x y z a b = record {
   is = b.is ∙ (ap (λ (rows : List LogRow). rows ++ b.rows) a.is ∙ append_assoc x.held a.rows b.rows);
 }
 
-released_longer : (accepts : Entry → Bool) (x : TopicState) (o : Option Pending) → Longer x (after_release_if accepts x o)
+pub released_longer : (accepts : Entry → Bool) (x : TopicState) (o : Option Pending) → Longer x (after_release_if accepts x o)
 released_longer accepts x None = Longer-same x x refl
 released_longer accepts x (Some p) = record { rows = row_of p ∷ []; is = refl }
 
@@ -153,7 +153,7 @@ times_longer accepts zero x = Longer-same x x refl
 times_longer accepts (suc k) x =
     let y = after_release accepts x in Longer-then x y (after_releases accepts k y) (released_longer accepts x (due_part x)) (times_longer accepts k y)
 
-turned_longer : (accepts : Entry → Bool) (find : TxnId → Option Decision) (x : TopicState) → Longer x (after_turn accepts find x)
+pub turned_longer : (accepts : Entry → Bool) (find : TxnId → Option Decision) (x : TopicState) → Longer x (after_turn accepts find x)
 turned_longer accepts find x =
     let y = after_tries find x.pending x in
     Longer-then x y (after_turn accepts find x) (Longer-same x y (tried_all_held find x.pending x)) (times_longer accepts (length y.pending) y)

@@ -61,7 +61,7 @@ pub fronted : {capacity : ℕ} (account : List Answer) (r : Report) → Delivers
 fronted account r d t = elim (cases_lt t.0 (length r.logs)) [
   | inl l ↦ record {
     count = released_at t account;
-    is = d.logs t l ∙ ap (take (released_at t account)) (sym (filter_mapped (at_topic t) log_row (agreed (commits_of account))));
+    is = d.logs t ∙ ap (take (released_at t account)) (sym (filter_mapped (at_topic t) log_row (agreed (commits_of account))));
   }
   | inr l ↦ record { count = 0; is = get_or_past r.logs t.0 [] l ∙ none_taken (filter (at_topic t) (sequence account)) }
 ]
@@ -213,4 +213,4 @@ complete account r d known settled row t k named =
     let there = In-sorted_cases stamp_of m.from (commits_of account) m.stands in
     let names_it = subst (λ (z : LogRow). names t z.topics ≡ true) (sym m.is) named in
     let l = known m.from t there names_it in
-    subst (λ z. In row z) (sym (log_is r t)) (subst (λ z. In z (log_in r t)) m.is (d.validity t m.from l (settled t l) there names_it))
+    subst (λ z. In row z) (sym (log_is r t)) (subst (λ z. In z (log_in r t)) m.is (d.validity t m.from (settled t l) there names_it))

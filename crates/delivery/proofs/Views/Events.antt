@@ -16,6 +16,7 @@ pub mod WithdrawStep
 pub mod NextStep
 pub mod FrameTopic
 pub mod NextFaults
+pub mod UntoldVersion
 pub mod NextFrames
 pub mod NextSubs
 pub mod NextTxns

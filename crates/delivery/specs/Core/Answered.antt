@@ -2,7 +2,7 @@
 -- report of which `Core/Delivery` says the same in fewer words. Here each item that was handed on is told
 -- with all that it holds, and an end that was asked for is at the frontier of the topic that the account
 -- says.
-use Rattle.std.specs.Prelude.{◌≡◌, ℕ, ◌+◌, ◌<◌, ◌≤◌, true, false, List, [], ◌∷◌, ◌++◌, map, length, slice_get, Some, None}
+use Rattle.std.specs.Prelude.{◌≡◌, ℕ, ◌+◌, ◌≤◌, true, false, List, [], ◌∷◌, ◌++◌, map, length, slice_get, Some, None}
 use Rattle.mcast_txn.specs.declared.id.Topic.{Topic}
 use Rattle.mcast_txn.specs.declared.stamp.Stamp.{Stamp}
 use Rattle.mcast_txn.specs.Stamp.{zero_stamp, stamp_lt}
@@ -23,7 +23,7 @@ use Rattle.delivery.specs.Core.Account.{released_log, released_frontier, beginni
 use Rattle.delivery.specs.Core.State.{core_of}
 use Rattle.delivery.specs.Core.Outcomes.{IsCoreRun}
 use Rattle.delivery.specs.Core.Reports.{QueueReport, Report, report_of, log_in, span_of}
-use Rattle.delivery.specs.Core.Delivery.{reported_begun, last_queued}
+use Rattle.delivery.specs.Core.Delivery.{last_queued}
 
 -- ---- where spans begin and end
 
@@ -32,6 +32,11 @@ abbrev pub begun_in : List Answer → List (ℕ × Topic × Stamp)
 begun_in [] = []
 begun_in (Answer.Subscribed s c t from ∷ before) = begun_in before ++ (s, t, released_frontier t before) ∷ []
 begun_in (o ∷ before) = begun_in before
+
+-- the same of a report, where the first has number i
+abbrev pub reported_begun : ℕ → List QueueReport → List (ℕ × Topic × Stamp)
+reported_begun i [] = []
+reported_begun i (q ∷ qs) = (i, q.topic, q.from) ∷ reported_begun (i + 1) qs
 
 -- The span of subscription s ended by lag: a row came to its topic's log for which its queue had no room. So
 -- where the queue holds 2 and rows 1, 2 and 3 come before a Take, it ends at row 2's stamp.
@@ -58,7 +63,8 @@ pub record LagsAsAnswered (capacity s : ℕ) (account : List Answer) (q : QueueR
 -- lag: an end by lag is that of a full queue.
 -- exactly_due: what its queue accepted is what is due to it.
 -- handed, handed_prefix: what was delivered is what Takes delivered, the front of the queue.
--- bounded: the queue has no more than its capacity that wasn't delivered.
+-- bounded: at no moment did the queue have more than its capacity that wasn't delivered: of what is due,
+-- what is at most the topic's frontier then.
 pub record IsAsAnswered (capacity s : ℕ) (account : List Answer) (r : Report) (q : QueueReport) : Type 0 where
   pub told : (to : Stamp) → In (Answer.Unsubscribed s to) account → q.to ≡ Some to
   pub unended : q.cause ≡ None → q.to ≡ None
@@ -69,7 +75,9 @@ pub record IsAsAnswered (capacity s : ℕ) (account : List Answer) (r : Report) 
   pub exactly_due : q.queued ≡ due (commits_of account) (span_of q) (last_stamp zero_stamp (log_in r q.topic))
   pub handed : q.handed ≡ delivered_items s account
   pub handed_prefix : (rest : List Item) × (q.queued ≡ q.handed ++ rest)
-  pub bounded : length q.queued ≤ length q.handed + capacity
+  pub bounded : (later before : List Answer) → account ≡ later ++ before
+      → length (due (commits_of account) (span_of q) (released_frontier q.topic before))
+      ≤ length (delivered_items s before) + capacity
 
 -- ---- what is delivered
 
@@ -80,7 +88,7 @@ pub record DeliversAnswers (capacity : ℕ) (account : List Answer) (r : Report)
   pub each_once : EachOnce committed_id stamp_of (agreed (commits_of account))
   pub fifo_order : SenderOrder committed_id (agreed (commits_of account))
   -- each log is as many rows of the agreed sequence as were released
-  pub logs : (t : Topic) → t.0 < length r.logs → log_in r t ≡ released_log t account
+  pub logs : (t : Topic) → log_in r t ≡ released_log t account
   -- each subscription begins where its topic's log ended then; its end, its queue and what was delivered of
   -- it are as told
   pub begins : reported_begun 0 r.subscriptions ≡ begun_in account
@@ -90,9 +98,8 @@ pub record DeliversAnswers (capacity : ℕ) (account : List Answer) (r : Report)
   pub total_order : (p q : QueueReport) → In p r.subscriptions → In q r.subscriptions
       → shared_marks p.queued q.queued ≡ shared_marks q.queued p.queued
   -- a settled topic's log leaves no committed transaction out
-  pub validity : (t : Topic) (row : CommitRow) → t.0 < length r.logs → IsSettled t account
-      → In row (commits_of account) → names t (topics_of row.txn.sends) ≡ true
-      → In (log_row row) (log_in r t)
+  pub validity : (t : Topic) (row : CommitRow) → IsSettled t account → In row (commits_of account)
+      → names t (topics_of row.txn.sends) ≡ true → In (log_row row) (log_in r t)
   -- nothing is delivered to a closed subscription, nor to one of a closed connection
   pub silent_after_close : (later before : List Answer) (s : ℕ) (item : Item)
       → account ≡ later ++ Answer.Handed s item ∷ before → IsSilent s before → Prim.⊥

@@ -1,6 +1,6 @@
 -- Which sender a connection speaks for, from the CONNECTs of a run that were accepted alone.
 use Rattle.std.specs.Prelude.{ℕ, ◌+◌, ◌==◌, nat_lt, Bool, true, false, not, ◌&&◌, ◌||◌, List, [], ◌∷◌, ◌++◌, Option, Some, None, if◌then◌else◌}
-use Rattle.std.specs.List.{list_any}
+use Rattle.std.specs.List.{list_any, position_or_len}
 use Rattle.std.specs.Option.{is_some, option_map_or, unwrap_or}
 use Rattle.std.specs.Str.{bytes_eq}
 use Rattle.stomp_frame.specs.declared.raw_frame.RawFrame.{RawFrame}
@@ -65,12 +65,26 @@ sender_claimed c (claim ∷ before) =
     then Some (unwrap_or (claimed_sender claim.client before) (begun_count before))
     else sender_claimed c before
 
--- The same as a number: that of its client-id, or of as many as had begun before. Before its claim, 0.
+-- they are one client-id
+abbrev pub is_one_client : Option (List ℕ) → Option (List ℕ) → Bool
+is_one_client (Some id) (Some other) = bytes_eq id other
+is_one_client client other = false
+
+-- The senders that have begun, in their order, each by its client-id. So after claims of p, without a
+-- client-id, of p and of q, in this order, there are p, one without and q.
+abbrev pub senders_of : List Claim → List (Option (List ℕ))
+senders_of [] = []
+senders_of (claim ∷ before) =
+    let senders = senders_of before in
+    if list_any (is_one_client claim.client) senders then senders else senders ++ claim.client ∷ []
+
+-- The sender that connection c speaks for, by its place among them: that of its client-id, or the next to
+-- begin. Before its claim, 0.
 abbrev pub sender_of : ℕ → List Claim → ℕ
 sender_of c [] = 0
 sender_of c (claim ∷ before) =
-    let number = option_map_or (λ id. kept_sender id (claim ∷ before)) claim.client (begun_count before) in
-    if claim.connection == c then number else sender_of c before
+    if claim.connection == c then position_or_len (is_one_client claim.client) (senders_of before)
+    else sender_of c before
 
 -- how many of the senders that have begun are kept
 abbrev pub kept_count : List Claim → ℕ

@@ -1,14 +1,15 @@
 -- What the core is to deliver: the statement over the steps of a run and its report alone, and that each run
 -- of the core's definitions meets it. It mentions no clock, no floor and no pending part.
 use Rattle.std.specs.Prelude.{◌≡◌, ℕ, ◌+◌, ◌<◌, ◌≤◌, true, false, List, [], ◌∷◌, ◌++◌, map, length, reverse, take, slice_get, Some, None}
+use Rattle.std.specs.List.{enumerate_from}
 use Rattle.mcast_txn.specs.declared.id.Topic.{Topic}
 use Rattle.mcast_txn.specs.declared.stamp.Stamp.{Stamp}
-use Rattle.mcast_txn.specs.Stamp.{zero_stamp, stamp_lt}
+use Rattle.mcast_txn.specs.Stamp.{stamp_lt}
 use Rattle.mcast_txn.specs.Transaction.{topics_of}
 use Rattle.mcast_txn.specs.TopicSet.{names}
 use Rattle.mcast_txn.specs.Lists.{In}
 use Rattle.mcast_txn.specs.Agreed.{CommitRow, committed_id, stamp_of, agreed, EachOnce, SenderOrder}
-use Rattle.mcast_txn.specs.Span.{Item, last_stamp}
+use Rattle.mcast_txn.specs.Span.{Item}
 use Rattle.mcast_group.specs.declared.cause.Cause.TheVariants.{Asked, Lag}
 use Rattle.delivery.specs.declared.outcome.Outcome.{Outcome}
 use Rattle.delivery.specs.declared.kept.Kept.{Kept}
@@ -29,11 +30,6 @@ abbrev pub begun_in : List Told → List (ℕ × Topic × Stamp)
 begun_in [] = []
 begun_in (Told.Subscribed s c t ∷ before) = begun_in before ++ (s, t, frontier_of t before) ∷ []
 begun_in (o ∷ before) = begun_in before
-
--- the same of a report, where the first has number i
-abbrev pub reported_begun : ℕ → List QueueReport → List (ℕ × Topic × Stamp)
-reported_begun i [] = []
-reported_begun i (q ∷ qs) = (i, q.topic, q.from) ∷ reported_begun (i + 1) qs
 
 -- the stamp of the last of these items, or else this one
 abbrev pub last_queued : Stamp → List Item → Stamp
@@ -61,20 +57,23 @@ pub record EndsByLag (capacity s : ℕ) (told : List Told) (q : QueueReport) (en
 -- unended: without a cause there is no end.
 -- asked: where an end was asked for, one was answered, and it is the topic's frontier then.
 -- lag: an end by lag is that of a full queue.
--- exactly_due: what its queue accepted is what is due to it.
+-- exactly_due: what its queue accepted is what is due to it, up to the topic's frontier.
 -- handed: of that, as many from the front were delivered as Takes handed on.
 -- taken: there were as many: each Take that was answered so handed an item on.
--- bounded: the queue has no more than its capacity that wasn't delivered.
-pub record IsAsTold (capacity s : ℕ) (told : List Told) (r : Report) (q : QueueReport) : Type 0 where
+-- bounded: at no moment did its queue have more than its capacity that wasn't delivered: of what is due to
+-- it, what is at most the topic's frontier then. So where the queue holds 1 and rows 1 and 2 come before a
+-- Take, it lags: row 2 isn't due to it, whatever is taken later.
+pub record IsAsTold (capacity s : ℕ) (told : List Told) (q : QueueReport) : Type 0 where
   pub ended : (to : Stamp) → In (Told.Unsubscribed s to) told → q.to ≡ Some to
   pub unended : q.cause ≡ None → q.to ≡ None
   pub asked : q.cause ≡ Some Asked → (later before : List Told) × (to : Stamp)
       × (told ≡ later ++ Told.Unsubscribed s to ∷ before) × (to ≡ frontier_of q.topic before)
   pub lag : q.cause ≡ Some Lag → (end : Stamp) × (q.to ≡ Some end) × EndsByLag capacity s told q end
-  pub exactly_due : q.queued ≡ due (committed told) (span_of q) (last_stamp zero_stamp (log_in r q.topic))
+  pub exactly_due : q.queued ≡ due (committed told) (span_of q) (frontier_of q.topic told)
   pub handed : q.handed ≡ take (handed_count s told) q.queued
   pub taken : length q.handed ≡ handed_count s told
-  pub bounded : length q.queued ≤ length q.handed + capacity
+  pub bounded : (later before : List Told) → told ≡ later ++ before
+      → length (due (committed told) (span_of q) (frontier_of q.topic before)) ≤ handed_count s before + capacity
 
 -- ---- what is delivered
 
@@ -85,21 +84,23 @@ pub record Delivers (capacity : ℕ) (told : List Told) (r : Report) : Type 0 wh
   pub commits : r.commits ≡ map log_row (committed told)
   pub each_once : EachOnce committed_id stamp_of (agreed (committed told))
   pub fifo_order : SenderOrder committed_id (agreed (committed told))
-  -- each log is as many rows of the agreed sequence as were released
-  pub logs : (t : Topic) → t.0 < length r.logs → log_in r t ≡ told_log t told
+  -- each log is as many rows of the agreed sequence as were released: none where the topic isn't there
+  pub logs : (t : Topic) → log_in r t ≡ told_log t told
   -- each subscription begins where its topic's log ended then; its end, its queue and what was delivered of
   -- it are as told
-  pub begins : reported_begun 0 r.subscriptions ≡ begun_in told
-  pub queues : (s : ℕ) (q : QueueReport) → slice_get r.subscriptions s ≡ Some q → IsAsTold capacity s told r q
+  pub begins : enumerate_from 0 (map (λ q. (q.topic, q.from)) r.subscriptions) ≡ begun_in told
+  pub queues : (s : ℕ) (q : QueueReport) → slice_get r.subscriptions s ≡ Some q → IsAsTold capacity s told q
   -- two subscriptions have what they share in one order
   pub total_order : (p q : QueueReport) → In p r.subscriptions → In q r.subscriptions
       → shared_marks p.queued q.queued ≡ shared_marks q.queued p.queued
   -- a settled topic's log leaves no committed transaction out
-  pub validity : (t : Topic) (row : CommitRow) → t.0 < length r.logs → IsSettled t told
-      → In row (committed told) → names t (topics_of row.txn.sends) ≡ true → In (log_row row) (log_in r t)
+  pub validity : (t : Topic) (row : CommitRow) → IsSettled t told → In row (committed told)
+      → names t (topics_of row.txn.sends) ≡ true → In (log_row row) (log_in r t)
   -- nothing is delivered to a closed subscription, nor to one of a closed connection
   pub silent_after_close : (later before : List Told) (s : ℕ)
       → told ≡ later ++ Told.Handed s ∷ before → IsSilent s before → Prim.⊥
+
+-- ---- what is written
 
 -- the connections that a step opened
 abbrev pub opened_by : Outcome → ℕ
@@ -111,22 +112,21 @@ abbrev pub opened_in : List CoreStep → ℕ
 opened_in [] = 0
 opened_in (step ∷ older) = opened_in older + opened_by step.outcome
 
--- What was read and written, by the steps.
--- are_read: what was read of each connection are the first frames of the octets that it was fed.
+-- What was written, by the steps.
 -- output: each connection's octets out are those that the steps say.
 -- counts: there is a log of each topic, those that were made among them, and there are octets out of each
 -- connection that was opened.
-pub record IsReadAndWritten (names : List (List ℕ)) (steps : List CoreStep) (r : Report) : Type 0 where
-  pub are_read : AreReadings steps
+pub record IsWritten (names : List (List ℕ)) (steps : List CoreStep) (r : Report) : Type 0 where
   pub output : (c : ℕ) → c < length r.outs → out_in r c ≡ text_out names c steps
   pub counts : (length r.logs ≡ length (names_after names steps)) × (length r.outs ≡ opened_in steps)
 
--- The delivery of a run over these topics whose queues have this capacity, and its report: what its steps
--- tell is delivered, what was read are the first frames of each connection's octets, and each connection's
--- octets out are what the steps say. `proofs/Core/WholeRow` has one.
+-- The delivery of a run over these topics whose queues have this capacity, and its report: what was read are
+-- the first frames of each connection's octets, what its steps tell is delivered, and each connection's octets
+-- out are what the steps say. `proofs/Core/WholeRow` has one.
 pub record Delivery (topics : TopicList) (capacity : ℕ) (steps : List CoreStep) (r : Report) : Type 0 where
+  pub read : AreReadings steps
   pub delivered : Delivers capacity (told_of topics.names steps) r
-  pub written : IsReadAndWritten topics.names steps r
+  pub written : IsWritten topics.names steps r
 
 -- ---- of every run
 

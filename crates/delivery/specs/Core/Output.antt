@@ -1,6 +1,6 @@
 -- The octets that are written to a connection, from a run's steps alone.
-use Rattle.std.specs.Prelude.{ℕ, ◌==◌, Bool, true, false, not, ◌&&◌, List, [], ◌∷◌, ◌++◌, map, filter, Option, Some, None, if◌then◌else◌}
-use Rattle.std.specs.List.{list_any, flat_map, last_or}
+use Rattle.std.specs.Prelude.{ℕ, ◌==◌, Bool, true, false, not, ◌&&◌, List, [], ◌∷◌, ◌++◌, codes, length, map, filter, Option, Some, None, if◌then◌else◌}
+use Rattle.std.specs.List.{list_any, flat_map, last_or, enumerate_from}
 use Rattle.std.specs.Option.{option_map_or, option_and_then}
 use Rattle.mcast_txn.specs.declared.id.TxnId.{TxnId}
 use Rattle.mcast_txn.specs.Ids.{same_id}
@@ -10,11 +10,13 @@ use Rattle.stomp_frame.specs.declared.case_fault.CaseFault.{CaseFault}
 use Rattle.stomp_frame.specs.declared.case_fault.RequiredHeader.{RequiredHeader}
 use Rattle.stomp_frame.specs.declared.raw_frame.RawFrame.{RawFrame}
 use Rattle.stomp_frame.specs.Cases.{is_connect}
+use Rattle.stomp_frame.specs.Headers.{first_of}
 use Rattle.stomp_frame.specs.Receipts.{receipt_of}
-use Rattle.stomp_frame.specs.ServerFrames.{message_frame, message_id, error_frame, connected_frame, receipt_frame}
+use Rattle.stomp_frame.specs.ServerFrames.{message_frame, part_message_frame, message_id, error_frame, connected_frame, receipt_frame}
 use Rattle.stomp_frame.specs.Writing.{spelling_of}
 use Rattle.stomp_session.specs.declared.fault.SessionFault.{SessionFault}
-use Rattle.stomp_session.specs.Frames.{id_of, is_disconnect}
+use Rattle.stomp_session.specs.Frames.{id_of, is_disconnect, wants_parts}
+use Rattle.stomp_session.specs.Versions.{has_version}
 use Rattle.delivery.specs.declared.event.Event.{Event}
 use Rattle.delivery.specs.declared.outcome.Outcome.{Outcome}
 use Rattle.delivery.specs.declared.connection_fault.ConnectionFault.{ConnectionFault}
@@ -41,31 +43,46 @@ receipt_asked f = option_and_then receipt_of f
 abbrev pub commit_frame : List RawFrame → Option RawFrame
 commit_frame accepted = last_or None accepted
 
+-- the client of this CONNECT offers our version
+abbrev pub offers_ours : RawFrame → Bool
+offers_ours f =
+    option_map_or (has_version (codes "1.2")) (first_of (codes "accept-version") f.headers) false
+
 -- The version is said where the client's have none in common with ours (STOMP 1.2, "Protocol Negotiation"):
--- also to one that sends no accept-version, which is of 1.0, or no host, which each has sent since 1.1.
-abbrev pub says_version : ConnectionFault → Bool
-says_version (ConnectionFault.Session SessionFault.NoVersion) = true
-says_version (ConnectionFault.Frame (CaseFault.Missing RequiredHeader.AcceptVersion)) = true
-says_version (ConnectionFault.Frame (CaseFault.Missing RequiredHeader.Host)) = true
-says_version fault = false
+-- also to one that sends no accept-version, which is of 1.0. So of CONNECTs without a host (own), which each
+-- client has sent since 1.1, it is said to `accept-version:1.1` and not to `1.1,1.2`.
+abbrev pub says_version : Option RawFrame → ConnectionFault → Bool
+says_version read (ConnectionFault.Session SessionFault.NoVersion) = true
+says_version read (ConnectionFault.Frame (CaseFault.Missing RequiredHeader.AcceptVersion)) = true
+says_version read (ConnectionFault.Frame (CaseFault.Missing RequiredHeader.Host)) =
+    option_map_or (λ f. not (offers_ours f)) read false
+says_version read fault = false
 
 -- What a Next is answered. The RECEIPT of a frame that makes a transaction is written at Decide, that of a
 -- DISCONNECT as its connection is gone.
 abbrev pub next_replies : Option RawFrame → Outcome → List RawFrame
 next_replies read (Outcome.Faulted fault cut) =
-    error_frame (connection_title fault) (receipt_asked read) (says_version fault) ∷ []
+    error_frame (connection_title fault) (receipt_asked read) (says_version read fault) ∷ []
 next_replies (Some f) Outcome.Done =
     if is_connect f.command then connected_frame ∷ [] else receipts_of f
 next_replies (Some f) (Outcome.Subscribed s from) = receipts_of f
 next_replies (Some f) (Outcome.Unsubscribed s to) = receipts_of f
 next_replies read o = []
 
+-- the SUBSCRIBE that began subscription s, if one did
+abbrev pub subscribe_frame : ℕ → List CoreStep → Option RawFrame
+subscribe_frame s [] = None
+subscribe_frame s (step ∷ older) =
+    if option_map_or (λ r. r == s) (begun_by step.outcome) false then frame_in step.reading
+    else subscribe_frame s older
+
 -- the text of a subscription's id, as its SUBSCRIBE has it
 abbrev pub sub_id_text : ℕ → List CoreStep → List ℕ
-sub_id_text s [] = []
-sub_id_text s (step ∷ older) =
-    if option_map_or (λ r. r == s) (begun_by step.outcome) false
-    then option_map_or id_of (frame_in step.reading) [] else sub_id_text s older
+sub_id_text s steps = option_map_or id_of (subscribe_frame s steps) []
+
+-- a subscription's SUBSCRIBE asked for parts
+abbrev pub sub_parts : ℕ → List CoreStep → Bool
+sub_parts s steps = option_map_or wants_parts (subscribe_frame s steps) false
 
 -- the MESSAGEs of an item, one for each SEND of its part
 abbrev pub item_messages : List ℕ → Item → List RawFrame
@@ -73,10 +90,23 @@ item_messages id item =
     map (λ p. message_frame id (message_id item.stamp.n item.stamp.topic.0 p.index) p.headers p.body)
     item.sends
 
+-- The same, each with its place, from 1, among those of its transaction at its topic, and with their number
+-- (own). So of SENDs to A, B and A the first has `part:1/2` at A, the last `part:2/2`, and that to B `1/1`.
+abbrev pub part_messages : List ℕ → Item → List RawFrame
+part_messages id item =
+    map
+    (λ at. part_message_frame at.0 (length item.sends) id
+    (message_id item.stamp.n item.stamp.topic.0 at.1.index) at.1.headers at.1.body)
+    (enumerate_from 1 item.sends)
+
+-- those of a subscription with this id, which asked for parts or didn't
+abbrev pub messages_for : Bool → List ℕ → Item → List RawFrame
+messages_for parts id item = if parts then part_messages id item else item_messages id item
+
 -- what a Take is answered
 abbrev pub take_replies : ℕ → List CoreStep → List Answer → Outcome → List RawFrame
 take_replies s older account (Outcome.Handed count) =
-    item_messages (sub_id_text s older) (next_item s account)
+    messages_for (sub_parts s older) (sub_id_text s older) (next_item s account)
 take_replies s older account (Outcome.Faulted fault cut) =
     error_frame (connection_title fault) None false ∷ []
 take_replies s older account o = []

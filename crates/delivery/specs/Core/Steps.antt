@@ -58,17 +58,16 @@ has_effect (Outcome.Flying id) = true
 has_effect Outcome.Leaving = true
 has_effect o = false
 
--- the octets that this event feeds to connection c
-abbrev pub piece_to : ℕ → Event → List ℕ
-piece_to c (Event.Piece d octets) = if d == c then octets else []
-piece_to c e = []
+-- the octets that an event of this outcome fed to connection c
+abbrev pub fed_to : ℕ → Event → Outcome → List ℕ
+fed_to c (Event.Piece d octets) Outcome.Fed = if d == c then octets else []
+fed_to c e o = []
 
 -- the octets that connection c was fed: where pieces `AB` and `C` of it were fed and one was refused between,
 -- `ABC`
 abbrev pub fed_octets : ℕ → List CoreStep → List ℕ
 fed_octets c [] = []
-fed_octets c (step ∷ older) =
-    fed_octets c older ++ (if is_fed step.outcome then piece_to c step.event else [])
+fed_octets c (step ∷ older) = fed_octets c older ++ fed_to c step.event step.outcome
 
 -- the frame of connection c that was read, if one was
 abbrev pub frame_from : ℕ → CoreStep → List RawFrame
@@ -124,12 +123,9 @@ number_by c id (step ∷ older) =
 -- the fault is of a frame that was read
 abbrev pub has_frame : ConnectionFault → Bool
 has_frame (ConnectionFault.Stream k) = false
-has_frame (ConnectionFault.Frame k) = true
-has_frame (ConnectionFault.Session k) = true
-has_frame ConnectionFault.SenderInUse = true
-has_frame ConnectionFault.TooManyClients = true
 has_frame ConnectionFault.Lagged = false
 has_frame ConnectionFault.ReaderNoMemory = false
+has_frame fault = true
 
 -- the outcome of a Next says that a frame was read
 abbrev pub says_frame : Outcome → Bool

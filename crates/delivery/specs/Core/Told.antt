@@ -153,18 +153,12 @@ told_of names (step ∷ older) =
 
 -- ---- when a topic is settled, and a subscription silent
 
--- the transaction was decided; or it was withdrawn and, if t gave it a ticket, cancelled at t
-abbrev pub IsResolved : Topic → List Told → Transaction → Type 0
-IsResolved t told txn =
-    ((stamp : Stamp) × In (Told.Decided txn stamp) told)
-    ⊎ (In (Told.Withdrawn txn) told
-    × (In (Told.Ticket txn.id t) told → In (Told.Cancelled txn.id t) told))
-
--- so is each transaction that names t
+-- each transaction that names t was decided; or it was withdrawn and, if t gave it a ticket, cancelled at t
 abbrev pub AllResolved : Topic → List Told → Type 0
 AllResolved t told =
     (txn : Transaction) → In (Told.Begun txn) told → names t (topics_of txn.sends) ≡ true
-    → IsResolved t told txn
+    → ((stamp : Stamp) × In (Told.Decided txn stamp) told)
+    ⊎ (In (Told.Withdrawn txn) told × (In (Told.Ticket txn.id t) told → In (Told.Cancelled txn.id t) told))
 
 -- each transaction that names t is resolved, and a turn of t stands after the last of these outcomes, where
 -- there is any

@@ -140,9 +140,9 @@ JudgesAt names Stage.Gone result new later = Unit {0}
 
 -- ---- replies
 
--- the text of a fault's ERROR
-abbrev pub error_text : ConnectionFault → Option (List ℕ) → List ℕ
-error_text fault receipt = spelling_of (error_frame (connection_title fault) receipt (says_version fault))
+-- the text of a fault's ERROR, with this receipt, which says the version or doesn't
+abbrev pub error_text : ConnectionFault → Option (List ℕ) → Bool → List ℕ
+error_text fault receipt version = spelling_of (error_frame (connection_title fault) receipt version)
 
 -- the text of a RECEIPT, if one is asked for
 abbrev pub receipt_text : Option (List ℕ) → List ℕ
@@ -161,15 +161,18 @@ shortened_endpoint len endpoint = record endpoint { output = take len endpoint.o
 
 -- ---- a frame that ends its connection
 
--- Why a Next of connection c ends it: what it read, and the ERROR's fault and receipt.
+-- Why a Next of connection c ends it: what it read, the ERROR's fault and receipt, and whether it says the
+-- version.
 pub record Ends
     (k : Core) (c : ℕ) (reading : Reading) (fault : ConnectionFault) (receipt : Option (List ℕ))
+    (version : Bool)
     : Type 0 where
   pub reached : IsReached k
   pub idle : first_refusal (needs_idle k.world c) ≡ None
   pub read : IsReadBy (unread_at c k.steps) reading
   pub may : (cut : Bool) → In (Outcome.Faulted fault cut) (reading_outcomes k c reading)
   pub asked : receipt ≡ receipt_asked (frame_in reading)
+  pub said : version ≡ says_version (frame_in reading) fault
 
 -- so of this frame, if one was read, while the connection is at some stage
 pub record HasFault
@@ -177,7 +180,7 @@ pub record HasFault
     : Type 0 where
   pub reading : Reading
   pub stage : Stage
-  pub ends : Ends k c reading fault (receipt_asked frame)
+  pub ends : Ends k c reading fault (receipt_asked frame) (says_version frame fault)
   pub view : held ≡ changed_endpoint (staged_endpoint stage) c (view_of k)
 
 -- ---- an accepted frame

@@ -9,11 +9,20 @@ use Rattle.mcast_txn.specs.Stamp.{zero_stamp}
 use Rattle.sub_queue.specs.Shown.{Gauge, known_taken}
 use Rattle.mcast_group.specs.Group.{GroupState, gauge_at, group_after_subscribe, group_after_unsubscribe}
 use Rattle.mcast_group.specs.Machine.{Entry, find_entry, end_of}
+use Rattle.stomp_session.specs.Open.{asks_parts}
+use Rattle.delivery.specs.declared.stage.Stage.{Stage}
 use Rattle.delivery.specs.Inner.View.{View, EndpointView, SubView, LeftView, left_view, no_endpoint, group_in}
 
 -- what stands for a subscription that there is none of
 abbrev pub no_sub : SubView
-no_sub = record { connection = 0; id = []; topic = record { 0 = 0 }; from = zero_stamp; left = None }
+no_sub = record {
+  connection = 0;
+  id = [];
+  parts = false;
+  topic = record { 0 = 0 };
+  from = zero_stamp;
+  left = None;
+}
 
 -- ---- an end
 
@@ -66,6 +75,16 @@ closed_view s v = closed_if_left s (left_at s v) v
 
 -- ---- a beginning
 
+-- the open subscription of this id asked for parts, by the session of a connection of this stage
+abbrev pub stage_parts : List ℕ → Stage → Bool
+stage_parts id (Stage.Open endpoint) = asks_parts id endpoint.session
+stage_parts id (Stage.Leaving parting) = false
+stage_parts id Stage.Gone = false
+
+-- the same of connection c
+abbrev pub parts_in : View → ℕ → List ℕ → Bool
+parts_in v c id = stage_parts id (get_or v.endpoints c no_endpoint).stage
+
 -- an endpoint with one more subscription
 abbrev pub longer_endpoint : ℕ → EndpointView → EndpointView
 longer_endpoint s endpoint = record endpoint { live = endpoint.live ++ s ∷ [] }
@@ -74,15 +93,16 @@ longer_endpoint s endpoint = record endpoint { live = endpoint.live ++ s ∷ [] 
 abbrev pub new_gauge : ℕ → Gauge
 new_gauge capacity = record { capacity = capacity; taken = Some 0 }
 
--- a new subscription of connection c with this id to t
-abbrev pub subscribed_view : ℕ → List ℕ → Topic → View → View
-subscribed_view c id t v = record v {
+-- a new subscription of connection c with this id to t, which asks for parts or doesn't
+abbrev pub subscribed_view : ℕ → List ℕ → Bool → Topic → View → View
+subscribed_view c id parts t v = record v {
   groups = set v.groups t.0 (group_after_subscribe (length v.subs) (new_gauge v.capacity) (group_in v t));
   endpoints = set v.endpoints c (longer_endpoint (length v.subs) (get_or v.endpoints c no_endpoint));
   subs = v.subs
       ++ record {
         connection = c;
         id = id;
+        parts = parts;
         topic = t;
         from = (group_in v t).topic.frontier;
         left = None;

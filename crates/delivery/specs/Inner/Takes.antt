@@ -11,7 +11,7 @@ use Rattle.mcast_group.specs.Group.{GroupState, shown_at}
 use Rattle.mcast_group.specs.Machine.{find_entry}
 use Rattle.delivery.specs.Machine.Objections.{Objection}
 use Rattle.delivery.specs.Machine.Observed.{entry_to}
-use Rattle.delivery.specs.Core.Output.{item_messages}
+use Rattle.delivery.specs.Core.Output.{messages_for}
 use Rattle.delivery.specs.Inner.Stands.{endpoint_objection}
 use Rattle.delivery.specs.Inner.Subscriptions.{no_sub}
 use Rattle.delivery.specs.Inner.View.{View, SubView, EndpointView, no_group, no_endpoint, written_endpoint}
@@ -60,7 +60,7 @@ after_item v s item =
     record v {
       groups = set v.groups x.topic.0 (group_after_take s (group_held v s));
       endpoints = set v.endpoints x.connection
-          (written_endpoint (flat_map spelling_of (item_messages x.id item))
+          (written_endpoint (flat_map spelling_of (messages_for x.parts x.id item))
           (get_or v.endpoints x.connection no_endpoint));
     }
 

@@ -4,7 +4,7 @@
 -- its endpoint.
 use Rattle.std.specs.Prelude.{ℕ, Bool, true, false, not, ◌&&◌, List, [], ◌∷◌, ◌++◌, codes, map, length, nat_lt, get_or, Option, Some, None, if◌then◌else◌}
 use Rattle.std.specs.List.{find, range_with_len}
-use Rattle.std.specs.Option.{option_map, option_and_then, unwrap_or}
+use Rattle.std.specs.Option.{option_map, option_map_or, option_and_then, unwrap_or}
 use Rattle.stomp_frame.specs.declared.raw_frame.RawFrame.{RawFrame}
 use Rattle.stomp_frame.specs.Reader.{Unread, unread_of, with_piece}
 use Rattle.stomp_frame.specs.Receipts.{receipt_of}
@@ -25,7 +25,7 @@ use Rattle.mcast_group.specs.declared.fault.ProposeFault.{ProposeFault}
 use Rattle.mcast_group.specs.Group.{GroupState}
 use Rattle.mcast_group.specs.Machine.{TopicState, EntryEnd, new_topic}
 use Rattle.stomp_session.specs.Open.{held_after, state_of}
-use Rattle.stomp_session.specs.Frames.{has_destination, field, is_disconnect}
+use Rattle.stomp_session.specs.Frames.{has_destination, field, id_of, is_disconnect, wants_parts}
 use Rattle.stomp_session.specs.Names.{is_known}
 use Rattle.delivery.specs.declared.sending.Sending.{Sending}
 use Rattle.delivery.specs.declared.stage.Stage.{Stage}
@@ -34,7 +34,7 @@ use Rattle.delivery.specs.Machine.World.{World, Undecided, SenderState, Standing
 use Rattle.delivery.specs.Machine.Moves.{has_ticket, find_verdict}
 use Rattle.delivery.specs.Core.Connections.{live_numbers}
 use Rattle.delivery.specs.Core.Steps.{CoreStep, accepted_of, names_after, reader_limits}
-use Rattle.delivery.specs.Core.Output.{receipt_asked, commit_frame, sub_id_text, text_out}
+use Rattle.delivery.specs.Core.Output.{receipt_asked, commit_frame, subscribe_frame, text_out}
 use Rattle.delivery.specs.Core.Reports.{each_number}
 use Rattle.delivery.specs.Core.State.{Core, log_limit, unread_at}
 
@@ -191,21 +191,24 @@ abbrev pub left_view : ℕ → EntryEnd → LeftView
 left_view taken end =
     record { to = end.to; cause = end.cause; accepted = end.accepted; taken = taken }
 
--- a subscription: whose it is, its id, its topic, where its span begins, and what it left if it was closed
+-- a subscription: whose it is, its id, whether it asked for parts, its topic, where its span begins, and what
+-- it left if it was closed
 pub record SubView : Type 0 where
   pub connection : ℕ
   pub id : List ℕ
+  pub parts : Bool
   pub topic : Topic
   pub from : Stamp
   pub left : Option LeftView
 
--- subscription s, which has this id
-abbrev pub sub_view : World → ℕ → List ℕ → SubView
-sub_view w s id =
+-- subscription s, which this SUBSCRIBE began
+abbrev pub sub_view : World → ℕ → Option RawFrame → SubView
+sub_view w s began =
     let x = subscription_at w s in
     record {
       connection = x.connection;
-      id = id;
+      id = option_map_or id_of began [];
+      parts = option_map_or wants_parts began false;
       topic = x.topic;
       from = x.from;
       left = option_map (left_view x.taken) x.closed;
@@ -225,17 +228,17 @@ pub record View : Type 0 where
   pub commits : List LogRow
 
 -- what it holds of this machine, where each connection accepted these frames, its reader stands for this and
--- its text out is this, and each subscription has this id
+-- its text out is this, and each subscription was begun by this SUBSCRIBE
 abbrev pub view_with : List (List ℕ) → World → (ℕ → List RawFrame) → (ℕ → Unread) → (ℕ → List ℕ)
-    → (ℕ → List ℕ) → View
-view_with names w accepted unread text ids = record {
+    → (ℕ → Option RawFrame) → View
+view_with names w accepted unread text began = record {
   names = names;
   capacity = w.capacity;
   groups = map (group_view w) w.topics;
   senders = each_number (held_sender w) 0 w.senders;
   verdicts = each_number (λ s. verdict_list w.verdicts s (sender_at w s).seq) 0 w.senders;
   endpoints = each_number (λ c. endpoint_view names w c (accepted c) (unread c) (text c)) 0 w.connections;
-  subs = each_number (λ s. sub_view w s (ids s)) 0 w.subscriptions;
+  subs = each_number (λ s. sub_view w s (began s)) 0 w.subscriptions;
   commits = map log_row w.commits;
 }
 
@@ -243,7 +246,7 @@ view_with names w accepted unread text ids = record {
 abbrev pub view_after : List (List ℕ) → World → List CoreStep → View
 view_after opening w steps =
     view_with (names_after opening steps) w (λ c. accepted_of c steps) (λ c. unread_at c steps)
-    (λ c. text_out opening c steps) (λ s. sub_id_text s steps)
+    (λ c. text_out opening c steps) (λ s. subscribe_frame s steps)
 
 -- what it holds of this core
 abbrev pub view_of : Core → View

@@ -76,19 +76,27 @@ impl NetState {
         endpoint.next_step(alloc, &mut self.names)
     }
 
-    /// The connection ends by an ERROR of this fault, with this receipt; out of memory the ERROR is left out.
-    fn fail(&mut self, connection: u64, fault: ConnectionFault, receipt: Option<&[u8]>) -> Outcome
+    /// The connection ends by an ERROR of this fault, with this receipt, which says our version or doesn't; out of
+    /// memory the ERROR is left out.
+    fn fail(
+        &mut self,
+        connection: u64,
+        fault: ConnectionFault,
+        receipt: Option<&[u8]>,
+        version: bool,
+    ) -> Outcome
         requires { connection < length self.old.endpoints }
         ensures answer { result ≡ outcomes.Faulted fault (is_cut result) }
         ensures endpoint { (d : EndpointView) → self.new ≡ record self.old {
           endpoints = set self.old.endpoints connection (failed_endpoint (is_cut result)
-              (error_text fault (option_map (λ r. r.now) receipt.entry)) (get_or self.old.endpoints connection d));
+              (error_text fault (option_map (λ r. r.now) receipt.entry) version)
+              (get_or self.old.endpoints connection d));
         } }
     {
         let error = ServerFrame::Error {
             message: fault.title(),
             receipt,
-            version: fault.says_version(),
+            version,
         };
         let cut = self.write(connection, &error).is_err();
         self.begin_leaving(connection, None);
@@ -112,7 +120,7 @@ impl NetState {
     }
 
     /// The frame that its session accepted has no effect: the connection ends by the ERROR of this fault, with the
-    /// frame's receipt.
+    /// frame's receipt and without our version, which the frame had.
     fn end_with(
         &mut self,
         connection: u64,
@@ -126,8 +134,8 @@ impl NetState {
             → Makes k (Asked.Next connection) result self.new }
     {
         match receipt {
-            Some(id) => self.fail(connection, fault, Some(id.as_slice())),
-            None => self.fail(connection, fault, None),
+            Some(id) => self.fail(connection, fault, Some(id.as_slice()), false),
+            None => self.fail(connection, fault, None, false),
         }
     }
 
@@ -427,8 +435,11 @@ impl NetState {
             → Makes k (Asked.Next connection) result self.new }
     {
         match frame {
-            Some(frame) => self.fail(connection, fault, frame.receipt()),
-            None => self.fail(connection, fault, None),
+            Some(frame) => {
+                let version = fault.says_version(Some(&frame));
+                self.fail(connection, fault, frame.receipt(), version)
+            }
+            None => self.fail(connection, fault, None, fault.says_version(None)),
         }
     }
 

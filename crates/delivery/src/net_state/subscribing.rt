@@ -6,7 +6,7 @@ ghost use Rattle.sub_queue.specs.VecQueue.{shown_of};
 ghost use Rattle.mcast_group.specs.Group.{group_after_subscribe};
 ghost use Rattle.mcast_group.specs.Machine.{subscribe_fault};
 ghost use Rattle.delivery.specs.Inner.View.{no_group, group_in};
-ghost use Rattle.delivery.specs.Inner.Subscriptions.{subscribed_view, has_sub_id, number_in};
+ghost use Rattle.delivery.specs.Inner.Subscriptions.{subscribed_view, parts_in, has_sub_id, number_in};
 
 use crate::net_state::NetState;
 use crate::sub::Sub;
@@ -67,7 +67,8 @@ fn number_among(subs: &[Sub], numbers: &[u64], id: &[u8]) -> Option<u64>
 
 impl NetState {
     /// Begins a subscription of the connection to this topic, which has none of the next number, with this id, and
-    /// returns its number and the stamp after which its span begins. After `NoMemory` all is what it was.
+    /// returns its number and the stamp after which its span begins. Whether it gets parts is what its session says of
+    /// the id. After `NoMemory` all is what it was.
     pub(super) fn subscribe(
         &mut self,
         connection: u64,
@@ -79,12 +80,14 @@ impl NetState {
         requires free { subscribe_fault (length self.old.subs) (group_in self.old topic).topic ≡ None }
         ensures begun { IfOk result (λ begun. begun
             ≡ (length self.old.subs, (group_in self.old topic).topic.frontier)) }
-        ensures ok { OnOk result (self.new ≡ subscribed_view connection id topic self.old) }
+        ensures ok { OnOk result
+            (self.new ≡ subscribed_view connection id (parts_in self.old connection id) topic self.old) }
         ensures err { OnErr result (self.new ≡ self.old) }
     {
         let number = self.subs.len() as u64;
         self.subs.reserve(1)?;
         let endpoint = &mut self.endpoints[connection as usize];
+        let parts = endpoint.asks_parts(id.as_slice());
         endpoint.live.reserve(1)?;
         let outlet = VecOutlet::new(self.alloc, self.capacity);
         let from = subscribe_at(&mut self.groups, topic.0 as usize, number, outlet)?;
@@ -92,6 +95,7 @@ impl NetState {
         self.subs.push_reserved(Sub {
             connection,
             id,
+            parts,
             topic,
             from,
             left: None,

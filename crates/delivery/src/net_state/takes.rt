@@ -70,7 +70,7 @@ impl NetState {
         };
         let count = item.part.sends.len() as u64;
         let endpoint = &mut self.endpoints[subscription.connection as usize];
-        endpoint.write_item(subscription.id.as_slice(), item)?;
+        endpoint.write_item(subscription.parts, subscription.id.as_slice(), item)?;
         let group = &mut self.groups[subscription.topic.0 as usize];
         group.take(sub);
         Ok(Some(count))

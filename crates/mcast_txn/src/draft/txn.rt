@@ -1,11 +1,11 @@
 //! A transaction whose SENDs are all there.
 
-ghost use Rattle.std.specs.Prelude.{◌≡◌, ◌<◌, ◌≤◌, ◌∷◌, [], length, vec_capacity, IfOk, IfErr};
+ghost use Rattle.std.specs.Prelude.{◌≡◌, ◌<◌, ◌≤◌, ◌∷◌, ◌-◌, ◌^◌, [], length, min, vec_capacity, IfOk, IfErr};
 ghost use Rattle.std.specs.Arc.{arc_value};
 ghost use Rattle.mcast_txn.specs.Flight.{flight_id};
 ghost use Rattle.mcast_txn.specs.Part.{parts_of};
 ghost use Rattle.mcast_txn.specs.TopicSet.{IsTopicSet};
-ghost use Rattle.mcast_txn.specs.Transaction.{topics_of};
+ghost use Rattle.mcast_txn.specs.Transaction.{octets_at, topics_of};
 
 use crate::draft::sealed_sends::SealedSends;
 use crate::draft::{SentMessage, TopicSet};
@@ -112,6 +112,14 @@ impl Txn {
                 }
             },
         }
+    }
+
+    /// How many octets its SENDs to this topic have: their bodies, and the names and values of their headers. 2^64 - 1
+    /// where they have more.
+    pub fn octets_at(&self, topic: Topic) -> u64
+        ensures { result ≡ min (octets_at topic self.now) (2 ^ 64 - 1) }
+    {
+        self.sends.octets_at(topic)
     }
 
     /// How many SENDs it has, at least one.

@@ -4,8 +4,8 @@ ghost use Rattle.stomp_frame.specs.ServerFrames.{IsRenderable};
 
 use super::made::{put, text};
 use crate::{
-    Command, FrameReader, Headers, Limits, RawFrame, ServerFrame, render, writable, write_frame,
-    write_server,
+    Command, FrameReader, Headers, Limits, PartMessage, RawFrame, ServerFrame, render, writable,
+    write_frame, write_part_message, write_server,
 };
 use std::alloc::Global;
 use std::test::Fail;
@@ -171,6 +171,33 @@ fn passed_on(rt: HostRuntime) -> Result<(), Fail> {
         b"MESSAGE\nsubscription:s\nmessage-id:1.0.0\ndestination:A\ncontent-length:1048576\n";
     let want = long_text(rt.alloc(), head)?;
     assert!(rt; is_passed_on(rt.alloc(), want.as_slice())?);
+    Ok(())
+}
+
+/// Whether the long SEND is passed on so to the subscription `s`, as the last of 64.
+fn is_passed_on_as_the_last(alloc: Global, want: &[u8]) -> Result<bool, NoMemory> {
+    let sent = long_send(alloc)?;
+    let message = PartMessage {
+        subscription: b"s",
+        n: 1,
+        topic: 0,
+        index: 63,
+        headers: &sent.headers,
+        body: sent.body.as_slice(),
+        at: 64,
+        count: 64,
+    };
+    let mut out = Octets::new(alloc);
+    write_part_message(&message, &mut out)?;
+    Ok(out.as_slice() == want)
+}
+
+#[test]
+fn passed_on_as_the_last(rt: HostRuntime) -> Result<(), Fail> {
+    let head =
+        b"MESSAGE\nsubscription:s\nmessage-id:1.0.63\ndestination:A\ncontent-length:1048576\npart:64/64\n";
+    let want = long_text(rt.alloc(), head)?;
+    assert!(rt; is_passed_on_as_the_last(rt.alloc(), want.as_slice())?);
     Ok(())
 }
 

@@ -89,8 +89,8 @@ type Message = (
     &'static [u8],
 );
 
-/// A NULL in the body; headers that are withheld or repeated; escapes; a message-id of the greatest numbers; two
-/// destinations, or none.
+/// A NULL in the body; headers that are withheld or repeated, and a `part`, which isn't; escapes; a message-id of the
+/// greatest numbers; two destinations, or none.
 const MESSAGES: &[Message] = &[
     (
         (1, 0, 0),
@@ -104,11 +104,12 @@ const MESSAGES: &[Message] = &[
             (b"destination", b"A"),
             (b"content-type", b"text/plain"),
             (b"receipt", b"q"),
+            (b"part", b"2/3"),
             (b"x", b"1"),
             (b"x", b"2"),
         ],
         b"hi",
-        b"MESSAGE\nsubscription:s\nmessage-id:1.0.0\ndestination:A\ncontent-length:2\ncontent-type:text/plain\nx:1\n\nhi\0",
+        b"MESSAGE\nsubscription:s\nmessage-id:1.0.0\ndestination:A\ncontent-length:2\ncontent-type:text/plain\npart:2/3\nx:1\n\nhi\0",
     ),
     (
         (1, 0, 0),
@@ -366,7 +367,7 @@ fn is_written(alloc: Global, frame: &RawFrame, want: &[u8]) -> Option<bool> {
 }
 
 /// Whether the text is read as a frame of this command, and that is written as the text.
-fn is_read_and_written(alloc: Global, command: Command, text: &[u8]) -> Option<bool> {
+pub(super) fn is_read_and_written(alloc: Global, command: Command, text: &[u8]) -> Option<bool> {
     let frame = read(alloc, text)?;
     Some(frame.command == command && is_written(alloc, &frame, text)?)
 }

@@ -7,8 +7,9 @@ ghost use Rattle.std.specs.Str.{bytes_eq};
 ghost use Rattle.stomp_escape.specs.Escape.{escaped};
 ghost use Rattle.stomp_frame.specs.Headers.{first_of};
 ghost use Rattle.stomp_frame.specs.Inner.NameKinds.{HaveKinds};
+ghost use Rattle.stomp_frame.specs.Inner.Withheld.{withheld_by};
 ghost use Rattle.stomp_frame.specs.Writing.{header_line, header_lines, spelling_of, Extends};
-ghost use Rattle.stomp_frame.specs.ServerFrames.{optional_header, first_entries, withheld, message_id, message_headers, message_frame, receipt_frame, error_frame, connected_frame, raw_of_server};
+ghost use Rattle.stomp_frame.specs.ServerFrames.{optional_header, first_entries, message_id, message_headers, message_frame, receipt_frame, error_frame, connected_frame, raw_of_server};
 
 use crate::fast::name_kinds::NameKinds;
 use crate::headers::Headers;
@@ -21,11 +22,11 @@ use stomp_escape::{NoMemory, Octets, escape_into};
 
 /// Room for a name of at most 15 octets with its colon, and three numbers of at most 20 digits, each with an octet
 /// after it.
-const NUMBERS: usize = 80;
+pub(crate) const NUMBERS: usize = 80;
 
 /// Appends what comes before a value, the value with its escapes, and LF.
 #[inline(always)]
-fn put_value(front: &[u8], value: &[u8], out: &mut Octets) -> Result<(), NoMemory>
+pub(crate) fn put_value(front: &[u8], value: &[u8], out: &mut Octets) -> Result<(), NoMemory>
     ensures ok { OnOk result (out.new ≡ out.old ++ (front.now ++ (escaped value.now ++ 10 ∷ []))) }
     ensures err { OnErr result (Extends out.old out.new) }
 {
@@ -42,7 +43,7 @@ fn put_value(front: &[u8], value: &[u8], out: &mut Octets) -> Result<(), NoMemor
 }
 
 /// Writes a number and the octet after it so that they end at this index, and returns where they begin.
-fn put_before(n: u64, after: u8, line: &mut [u8; 80], end: usize) -> usize
+pub(crate) fn put_before(n: u64, after: u8, line: &mut [u8; 80], end: usize) -> usize
     requires least { 21 ≤ end }
     requires within { end ≤ 80 }
     ensures start { end ≤ result + 21 }
@@ -55,7 +56,7 @@ fn put_before(n: u64, after: u8, line: &mut [u8; 80], end: usize) -> usize
 
 /// Writes a name so that it ends at this index, and appends the line from there on.
 #[inline(always)]
-fn put_named(name: &[u8], line: &mut [u8; 80], end: usize, out: &mut Octets) -> Result<(), NoMemory>
+pub(crate) fn put_named(name: &[u8], line: &mut [u8; 80], end: usize, out: &mut Octets) -> Result<(), NoMemory>
     requires least { length name.now ≤ end }
     requires within { end ≤ 80 }
     ensures ok { OnOk result (out.new ≡ out.old ++ (name.now ++ drop end line.old)) }
@@ -67,7 +68,7 @@ fn put_named(name: &[u8], line: &mut [u8; 80], end: usize, out: &mut Octets) -> 
 }
 
 /// Appends a message's id. Its line is made from its end, so that each number is written once.
-fn put_message_id(n: u64, topic: u32, index: u32, out: &mut Octets) -> Result<(), NoMemory>
+pub(crate) fn put_message_id(n: u64, topic: u32, index: u32, out: &mut Octets) -> Result<(), NoMemory>
     ensures ok { OnOk result (out.new
         ≡ out.old ++ (header_line true (codes "message-id", message_id n topic index) ++ 10 ∷ [])) }
     ensures err { OnErr result (Extends out.old out.new) }
@@ -80,7 +81,7 @@ fn put_message_id(n: u64, topic: u32, index: u32, out: &mut Octets) -> Result<()
 }
 
 /// Appends a content-length.
-fn put_content_length(len: usize, out: &mut Octets) -> Result<(), NoMemory>
+pub(crate) fn put_content_length(len: usize, out: &mut Octets) -> Result<(), NoMemory>
     ensures ok { OnOk result (out.new
         ≡ out.old ++ (header_line true (codes "content-length", decimal len) ++ 10 ∷ [])) }
     ensures err { OnErr result (Extends out.old out.new) }
@@ -90,27 +91,42 @@ fn put_content_length(len: usize, out: &mut Octets) -> Result<(), NoMemory>
     put_named(b"content-length:", &mut line, start, out)
 }
 
+/// Whether a MESSAGE doesn't pass on this header of its SEND, to a subscription that asked for parts or not.
+#[inline(always)]
+fn is_withheld_by(parts: bool, name: &[u8]) -> bool
+    ensures { result ≡ list_any (λ kept. bytes_eq name.now kept) (withheld_by parts) }
+{
+    parts && name == b"part".as_slice() || is_withheld(name)
+}
+
 /// Whether a SEND's header at index `i`, which has this name, isn't passed on: the name is withheld, or came before,
 /// among names of these kinds.
-fn is_dropped(sent: &Headers, kinds: &NameKinds, name: &[u8], i: usize) -> bool
+#[inline(always)]
+fn is_dropped(parts: bool, sent: &Headers, kinds: &NameKinds, name: &[u8], i: usize) -> bool
     requires within { i ≤ length sent.now }
     requires kinds { HaveKinds kinds.now.among (take i sent.now) }
     ensures { result ≡ list_any (λ seen. bytes_eq name.now seen)
-        (map (λ h. h.0) (take i sent.now) ++ withheld) }
+        (map (λ h. h.0) (take i sent.now) ++ withheld_by parts) }
 {
-    is_withheld(name) || kinds.has(name) && sent.has_among_first(i, name)
+    is_withheld_by(parts, name) || kinds.has(name) && sent.has_among_first(i, name)
 }
 
-/// Appends the first entry of each header of the SEND that isn't withheld.
-fn put_first_entries(sent: &Headers, out: &mut Octets) -> Result<(), NoMemory>
+/// Appends the first entry of each header of the SEND that isn't withheld from a subscription that asked for parts or
+/// not. It is written out where it is called, with that as a constant.
+#[inline(always)]
+pub(crate) fn put_first_entries(
+    parts: bool,
+    sent: &Headers,
+    out: &mut Octets,
+) -> Result<(), NoMemory>
     ensures ok { OnOk result
-        (out.new ≡ out.old ++ header_lines true (first_entries withheld sent.now)) }
+        (out.new ≡ out.old ++ header_lines true (first_entries (withheld_by parts) sent.now)) }
     ensures err { OnErr result (Extends out.old out.new) }
 {
     let mut kinds = NameKinds::new();
     for i in 0..sent.len() {
         let (name, value) = sent.pair(i);
-        if !is_dropped(sent, &kinds, name, i) {
+        if !is_dropped(parts, sent, &kinds, name, i) {
             put_header(true, name, value, out)?;
         }
         kinds.add(name);
@@ -119,7 +135,7 @@ fn put_first_entries(sent: &Headers, out: &mut Octets) -> Result<(), NoMemory>
 }
 
 /// Appends the SEND's first destination, where it has one.
-fn put_destination(sent: &Headers, out: &mut Octets) -> Result<(), NoMemory>
+pub(crate) fn put_destination(sent: &Headers, out: &mut Octets) -> Result<(), NoMemory>
     ensures ok { OnOk result (out.new ≡ out.old ++ header_lines true
         (optional_header (codes "destination") (first_of (codes "destination") sent.now))) }
     ensures err { OnErr result (Extends out.old out.new) }
@@ -148,7 +164,7 @@ fn put_message_headers(
     put_message_id(n, topic, index, out)?;
     put_destination(sent, out)?;
     put_content_length(len, out)?;
-    put_first_entries(sent, out)
+    put_first_entries(false, sent, out)
 }
 
 /// Appends a MESSAGE.

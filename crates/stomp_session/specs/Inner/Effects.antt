@@ -1,5 +1,5 @@
 -- What an accepted frame changes in what a session holds. Proofs go by it; no public contract speaks of it.
-use Rattle.std.specs.Prelude.{◌≡◌, ◌<◌, ℕ, List, [], ◌∷◌, ◌++◌, codes, length, true, not, ◌&&◌, nat_lt, Option, Some, None, IsSome, IfSome, Result, Ok, Err, if◌then◌else◌}
+use Rattle.std.specs.Prelude.{◌≡◌, ◌<◌, ℕ, Bool, List, [], ◌∷◌, ◌++◌, codes, length, true, not, ◌&&◌, nat_lt, Option, Some, None, IsSome, IfSome, Result, Ok, Err, if◌then◌else◌}
 use Rattle.std.specs.List.{position_or_len}
 use Rattle.std.specs.Option.{option_map, option_map_or}
 use Rattle.std.specs.Str.{bytes_eq}
@@ -20,7 +20,7 @@ use Rattle.stomp_session.specs.declared.fault.SessionFault.TheVariants as faults
 use Rattle.stomp_session.specs.declared.judged.Judged.{Judged}
 use Rattle.stomp_session.specs.declared.judged.Judged.TheVariants as judged
 use Rattle.stomp_session.specs.declared.route.Route.{Route}
-use Rattle.stomp_session.specs.Frames.{client_of, topic_of, id_of, transaction_of, send_of}
+use Rattle.stomp_session.specs.Frames.{client_of, topic_of, id_of, transaction_of, send_of, wants_parts}
 use Rattle.stomp_session.specs.Open.{Held, SessionState, state_of}
 use Rattle.mcast_txn.specs.Checks.{first_refusal}
 use Rattle.stomp_session.specs.Refusals.{has_new_destination, is_closed, open_refusals}
@@ -45,6 +45,7 @@ held_with names s = record {
   names = names;
   phase = s.phase;
   subscriptions = s.subscriptions;
+  parts = s.parts;
   transactions = s.transactions;
 }
 
@@ -52,9 +53,9 @@ held_with names s = record {
 abbrev pub with_phase : Phase → Held → Held
 with_phase phase s = record s { phase = phase }
 
--- with these subscriptions open
-abbrev pub with_subscriptions : List (List ℕ × Topic) → Held → Held
-with_subscriptions them s = record s { subscriptions = them }
+-- with these subscriptions open, and whether each asked for parts
+abbrev pub with_subscriptions : List (List ℕ × Topic) → List (List ℕ × Bool) → Held → Held
+with_subscriptions them parts s = record s { subscriptions = them; parts = parts }
 
 -- with these transactions open
 abbrev pub with_transactions : List (List ℕ × List SentMessage) → Held → Held
@@ -64,15 +65,19 @@ with_transactions them s = record s { transactions = them }
 abbrev pub effect : Command → Held → RawFrame → Held
 effect commands.Connect s f = with_phase Connected s
 effect commands.Stomp s f = with_phase Connected s
-effect commands.Subscribe s f = with_subscriptions (s.subscriptions ++ (id_of f, topic_of s.names f) ∷ []) s
-effect commands.Unsubscribe s f = with_subscriptions (entries_without (id_of f) s.subscriptions) s
+effect commands.Subscribe s f =
+    with_subscriptions (s.subscriptions ++ (id_of f, topic_of s.names f) ∷ [])
+    (s.parts ++ (id_of f, wants_parts f) ∷ []) s
+effect commands.Unsubscribe s f =
+    with_subscriptions (entries_without (id_of f) s.subscriptions) (entries_without (id_of f) s.parts) s
 effect commands.Begin s f = with_transactions (s.transactions ++ (transaction_of f, []) ∷ []) s
 effect commands.Send s f =
     option_map_or (λ x. with_transactions (with_send x (send_of s.names f) s.transactions) s)
     (first_of (codes "transaction") f.headers) s
 effect commands.Commit s f = with_transactions (entries_without (transaction_of f) s.transactions) s
 effect commands.Abort s f = with_transactions (entries_without (transaction_of f) s.transactions) s
-effect commands.Disconnect s f = record s { phase = Closed; subscriptions = []; transactions = [] }
+effect commands.Disconnect s f =
+    record s { phase = Closed; subscriptions = []; parts = []; transactions = [] }
 effect _ s f = s
 
 -- why a destination of this name is refused among these names

@@ -279,6 +279,11 @@ impl Client {
     pub(super) fn end(&mut self) {
         self.session.end();
     }
+
+    /// Whether the session says that the subscription of this id asked for parts.
+    pub(super) fn asks_parts(&self, id: u8) -> bool {
+        self.session.asks_parts(&[id])
+    }
 }
 
 /// What a frame after a script is answered; nothing where a frame is refused, or there is no memory for it.

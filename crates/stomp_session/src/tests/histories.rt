@@ -42,6 +42,8 @@ struct Seen {
     at_three: bool,
     /// A history in which four topics were made.
     made_four: bool,
+    /// A subscription that asked for parts.
+    asked: bool,
 }
 
 impl Seen {
@@ -62,7 +64,10 @@ impl Seen {
 
     /// Whether each action came, and what is to come beside them.
     fn has_all_else(&self) -> bool {
-        self.actions.iter().all(|came| *came) && self.at_three && self.made_four
+        self.actions.iter().all(|came| *came)
+            && self.at_three
+            && self.made_four
+            && self.asked
     }
 
     fn refusal(&mut self, number: u32) {
@@ -145,7 +150,25 @@ impl History {
         let made = next_frame(&mut self.draws, &self.past, index);
         let agrees = self.agrees_on(alloc, &made, seen)?;
         self.past.put(&made)?;
-        Ok(agrees && self.names.len() == self.past.topics() as usize)
+        Ok(agrees
+            && self.names.len() == self.past.topics() as usize
+            && self.asks_alike(&made, b'a', seen)
+            && self.asks_alike(&made, b'b', seen))
+    }
+
+    /// Whether the session of a frame's connection says of the subscription of this id what the list says.
+    fn asks_alike(&self, made: &Made, id: u8, seen: &mut Seen) -> bool {
+        let mut of = *made;
+        of.id = Some(id);
+        let asks = if made.is_second {
+            self.second.asks_parts(&[id])
+        } else {
+            self.first.asks_parts(&[id])
+        };
+        if asks {
+            seen.asked = true;
+        }
+        asks == self.past.asks_parts(&of)
     }
 
     /// The index of the first frame that is answered otherwise; `FRAMES` if there is none.
@@ -176,6 +199,7 @@ fn made_histories(rt: HostRuntime) -> Result<(), Fail> {
         actions: [false; 6],
         at_three: false,
         made_four: false,
+        asked: false,
     };
     for history in 0..HISTORIES {
         let index = first_difference(rt.alloc(), history, &mut seen)?;

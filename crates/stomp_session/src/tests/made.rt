@@ -28,8 +28,19 @@ pub(super) struct Made {
     pub id: Option<u8>,
     pub destination: Option<u8>,
     pub ack: Option<&'static [u8]>,
+    /// Of a SUBSCRIBE.
+    pub part: Option<&'static [u8]>,
     pub transaction: Option<u8>,
     pub receipt: Option<u8>,
+}
+
+/// The `part` of a SUBSCRIBE at this index of a history: two of five ask for parts, one doesn't, and two have none.
+fn part(index: u8) -> Option<&'static [u8]> {
+    match index % 5 {
+        0 | 3 => Some(b"yes"),
+        1 => Some(b"no"),
+        _ => None,
+    }
 }
 
 /// Puts a header of one letter at the end, if there is a letter.
@@ -62,6 +73,9 @@ impl Made {
         }
         if let Some(ack) = self.ack {
             push(alloc, headers, b"ack", ack)?;
+        }
+        if let Some(part) = self.part {
+            push(alloc, headers, b"part", part)?;
         }
         Ok(())
     }
@@ -164,6 +178,7 @@ impl Draws {
             id: None,
             destination: None,
             ack: None,
+            part: None,
             transaction: None,
             receipt: None,
         };
@@ -178,6 +193,7 @@ impl Draws {
                 made.id = Some(self.letter(b"abab"));
                 made.destination = Some(self.destination());
                 made.ack = self.ack();
+                made.part = part(index);
             }
             Command::Unsubscribe => made.id = Some(self.letter(b"abab")),
             Command::Send => made.destination = Some(self.destination()),

@@ -116,6 +116,23 @@ fn a_subscribe_without_memory(rt: HostRuntime) {
     is_refused_once(&rt, rt.alloc(), &row);
 }
 
+/// One that asks for parts.
+#[test]
+fn a_subscribe_for_parts_without_memory(rt: HostRuntime) {
+    let row = Row {
+        script: b"c..",
+        command: Command::Subscribe,
+        pairs: &[
+            (b"id", LONG),
+            (b"destination", b"A"),
+            (b"part", b"yes"),
+            (b"receipt", LONG),
+        ],
+        body: b"",
+    };
+    is_refused_once(&rt, rt.alloc(), &row);
+}
+
 /// A SUBSCRIBE that makes its topic.
 #[test]
 fn a_subscribe_to_a_new_topic_without_memory(rt: HostRuntime) {
@@ -298,5 +315,23 @@ fn names_without_memory(rt: HostRuntime) -> Result<(), Fail> {
     let all: &[&[u8]] = &[b"A", b"B", b"C", b"D", b"E"];
     let mut names = Names::new(rt.alloc());
     assert!(rt; are_added(&mut names, all)? && are_names(&names, all));
+    Ok(())
+}
+
+/// Adds a name to names that others have, too. Where it isn't added, whether both are what they were.
+fn is_added_here(names: &mut Names, before: &[&[u8]], name: &[u8]) -> Result<bool, NoMemory> {
+    let others = names.share()?;
+    let is_added = is_added(names, before, name)?;
+    Ok(is_added && are_names(&others, before))
+}
+
+/// The same where others share the names, so that the list of them is copied.
+#[test]
+fn shared_names_without_memory(rt: HostRuntime) -> Result<(), Fail> {
+    let mut names = Names::new(rt.alloc());
+    assert!(rt; is_added_here(&mut names, &[], b"A")?);
+    assert!(rt; is_added_here(&mut names, &[b"A"], b"B")?);
+    assert!(rt; is_added_here(&mut names, &[b"A", b"B"], b"C")?);
+    assert!(rt; are_names(&names, &[b"A", b"B", b"C"]));
     Ok(())
 }

@@ -144,6 +144,20 @@ impl Past {
         }
     }
 
+    /// Whether the last frame of a connection that names this subscription is a SUBSCRIBE with `part:yes`, and the
+    /// connection isn't closed.
+    pub(super) fn asks_parts(&self, of: &Made) -> bool {
+        if self.is_closed(of) {
+            return false;
+        }
+        match self.accepted.iter().rev().find(|frame| frame.is_second == of.is_second
+            && names_subscription(frame, of.id))
+        {
+            Some(last) => last.command == Command::Subscribe && last.part == Some(b"yes"),
+            None => false,
+        }
+    }
+
     /// The frames after the last one of this one's connection that names its transaction, SENDs aside, where that is a
     /// BEGIN: then it is open.
     fn after_begin(&self, of: &Made) -> Option<&[Made]> {

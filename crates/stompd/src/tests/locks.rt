@@ -13,6 +13,7 @@ mod held;
 mod jobs;
 mod lost;
 mod memory;
+mod octets;
 mod places;
 mod room;
 mod room_memory;

@@ -45,11 +45,10 @@ failed_view v w x c text (Ok u) there h left d =
 failed_view v w x c text (Err e) there h left d =
     left d ∙ ap (λ (y : View). with_endpoint y c (leaving_endpoint None (get_or y.endpoints c d))) h.1
 
--- the text of an ERROR with a fault's title and version
-pub error_is : (fault : ConnectionFault) (receipt : Option (List ℕ)) (message : List ℕ) (version : Bool)
-    → message ≡ connection_title fault → version ≡ says_version fault
-    → spelling_of (error_frame message receipt version) ≡ error_text fault receipt
-error_is fault receipt message version title says = λ i. spelling_of (error_frame (title i) receipt (says i))
+-- the text of an ERROR with a fault's title
+pub error_is : (fault : ConnectionFault) (receipt : Option (List ℕ)) (message : List ℕ) (version : Bool) → message ≡ connection_title fault
+    → spelling_of (error_frame message receipt version) ≡ error_text fault receipt version
+error_is fault receipt message version title = λ i. spelling_of (error_frame (title i) receipt version)
 
 -- there are as many endpoints where one is another
 pub changed_length : (v w : View) (c : ℕ) (endpoint : EndpointView) → w ≡ with_endpoint v c endpoint → length w.endpoints ≡ length v.endpoints

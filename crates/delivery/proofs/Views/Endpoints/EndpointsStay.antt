@@ -14,7 +14,7 @@ use Rattle.delivery.specs.declared.refusal.Refusal.{Refusal}
 use Rattle.delivery.specs.Machine.World.{World}
 use Rattle.delivery.specs.Core.Steps.{CoreStep, Reading, accepted_of, has_effect, frame_from, names_after}
 use Rattle.delivery.specs.Core.Account.{account_of}
-use Rattle.delivery.specs.Core.Output.{text_out, sub_id_text, replies_to, is_cut}
+use Rattle.delivery.specs.Core.Output.{text_out, subscribe_frame, replies_to, is_cut}
 use Rattle.delivery.specs.Core.State.{unread_at, unread_after}
 use Rattle.std.specs.Option.{option_map_or}
 use Rattle.stomp_session.specs.Frames.{with_destination}
@@ -31,14 +31,14 @@ pub record IsQuiet (names : List (List ℕ)) (step : CoreStep) (older : List Cor
   pub accepted : (c : ℕ) → accepted_of c (step ∷ older) ≡ accepted_of c older
   pub unread : (c : ℕ) → unread_at c (step ∷ older) ≡ unread_at c older
   pub text : (c : ℕ) → text_out names c (step ∷ older) ≡ text_out names c older
-  pub ids : (s : ℕ) → sub_id_text s (step ∷ older) ≡ sub_id_text s older
+  pub began : (s : ℕ) → subscribe_frame s (step ∷ older) ≡ subscribe_frame s older
   pub named : names_after names (step ∷ older) ≡ names_after names older
 
 -- what is held after such a step is what the machine says, with the endpoints of before
 pub quiet_view : (names : List (List ℕ)) (step : CoreStep) (older : List CoreStep) (w : World)
     → IsQuiet names step older → view_after names w (step ∷ older) ≡ view_after names w older
 quiet_view names step older w quiet =
-    λ i. view_with (quiet.named i) w (λ c. quiet.accepted c i) (λ c. quiet.unread c i) (λ c. quiet.text c i) (λ s. quiet.ids s i)
+    λ i. view_with (quiet.named i) w (λ c. quiet.accepted c i) (λ c. quiet.unread c i) (λ c. quiet.text c i) (λ s. quiet.began s i)
 
 -- what reads nothing names nothing
 pub none_named : (names : List (List ℕ)) (b : Bool) → option_map_or (λ (f : RawFrame). with_destination f names) (cond b None None) names ≡ names
@@ -50,13 +50,13 @@ quiet_from : (names : List (List ℕ)) (e : Event) (o : Outcome) (older : List C
     → ((c : ℕ) → cond (has_effect o) (frame_from c (step_of e Reading.Nothing o)) [] ≡ [])
     → ((c : ℕ) → unread_after c (unread_at c older) e Reading.Nothing o ≡ unread_at c older)
     → ((c : ℕ) → cond (is_cut o) [] (flat_map spelling_of (replies_to c older (account_of names older) e Reading.Nothing o)) ≡ [])
-    → ((s : ℕ) → sub_id_text s (step_of e Reading.Nothing o ∷ older) ≡ sub_id_text s older)
+    → ((s : ℕ) → subscribe_frame s (step_of e Reading.Nothing o ∷ older) ≡ subscribe_frame s older)
     → IsQuiet names (step_of e Reading.Nothing o) older
-quiet_from names e o older frames unread text ids = record {
+quiet_from names e o older frames unread text began = record {
   accepted = λ c. ap (λ (fs : List RawFrame). accepted_of c older ++ fs) (frames c) ∙ append-nil (accepted_of c older);
   unread = unread;
   text = λ c. ap (λ (octets : List ℕ). text_out names c older ++ octets) (text c) ∙ append-nil (text_out names c older);
-  ids = ids;
+  began = began;
   named = none_named (names_after names older) (has_effect o);
 }
 

@@ -52,22 +52,22 @@ asked_stage names Standing.Gone flight f accepted unread endpoint reads = absurd
 -- the last accepted frame asked for
 pub begun_is : (names : List (List ℕ)) (k : Core) (c : ℕ) (first : SentMessage) (others : List SentMessage) → IsReached k → c < length k.world.connections → IsSpeaking k.world c
     → is_reading (connection_at k.world c).standing ≡ true → (speaker k.world c).flight ≡ None
-    → (accepted : ℕ → List RawFrame) (unread : ℕ → Unread) (text ids : ℕ → List ℕ)
-    → asked_view (receipt_asked (commit_frame (accepted c))) c (launched_view (first ∷ others) c (view_with names k.world accepted unread text ids))
-    ≡ view_with names (commit_effect k.world c (first ∷ others)) accepted unread text ids
-begun_is names k c first others reached there speaking reads idle accepted unread text ids =
+    → (accepted : ℕ → List RawFrame) (unread : ℕ → Unread) (text : ℕ → List ℕ) (began : ℕ → Option RawFrame)
+    → asked_view (receipt_asked (commit_frame (accepted c))) c (launched_view (first ∷ others) c (view_with names k.world accepted unread text began))
+    ≡ view_with names (commit_effect k.world c (first ∷ others)) accepted unread text began
+begun_is names k c first others reached there speaking reads idle accepted unread text began =
     let w = k.world in
     let sends = first ∷ others in
     let s = speaker_number w c in
     let x = flown w c sends in
-    let v = view_with names w accepted unread text ids in
+    let v = view_with names w accepted unread text began in
     let known = speaker_there k c reached speaking in
-    let at = speaker_is names w accepted unread text ids c there in
+    let at = speaker_is names w accepted unread text began c there in
     let list = verdict_list w.verdicts s (sender_at w s).seq in
     let found : get_or v.verdicts s [] ≡ list = number_at (λ n. verdict_list w.verdicts n (sender_at w n).seq) w.senders s [] known in
     let senders : set v.senders (speaker_at v c) (launched_sender sends (sender_in v (speaker_at v c))) ≡ each_number (held_sender (with_sender w s x)) 0 (set w.senders s x) =
     ap (λ n. set v.senders n (launched_sender sends (sender_in v n))) at
-    ∙ (ap (λ y. set v.senders s (launched_sender sends y)) (sender_is names w accepted unread text ids s known (speaking_used w c speaking))
+    ∙ (ap (λ y. set v.senders s (launched_sender sends y)) (sender_is names w accepted unread text began s known (speaking_used w c speaking))
     ∙ (ap (λ y. set v.senders s y) (begun_is_flown w c sends idle)
     ∙ speaker_with k c x reached speaking)) in
     let verdicts : set v.verdicts (speaker_at v c) (get_or v.verdicts (speaker_at v c) [] ++ None ∷ []) ≡ each_number (λ n. verdict_list w.verdicts n (sender_at (with_sender w s x) n).seq) 0 (set w.senders s x) =
@@ -76,7 +76,7 @@ begun_is names k c first others reached there speaking reads idle accepted unrea
     ∙ (ap (λ y. set v.verdicts s y) (list_grown w.verdicts s (sender_at w s).seq (next_undecided k s reached known))
     ∙ lists_with w s x w.verdicts known (λ n differs. refl))) in
     let endpoint : asked_endpoint (receipt_asked (commit_frame (accepted c))) (get_or v.endpoints c no_endpoint) ≡ endpoint_view names (with_sender w s x) c (accepted c) (unread c) (text c) =
-    ap (λ y. asked_endpoint (receipt_asked (commit_frame (accepted c))) y) (endpoint_in names w accepted unread text ids c no_endpoint there)
+    ap (λ y. asked_endpoint (receipt_asked (commit_frame (accepted c))) y) (endpoint_in names w accepted unread text began c no_endpoint there)
     ∙ (asked_stage names (connection_at w c).standing (speaker w c).flight (record { txn = next_txn w c sends; given = []; mark = None }) (accepted c) (unread c)
     (endpoint_view names w c (accepted c) (unread c) (text c)) reads
     ∙ sym (endpoint_with_sender names k c x (accepted c) (unread c) (text c) reached speaking)) in
@@ -85,13 +85,13 @@ begun_is names k c first others reached there speaking reads idle accepted unrea
 
 -- the id that is answered
 pub begun_id_is : (names : List (List ℕ)) (k : Core) (c : ℕ) (sends : List SentMessage) → IsReached k → c < length k.world.connections → IsSpeaking k.world c → (speaker k.world c).flight ≡ None
-    → (accepted : ℕ → List RawFrame) (unread : ℕ → Unread) (text ids : ℕ → List ℕ)
-    → launched_id (view_with names k.world accepted unread text ids) c ≡ (next_txn k.world c sends).id
-begun_id_is names k c sends reached there speaking idle accepted unread text ids =
+    → (accepted : ℕ → List RawFrame) (unread : ℕ → Unread) (text : ℕ → List ℕ) (began : ℕ → Option RawFrame)
+    → launched_id (view_with names k.world accepted unread text began) c ≡ (next_txn k.world c sends).id
+begun_id_is names k c sends reached there speaking idle accepted unread text began =
     let w = k.world in let s = (speaker_number w c) in
-    let v = view_with names w accepted unread text ids in
-    ap (λ n. Rattle.sender_gate.specs.Gate.next_id (gate_of (sender_in v n).sending)) (speaker_is names w accepted unread text ids c there)
-    ∙ (ap (λ (y : SenderView). Rattle.sender_gate.specs.Gate.next_id (gate_of y.sending)) (sender_is names w accepted unread text ids s (speaker_there k c reached speaking) (speaking_used w c speaking))
+    let v = view_with names w accepted unread text began in
+    ap (λ n. Rattle.sender_gate.specs.Gate.next_id (gate_of (sender_in v n).sending)) (speaker_is names w accepted unread text began c there)
+    ∙ (ap (λ (y : SenderView). Rattle.sender_gate.specs.Gate.next_id (gate_of y.sending)) (sender_is names w accepted unread text began s (speaker_there k c reached speaking) (speaking_used w c speaking))
     ∙ ap (λ (o : Option Undecided). Rattle.sender_gate.specs.Gate.next_id (gate_of (sending_view s (speaker w c).seq (speaker w c).floor o))) idle)
 
 -- what is held has the connection's sender, which is between two transactions
@@ -99,16 +99,16 @@ abbrev pub IsIdleIn : View → ℕ → Type 0
 IsIdleIn v c = (speaker_at v c < length v.senders) × (is_idle (sender_in v (speaker_at v c)).sending ≡ true)
 
 pub idle_in : (names : List (List ℕ)) (k : Core) (c : ℕ) → IsReached k → c < length k.world.connections → IsSpeaking k.world c → (speaker k.world c).flight ≡ None
-    → (accepted : ℕ → List RawFrame) (unread : ℕ → Unread) (text ids : ℕ → List ℕ) → IsIdleIn (view_with names k.world accepted unread text ids) c
-idle_in names k c reached there speaking idle accepted unread text ids =
+    → (accepted : ℕ → List RawFrame) (unread : ℕ → Unread) (text : ℕ → List ℕ) (began : ℕ → Option RawFrame) → IsIdleIn (view_with names k.world accepted unread text began) c
+idle_in names k c reached there speaking idle accepted unread text began =
     let w = k.world in let s = speaker_number w c in
-    let v = view_with names w accepted unread text ids in
-    let at = speaker_is names w accepted unread text ids c there in
+    let v = view_with names w accepted unread text began in
+    let at = speaker_is names w accepted unread text began c there in
     let known = speaker_there k c reached speaking in
     let many = length-each_number (held_sender w) 0 w.senders in (
       omega (arith, at, known, many),
       ap (λ n. is_idle (sender_in v n).sending) at
-          ∙ (ap (λ (y : SenderView). is_idle y.sending) (sender_is names w accepted unread text ids s known (speaking_used w c speaking))
+          ∙ (ap (λ (y : SenderView). is_idle y.sending) (sender_is names w accepted unread text began s known (speaking_used w c speaking))
           ∙ ap (λ (o : Option Undecided). is_idle (sending_view s (speaker w c).seq (speaker w c).floor o)) idle),
     )
 

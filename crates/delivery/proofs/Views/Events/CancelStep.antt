@@ -26,7 +26,7 @@ use Rattle.delivery.specs.Machine.World.{World, Leftover, SenderState, topic_at,
 use Rattle.delivery.specs.Machine.Moves.{Move, Answer, move_refusal, needs_connection, is_topic, find_leftover, drop_leftover, cancel_objection, cancel_objection_of, cancel_effect, cancel_answer}
 use Rattle.delivery.specs.Theorem.Laws.{Run, final_world}
 use Rattle.delivery.specs.Core.Steps.{CoreStep, Reading, accepted_of}
-use Rattle.delivery.specs.Core.Output.{text_out, sub_id_text}
+use Rattle.delivery.specs.Core.Output.{text_out, subscribe_frame}
 use Rattle.delivery.specs.Core.State.{Core, names_at, unread_at}
 use Rattle.delivery.specs.Inner.Senders.{there_objection, speaker_at, sender_in, no_ticket, is_group, leftover_at, leftover_in, cancel_refusal_in, leftover_view, cancelled_view}
 use Rattle.delivery.specs.Inner.Stands.{IsReached, Makes, step_of}
@@ -263,7 +263,7 @@ cancels w c t e = go (is_topic w t) refl (find_leftover t (speaker w c).leftover
     go false topic o found e = none_some refusal.NotNamed e
 
 quiet : (names : List (List ℕ)) (c : ℕ) (t : Topic) (older : List CoreStep) → IsQuiet names (step_of (Event.Cancel c t) Reading.Nothing Outcome.Cancelled) older
-quiet names c t older = record { accepted = λ d. append-nil (accepted_of d older); unread = λ d. refl; text = λ d. append-nil (text_out names d older); ids = λ s. refl; named = refl }
+quiet names c t older = record { accepted = λ d. append-nil (accepted_of d older); unread = λ d. refl; text = λ d. append-nil (text_out names d older); began = λ s. refl; named = refl }
 
 -- the part is taken out, and the ticket dropped
 pub cancel_makes : (q : Core) (c s : ℕ) (t : Topic) → IsReached q → there_objection (slice_get (view_of q).endpoints c) ≡ None → s ≡ speaker_at (view_of q) c
@@ -304,8 +304,8 @@ cancel_makes q c s t was free own allowed =
       view = ap (leftover_view t s v) place
           ∙ ((λ i. record v { groups = groups i; senders = senders i })
           ∙ (ap (λ (u : View). record u { groups = set u.groups t.0 (group_view w y) })
-          (sender_quiet q c new was there (cancelling_speaking q c k free (leftover_found t x.leftovers k can.found).stands) refl (λ accepted. refl) (λ m. accepted_of m q.steps) (λ m. unread_at m q.steps) (λ m. text_out q.names m q.steps) (λ m. sub_id_text m q.steps))
-          ∙ (topic_quiet (names_at q) (with_sender w n new) t y (λ m. accepted_of m q.steps) (λ m. unread_at m q.steps) (λ m. text_out q.names m q.steps) (λ m. sub_id_text m q.steps)
+          (sender_quiet q c new was there (cancelling_speaking q c k free (leftover_found t x.leftovers k can.found).stands) refl (λ accepted. refl) (λ m. accepted_of m q.steps) (λ m. unread_at m q.steps) (λ m. text_out q.names m q.steps) (λ m. subscribe_frame m q.steps))
+          ∙ (topic_quiet (names_at q) (with_sender w n new) t y (λ m. accepted_of m q.steps) (λ m. unread_at m q.steps) (λ m. text_out q.names m q.steps) (λ m. subscribe_frame m q.steps)
           ∙ (sym (quiet_view q.names step q.steps (with_topic (with_sender w n new) t y) (quiet q.names c t q.steps))
           ∙ ap (λ (z : World). view_after q.names z (step ∷ q.steps)) (sym world)))));
     }

@@ -25,7 +25,7 @@ use Rattle.delivery.specs.Machine.World.{World, Connection, SenderState, Undecid
 use Rattle.delivery.specs.Machine.Moves.{Move, claim_refusals, claimed_senders, connect_effect, move_refusal, needs_idle}
 use Rattle.delivery.specs.Machine.Runs.{run}
 use Rattle.delivery.specs.Core.Claims.{begun_count, claim_of, claimed_sender, claims_of, is_one_too_many}
-use Rattle.delivery.specs.Core.Output.{receipts_of, sub_id_text, text_out}
+use Rattle.delivery.specs.Core.Output.{receipts_of, subscribe_frame, text_out}
 use Rattle.delivery.specs.Core.Outcomes.{claim_fault, frame_no_memory}
 use Rattle.delivery.specs.Core.State.{Core, core_for, next_moves, session_at, unread_at}
 use Rattle.delivery.specs.Core.Steps.{Reading, accepted_of}
@@ -138,14 +138,14 @@ spoken_for c s d v = record v { endpoints = set v.endpoints c (record (get_or v.
 
 -- what is held once the sender is claimed
 claimed_whole : (names : List (List ℕ)) (w : World) (c : ℕ) (claimed : Option ℕ) (gate : GateState) (d : EndpointView) → ConnectsFree w c claimed gate
-    → (accepted : ℕ → List RawFrame) (unread : ℕ → Unread) (text ids : ℕ → List ℕ)
-    → spoken_for c gate.sender.0 d (with_sender_of gate (view_with names w accepted unread text ids)) ≡ view_with names (connect_effect w c claimed) accepted unread text ids
-claimed_whole names w c claimed gate d h accepted unread text ids = by claimed refl endpoints
+    → (accepted : ℕ → List RawFrame) (unread : ℕ → Unread) (text : ℕ → List ℕ) (began : ℕ → Option RawFrame)
+    → spoken_for c gate.sender.0 d (with_sender_of gate (view_with names w accepted unread text began)) ≡ view_with names (connect_effect w c claimed) accepted unread text began
+claimed_whole names w c claimed gate d h accepted unread text began = by claimed refl endpoints
   where
     V : View
-    V = view_with names w accepted unread text ids
+    V = view_with names w accepted unread text began
 
-    many : length (view_with names w accepted unread text ids).senders ≡ length w.senders
+    many : length (view_with names w accepted unread text began).senders ≡ length w.senders
     many = length-each_number (held_sender w) 0 w.senders
 
     used : (s : ℕ) → unwrap_or claimed (length w.senders) ≡ s → is_in_use (connect_effect w c claimed) s ≡ true
@@ -174,9 +174,9 @@ claimed_whole names w c claimed gate d h accepted unread text ids = by claimed r
         → set (each_number (λ n. endpoint_view names w n (accepted n) (unread n) (text n)) 0 w.connections) c
         (record (get_or (each_number (λ n. endpoint_view names w n (accepted n) (unread n) (text n)) 0 w.connections) c d) { sender = Some gate.sender.0 })
         ≡ each_number (λ n. endpoint_view names (connect_effect w c claimed) n (accepted n) (unread n) (text n)) 0 (connect_effect w c claimed).connections
-        → spoken_for c gate.sender.0 d (with_sender_of gate (view_with names w accepted unread text ids)) ≡ view_with names (connect_effect w c claimed) accepted unread text ids
+        → spoken_for c gate.sender.0 d (with_sender_of gate (view_with names w accepted unread text began)) ≡ view_with names (connect_effect w c claimed) accepted unread text began
     by None e ends =
-        let v0 = view_with names w accepted unread text ids in
+        let v0 = view_with names w accepted unread text began in
         let new = connect_effect w c claimed in
         let is_new : new.senders ≡ w.senders ++ new_sender ∷ [] = ap (claimed_senders w.senders) e in
         let gate_is = h.fresh e in
@@ -200,7 +200,7 @@ claimed_whole names w c claimed gate d h accepted unread text ids = by claimed r
         ap (λ (b : Bool). spoken_for c gate.sender.0 d (cond b (woken v0) (grown v0))) beyond_all
         ∙ (λ i. record v0 { senders = senders i; verdicts = verdicts i; endpoints = ends i })
     by (Some s) e ends =
-        let v0 = view_with names w accepted unread text ids in
+        let v0 = view_with names w accepted unread text began in
         let new = connect_effect w c claimed in
         let same : w.senders ≡ new.senders = sym (ap (claimed_senders w.senders) e) in
         let state : (n : ℕ) → sender_at w n ≡ sender_at new n = λ n. sym (same_sender w c claimed n) in
@@ -384,7 +384,7 @@ module _ (k : Core) (c : ℕ) (f : RawFrame) (left : Unread) (client receipt : O
       let q = core_for k f in
       let can = connects_free allowed in
       let unclaimed : claim_fault k (actions.Connected client) ≡ None = claim_alike ∙ ap (option_map refused_claim) allowed in
-      let whole = claimed_whole (names_for k f) q.world c sender gate d can (λ n. accepted_of n steps) (λ n. unread_at n steps) (λ n. text_out k.names n steps) (λ n. sub_id_text n k.steps) in
+      let whole = claimed_whole (names_for k f) q.world c sender gate d can (λ n. accepted_of n steps) (λ n. unread_at n steps) (λ n. text_out k.names n steps) (λ n. subscribe_frame n k.steps) in
       let world : run (next_moves k c (Reading.Finds f left) Outcome.Done) k.world ≡ connect_effect q.world c sender =
       moved_world k c f left (actions.Connected client) move Outcome.Done asks.does refl can.free refl refl in
       let uses : UsesOne k.world (connect_effect k.world c sender) (begun_count before) (unwrap_or sender (begun_count before)) =

@@ -31,7 +31,7 @@ use Rattle.delivery.specs.Machine.World.{World, Undecided, SenderState, Connecti
 use Rattle.delivery.specs.Machine.Moves.{Move, Answer, move_refusal, needs_connection, has_ticket, is_complete, undecided_or_none, undecided_at, decide_effect, with_leaving}
 use Rattle.delivery.specs.Machine.Runs.{run}
 use Rattle.delivery.specs.Core.Account.{account_of}
-use Rattle.delivery.specs.Core.Output.{has_closed, receipts_of, receipt_asked, commit_frame, replies_to, text_out, sub_id_text}
+use Rattle.delivery.specs.Core.Output.{has_closed, receipts_of, receipt_asked, commit_frame, replies_to, text_out, subscribe_frame}
 use Rattle.delivery.specs.Core.Steps.{Reading, accepted_of}
 use Rattle.delivery.specs.Core.State.{Core, unread_at, names_at}
 use Rattle.delivery.specs.Core.Reports.{each_number}
@@ -340,7 +340,7 @@ decided_whole k c s stamp is h =
     ∙ (number_set old new w.connections c (connection_at w c) there others
     ∙ ap (λ (xs : List Connection). each_number new 0 xs) (set-get_or w.connections c nobody)) in
     (λ i. record (view_of k) { senders = are.senders i; verdicts = are.verdicts i; commits = are.commits i; endpoints = endpoints i })
-    ∙ (λ i. view_with (names_at k) v (λ n. sym (append-nil (accepted_of n k.steps)) i) (λ n. unread_at n k.steps) (λ n. text_out k.names n (step ∷ k.steps)) (λ n. sub_id_text n k.steps))
+    ∙ (λ i. view_with (names_at k) v (λ n. sym (append-nil (accepted_of n k.steps)) i) (λ n. unread_at n k.steps) (λ n. text_out k.names n (step ∷ k.steps)) (λ n. subscribe_frame n k.steps))
 
 -- ---- without memory for the RECEIPT
 

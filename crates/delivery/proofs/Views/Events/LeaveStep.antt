@@ -27,7 +27,7 @@ use Rattle.delivery.specs.Machine.Moves.{Move, Answer, move_refusal, move_refusa
 use Rattle.delivery.specs.Machine.Runs.{run}
 use Rattle.delivery.specs.Core.Steps.{Reading, accepted_of}
 use Rattle.delivery.specs.Core.Account.{account_of}
-use Rattle.delivery.specs.Core.Output.{text_out, sub_id_text, receipts_of, replies_to}
+use Rattle.delivery.specs.Core.Output.{text_out, subscribe_frame, receipts_of, replies_to}
 use Rattle.delivery.specs.Core.State.{Core, unread_at, names_at}
 use Rattle.delivery.specs.Core.Outcomes.{outcome_of, move_outcome, reply_outcomes, is_any}
 use Rattle.delivery.specs.Core.Reports.{each_number}
@@ -226,7 +226,7 @@ ends_as : (k : Core) (c s : ℕ) → IsReached k → c < length k.world.connecti
 ends_as k c s reached there e =
     let o = is_oldest k.world c s e in
     ap (λ (z : Option ℕ). option_and_then (λ n. option_map (end_with n) (left_at n (view_of k))) z) (endpoint_oldest k c there ∙ e)
-    ∙ pair (left_at s (view_of k)) (closed_end k c s reached o.there o.live (λ n. accepted_of n k.steps) (λ n. unread_at n k.steps) (λ n. text_out k.names n k.steps) (λ n. sub_id_text n k.steps))
+    ∙ pair (left_at s (view_of k)) (closed_end k c s reached o.there o.live (λ n. accepted_of n k.steps) (λ n. unread_at n k.steps) (λ n. text_out k.names n k.steps) (λ n. subscribe_frame n k.steps))
   where
     pair : (left : Option LeftView) → option_map (λ (z : LeftView). z.to) left ≡ Some (end_now k.world s)
         → option_map (end_with s) left ≡ Some (s, end_now k.world s)
@@ -263,7 +263,7 @@ leave_closes k c s to reached is found = go (oldest_live c 0 k.world.subscriptio
               reading = Reading.Nothing;
               may = record { reading = refl; outcome = rw (ap (reply_outcomes k c (Event.Leave c)) alone) (inl refl) };
               view = ap (λ (z : Option ℕ). option_map_or (λ m. closed_view m (view_of k)) z (view_of k)) (endpoint_oldest k c can.there ∙ e)
-                  ∙ (closed_is k c n reached can.there o.there o.live (λ n. accepted_of n k.steps) (λ n. unread_at n k.steps) (λ n. text_out k.names n k.steps) (λ n. sub_id_text n k.steps)
+                  ∙ (closed_is k c n reached can.there o.there o.live (λ n. accepted_of n k.steps) (λ n. unread_at n k.steps) (λ n. text_out k.names n k.steps) (λ n. subscribe_frame n k.steps)
                   ∙ (sym (quiet_view k.names step k.steps (close_effect k.world n) (leave_is_quiet k.names c n (end_now k.world n) k.steps))
                   ∙ ap (λ (v : World). view_after k.names v (step ∷ k.steps)) (sym world)));
             }
@@ -361,7 +361,7 @@ leave_gone k c cut reached is none asked =
       may = record { reading = refl; outcome = rw (ap (reply_outcomes k c (Event.Leave c)) alone) (either cut (λ e. cut_outcome k c reached (asked_here (asked e) staged))) };
       view = ap (gone_view cut c) (gone_rests k c reached can.there (ap is_gone can.leaving))
           ∙ (ap (λ (ls : List EndpointView). record (view_of k) { senders = each_number (held_sender u) 0 w.senders; endpoints = ls }) endpoints
-          ∙ ((λ i. view_with (names_at k) u (λ n. sym (append-nil (accepted n)) i) unread later (λ s. sub_id_text s steps))
+          ∙ ((λ i. view_with (names_at k) u (λ n. sym (append-nil (accepted n)) i) unread later (λ s. subscribe_frame s steps))
           ∙ ap (λ (v : World). view_after k.names v (step ∷ steps)) (sym world)));
     }
   where

@@ -32,7 +32,7 @@ use Rattle.delivery.specs.Machine.Objections.{Objection, refusal_of}
 use Rattle.delivery.specs.Machine.World.{World, Connection, Standing, nobody, connection_at, sender_at, speaker, is_gone}
 use Rattle.delivery.specs.Machine.Moves.{Move, needs_idle, move_refusal, with_leaving}
 use Rattle.delivery.specs.Core.Steps.{Reading, frame_in, accepted_of}
-use Rattle.delivery.specs.Core.Output.{is_cut, receipt_asked, next_replies, text_out}
+use Rattle.delivery.specs.Core.Output.{is_cut, receipt_asked, says_version, next_replies, text_out}
 use Rattle.delivery.specs.Core.State.{Core, IsReadBy, core_for, frame_move, left_by, session_at, unread_at, names_at}
 use Rattle.delivery.specs.Core.Outcomes.{claim_fault, fault_outcomes, frame_fault, frame_no_memory, frame_outcome, reading_outcomes, unless, accepted_outcomes, is_any, outcomes_without, wants_memory}
 use Rattle.delivery.specs.Inner.Nexts.{AsksNamed, Ends, HasFault, IsRefusedAs, JudgesReading, Judgement, JudgesAt, EndpointFault, error_text, failed_endpoint, idle_objection, staged_endpoint, accepted_stage, MayEnd, MayLack}
@@ -187,21 +187,21 @@ next_waits k c held idle h = waits_by k c held h.after h.judgement.reading idle 
 -- ---- ERRORs
 
 reply_is : (read : Option RawFrame) (fault : ConnectionFault) (cut : Bool)
-    → flat_map spelling_of (next_replies read (Outcome.Faulted fault cut)) ≡ error_text fault (receipt_asked read)
-reply_is None fault cut = append-nil (error_text fault (receipt_asked None))
-reply_is (Some f) fault cut = append-nil (error_text fault (receipt_asked (Some f)))
+    → flat_map spelling_of (next_replies read (Outcome.Faulted fault cut)) ≡ error_text fault (receipt_asked read) (says_version read fault)
+reply_is None fault cut = append-nil (error_text fault (receipt_asked None) (says_version None fault))
+reply_is (Some f) fault cut = append-nil (error_text fault (receipt_asked (Some f)) (says_version (Some f) fault))
 
 cut_text : (cut : Bool) (old text new : List ℕ) → new ≡ text → cond cut old (old ++ text) ≡ old ++ cond cut [] new
 cut_text true old text new is = sym (append-nil old)
 cut_text false old text new is = ap (λ (octets : List ℕ). old ++ octets) (sym is)
 
 -- the connection is leaving, with its ERROR or without
-pub next_ends : (k : Core) (c : ℕ) (reading : Reading) (fault : ConnectionFault) (receipt : Option (List ℕ)) (cut : Bool) (stage : Stage) (held new : View) (d : EndpointView)
-    → Ends k c reading fault receipt
+pub next_ends : (k : Core) (c : ℕ) (reading : Reading) (fault : ConnectionFault) (receipt : Option (List ℕ)) (version cut : Bool) (stage : Stage) (held new : View) (d : EndpointView)
+    → Ends k c reading fault receipt version
     → held ≡ with_endpoint (view_of k) c (staged_endpoint stage (endpoint_of (names_at k) k c))
-    → new ≡ with_endpoint held c (failed_endpoint cut (error_text fault receipt) (get_or held.endpoints c d))
+    → new ≡ with_endpoint held c (failed_endpoint cut (error_text fault receipt version) (get_or held.endpoints c d))
     → Makes k (Event.Next c) (Outcome.Faulted fault cut) new
-next_ends k c reading fault receipt cut stage held new d ends view is =
+next_ends k c reading fault receipt version cut stage held new d ends view is =
     let o = Outcome.Faulted fault cut in
     let there = idle_there k.world c ends.idle in
     let endpoints : c < length (view_of k).endpoints = within_endpoints (names_at k) k c there in
@@ -212,21 +212,22 @@ next_ends k c reading fault receipt cut stage held new d ends view is =
     let parted : parting_receipt (accepted ++ []) ≡ None =
     ap parting_receipt (append-nil accepted)
     ∙ ap (λ (f : Option RawFrame). option_and_then receipt_of f) (not_parting k c ends.reached (idle_reads k.world c ends.idle)) in
-    let text = ap (λ (r : Option (List ℕ)). error_text fault r) ends.asked in
-    let endpoint : failed_endpoint cut (error_text fault receipt) (staged_endpoint stage (endpoint_of (names_at k) k c)) ≡ next_endpoint (names_at k) k w c reading o =
+    let text : error_text fault receipt version ≡ error_text fault (receipt_asked (frame_in reading)) (says_version (frame_in reading) fault) =
+    λ i. error_text fault (ends.asked i) (ends.said i) in
+    let endpoint : failed_endpoint cut (error_text fault receipt version) (staged_endpoint stage (endpoint_of (names_at k) k c)) ≡ next_endpoint (names_at k) k w c reading o =
     λ i. record {
       sender = (sym now i).sender;
       stage = (ap (λ (p : Option (List ℕ)). Stage.Leaving p) (sym parted)
           ∙ ap (λ (y : Connection). stage_view (names_at k) y.standing (sender_at k.world (unwrap_or y.sender (length k.world.senders))).flight (accepted ++ []) (left_by (unread_at c k.steps) reading)) (sym now)) i;
       live = live_numbers c 0 k.world.subscriptions;
-      output = cut_text cut (text_out k.names c k.steps) (error_text fault receipt) (flat_map spelling_of (next_replies (frame_in reading) o))
+      output = cut_text cut (text_out k.names c k.steps) (error_text fault receipt version) (flat_map spelling_of (next_replies (frame_in reading) o))
           (reply_is (frame_in reading) fault cut ∙ sym text) i;
     } in
     let free : move_refusal k.world (Move.Errs c) ≡ None = ap (λ (why : Option Objection). option_or why None) ends.idle in
     next_makes k c reading o new ends.idle ends.read (ends.may cut)
     (is
-    ∙ (ap (λ (v : View). with_endpoint v c (failed_endpoint cut (error_text fault receipt) (get_or v.endpoints c d))) view
-    ∙ (endpoint_again (view_of k) c (staged_endpoint stage (endpoint_of (names_at k) k c)) (failed_endpoint cut (error_text fault receipt)) d endpoints
+    ∙ (ap (λ (v : View). with_endpoint v c (failed_endpoint cut (error_text fault receipt version) (get_or v.endpoints c d))) view
+    ∙ (endpoint_again (view_of k) c (staged_endpoint stage (endpoint_of (names_at k) k c)) (failed_endpoint cut (error_text fault receipt version)) d endpoints
     ∙ (ap (λ (l : EndpointView). with_endpoint (view_of k) c l) endpoint
     ∙ (next_written (names_at k) k c reading o x there
     (standing_speaks (connection_at k.world c) Standing.Leaving refl (ap is_gone (idle_open k.world c ends.idle)))
@@ -325,7 +326,7 @@ refused_may k c f left _ h cut = absurd h
 faulted_by : (k : Core) (c : ℕ) (after : OpenEndpoint) (fault : ConnectionFault) (frame : Option RawFrame) (reading : Reading) (later : List (List ℕ)) → IsReached k
     → first_refusal (needs_idle k.world c) ≡ None → IsReadBy (unread_at c k.steps) reading
     → JudgesReading (accepted_of c k.steps) (names_at k) (idle_endpoint k c) reading (Err (fault, frame)) after later
-    → Ends k c reading fault (receipt_asked frame) × (later ≡ names_at k)
+    → Ends k c reading fault (receipt_asked frame) (says_version frame fault) × (later ≡ names_at k)
 faulted_by k c after fault frame Reading.Nothing later reached idle read is = (
   record {
     reached = reached;
@@ -334,6 +335,7 @@ faulted_by k c after fault frame Reading.Nothing later reached idle read is = (
     may = λ cut. subst (λ (b : Bool). In (Outcome.Faulted fault cut) (outcomes_without b ConnectionFault.ReaderNoMemory)) (sym is.2)
         (subst (λ (x : ConnectionFault). In (Outcome.Faulted x cut) (fault_outcomes ConnectionFault.ReaderNoMemory)) (sym is.1) (in_faults ConnectionFault.ReaderNoMemory cut));
     asked = ap receipt_asked is.0;
+    said = ap (λ (o : Option RawFrame). says_version o fault) is.0;
   },
   is.3,
 )
@@ -345,6 +347,7 @@ faulted_by k c after fault frame (Reading.Finds f left) later reached idle read 
     read = read;
     may = refused_may k c f left fault is.1;
     asked = ap receipt_asked is.0;
+    said = ap (λ (o : Option RawFrame). says_version o fault) is.0;
   },
   is.2,
 )
@@ -355,6 +358,7 @@ faulted_by k c after fault frame (Reading.Fails check left) later reached idle r
     read = read;
     may = λ cut. subst (λ (x : ConnectionFault). In (Outcome.Faulted x cut) (fault_outcomes (ConnectionFault.Stream check))) (sym is.1) (in_faults (ConnectionFault.Stream check) cut);
     asked = ap receipt_asked is.0;
+    said = ap (λ (o : Option RawFrame). says_version o fault) is.0;
   },
   is.2,
 )
@@ -374,15 +378,15 @@ next_faults k c fault frame held reached idle h =
     }
 
 -- it ends by an ERROR
-pub next_fails : (k : Core) (c : ℕ) (fault : ConnectionFault) (frame : Option RawFrame) (receipt : Option (List ℕ)) (held new : View) (o : Outcome) (d : EndpointView)
-    → HasFault k c fault frame held → receipt ≡ receipt_asked frame → o ≡ Outcome.Faulted fault (is_cut o)
-    → new ≡ with_endpoint held c (failed_endpoint (is_cut o) (error_text fault receipt) (get_or held.endpoints c d))
+pub next_fails : (k : Core) (c : ℕ) (fault : ConnectionFault) (frame : Option RawFrame) (receipt : Option (List ℕ)) (version : Bool) (held new : View) (o : Outcome) (d : EndpointView)
+    → HasFault k c fault frame held → receipt ≡ receipt_asked frame → version ≡ says_version frame fault → o ≡ Outcome.Faulted fault (is_cut o)
+    → new ≡ with_endpoint held c (failed_endpoint (is_cut o) (error_text fault receipt version) (get_or held.endpoints c d))
     → Makes k (Event.Next c) o new
-next_fails k c fault frame receipt held new o d h same is view =
+next_fails k c fault frame receipt version held new o d h same says is view =
     subst (λ (p : Outcome). Makes k (Event.Next c) p new) (sym is)
-    (next_ends k c h.reading fault (receipt_asked frame) (is_cut o) h.stage held new d h.ends
+    (next_ends k c h.reading fault (receipt_asked frame) (says_version frame fault) (is_cut o) h.stage held new d h.ends
     (h.view ∙ ap (λ (l : EndpointView). with_endpoint (view_of k) c (staged_endpoint h.stage l)) (endpoint_there (names_at k) k c no_endpoint (idle_there k.world c h.ends.idle)))
-    (view ∙ ap (λ (r : Option (List ℕ)). with_endpoint held c (failed_endpoint (is_cut o) (error_text fault r) (get_or held.endpoints c d))) same))
+    (view ∙ (λ i. with_endpoint held c (failed_endpoint (is_cut o) (error_text fault (same i) (says i)) (get_or held.endpoints c d)))))
 
 -- ---- a frame that is accepted
 

@@ -44,6 +44,7 @@ use Rattle.delivery.proofs.Core.ByRun.{run_append}
 use Rattle.delivery.proofs.Core.FrameWorld.{idle_for}
 use Rattle.delivery.proofs.Views.Events.FrameTopic.{named_is}
 use Rattle.mcast_txn.specs.Checks.{first_refusal}
+use Rattle.delivery.proofs.Views.Events.UntoldVersion.{untold}
 use Rattle.delivery.proofs.Views.Events.NextFaults.{asked_objection, fault_is, endpoint_of, endpoint_there, next_ends, within_endpoints}
 use Rattle.delivery.proofs.Views.Events.NextStep.{view_by, held_still, next_of, next_endpoint, next_makes, next_may, next_still, next_written, text_added, frames_added, idle_there, idle_reads, idle_stage, idle_open}
 use Rattle.delivery.proofs.Views.Endpoints.DisconnectIsLast.{not_parting}
@@ -107,21 +108,22 @@ replied_view k c f left action receipt held new o text d asks effect text_is is 
 -- the frame has no effect, its destination has no topic, and the connection ends by an ERROR
 pub next_ends_with : (k : Core) (c : ℕ) (f : RawFrame) (left : Unread) (action : Action) (fault : ConnectionFault) (receipt said : Option (List ℕ)) (held new : View) (o : Outcome) (d : EndpointView)
     → AsksUnnamed k c f left action receipt held → MayEnd k c f fault → said ≡ receipt → o ≡ Outcome.Faulted fault (is_cut o)
-    → new ≡ with_endpoint held c (failed_endpoint (is_cut o) (error_text fault said) (get_or held.endpoints c d))
+    → new ≡ with_endpoint held c (failed_endpoint (is_cut o) (error_text fault said false) (get_or held.endpoints c d))
     → Makes k (Event.Next c) o new
 next_ends_with k c f left action fault receipt said held new o d asks may same is view =
     subst (λ (p : Outcome). Makes k (Event.Next c) p new) (sym is)
-    (next_ends k c (Reading.Finds f left) fault receipt (is_cut o) (accepted_stage k c f left) held new d
+    (next_ends k c (Reading.Finds f left) fault receipt false (is_cut o) (accepted_stage k c f left) held new d
     (record {
       reached = asks.reached;
       idle = asks.idle;
       read = asks.read;
       may = may;
       asked = sym asks.wants;
+      said = sym (untold k c f fault asks.cased asks.free may);
     })
     (asks.view
     ∙ ap (λ (l : EndpointView). with_endpoint (view_of k) c (staged_endpoint (accepted_stage k c f left) l)) (endpoint_there (names_at k) k c no_endpoint (idle_there k.world c asks.idle)))
-    (view ∙ ap (λ (r : Option (List ℕ)). with_endpoint held c (failed_endpoint (is_cut o) (error_text fault r) (get_or held.endpoints c d))) same))
+    (view ∙ ap (λ (r : Option (List ℕ)). with_endpoint held c (failed_endpoint (is_cut o) (error_text fault r false) (get_or held.endpoints c d))) same))
 
 -- ---- what may come of it
 

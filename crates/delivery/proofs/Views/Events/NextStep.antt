@@ -20,7 +20,7 @@ use Rattle.delivery.specs.Machine.World.{World, Undecided, Connection, Standing,
 use Rattle.delivery.specs.Machine.Moves.{needs_idle}
 use Rattle.delivery.specs.Machine.Runs.{run}
 use Rattle.delivery.specs.Core.Steps.{CoreStep, Reading, frame_in, has_effect, accepted_of}
-use Rattle.delivery.specs.Core.Output.{is_cut, next_replies, sub_id_text, text_out}
+use Rattle.delivery.specs.Core.Output.{is_cut, next_replies, subscribe_frame, text_out}
 use Rattle.delivery.specs.Core.State.{Core, IsReadBy, left_by, next_moves, unread_at}
 use Rattle.delivery.specs.Core.Outcomes.{MayStep, reading_outcomes, unless}
 use Rattle.delivery.specs.Core.Reports.{each_number}
@@ -92,7 +92,7 @@ other_text names c n reading o older other =
 abbrev pub view_by : List (List ℕ) → Core → View
 view_by names k =
     view_with names k.world (λ c. accepted_of c k.steps) (λ c. unread_at c k.steps) (λ c. text_out k.names c k.steps)
-    (λ s. sub_id_text s k.steps)
+    (λ s. subscribe_frame s k.steps)
 
 -- the endpoint of connection c in this world after a Next
 abbrev pub next_endpoint : List (List ℕ) → Core → World → ℕ → Reading → Outcome → EndpointView
@@ -100,12 +100,12 @@ next_endpoint names k w c reading o =
     endpoint_view names w c (accepted_of c k.steps ++ frames_added reading o) (left_by (unread_at c k.steps) reading)
     (text_out k.names c k.steps ++ text_added reading o)
 
--- what is held of the world of before after a Next, with the ids of before
+-- what is held of the world of before after a Next, with the began of before
 abbrev pub held_still : List (List ℕ) → Core → World → ℕ → Reading → Outcome → View
 held_still names k w c reading o =
     let steps = next_of c reading o ∷ k.steps in
     view_with names w (λ n. accepted_of n steps) (λ n. unread_at n steps) (λ n. text_out k.names n steps)
-    (λ s. sub_id_text s k.steps)
+    (λ s. subscribe_frame s k.steps)
 
 -- with another standing of its connection, or the same, that is the view of before with another endpoint
 pub next_written : (names : List (List ℕ)) (k : Core) (c : ℕ) (reading : Reading) (o : Outcome) (x : Connection) → c < length k.world.connections

@@ -1,8 +1,8 @@
 -- A Next whose frame is a SUBSCRIBE or an UNSUBSCRIBE.
-use Rattle.std.proofs.Common.{◌≡◌, ◌≢◌, ℕ, ◌<◌, Bool, true, false, cond, inl, inr, List, [], ◌∷◌, length, get_or, Option, Some, None, refl, sym, ap, subst, ◌∙◌, arith}
+use Rattle.std.proofs.Common.{◌≡◌, ◌≢◌, ℕ, ◌<◌, ◌||◌, Bool, true, false, cond, inl, inr, List, [], ◌∷◌, ◌++◌, length, get_or, Option, Some, None, codes, refl, sym, ap, subst, ◌∙◌, arith}
 use Rattle.std.specs.Option.{is_some, option_map}
 use Rattle.std.proofs.lemmas.Bool.{ltb-true}
-use Rattle.std.proofs.lemmas.List.{get_or-map, length-map}
+use Rattle.std.proofs.lemmas.List.{get_or-map, get_or-set_same, length-map}
 use Rattle.mcast_txn.specs.Lists.{In}
 use Rattle.mcast_txn.specs.declared.id.Topic.{Topic}
 use Rattle.mcast_txn.specs.declared.stamp.Stamp.{Stamp}
@@ -12,38 +12,71 @@ use Rattle.mcast_group.proofs.Parts.{some_same}
 use Rattle.stomp_frame.specs.declared.command.Command.{Command}
 use Rattle.stomp_frame.specs.declared.command.Command.TheVariants as commands
 use Rattle.stomp_frame.specs.declared.raw_frame.RawFrame.{RawFrame}
+use Rattle.stomp_frame.specs.Headers.{first_of}
 use Rattle.stomp_frame.specs.Reader.{Unread}
 use Rattle.stomp_session.specs.declared.action.Action.TheVariants as actions
 use Rattle.stomp_session.specs.Answers.{action_by}
 use Rattle.stomp_session.proofs.Later.{with_destination-none}
-use Rattle.stomp_session.specs.Frames.{has_destination, id_of}
-use Rattle.stomp_session.proofs.Asked.{begins, begins_at, ends}
+use Rattle.stomp_session.specs.Frames.{has_destination, id_of, is_disconnect, is_subscribe, transaction_of, wants_parts}
+use Rattle.stomp_session.specs.Open.{Held, asks_parts, held_after, is_ended, state_of}
+use Rattle.stomp_session.specs.Refusals.{sends_in}
+use Rattle.stomp_session.proofs.LeftOpen.{list_any-push}
+use Rattle.stomp_session.proofs.Parts.{held_asks}
+use Rattle.stomp_session.proofs.Asked.{begins, begins_at, ends, sent_subscribes, committed_subscribes}
 use Rattle.delivery.specs.declared.event.Event.{Event}
 use Rattle.delivery.specs.declared.outcome.Outcome.{Outcome}
 use Rattle.delivery.specs.Machine.World.{subscription_at, topic_at}
 use Rattle.delivery.specs.Machine.Moves.{Move, end_now, is_live, is_topic, move_effect, move_refusal}
 use Rattle.delivery.specs.Theorem.Laws.{final_world}
 use Rattle.delivery.specs.Core.Steps.{Reading, accepted_of, has_effect, number_by}
-use Rattle.delivery.specs.Core.Output.{sub_id_text, text_out}
+use Rattle.delivery.specs.Core.Output.{subscribe_frame, text_out}
 use Rattle.delivery.specs.Core.State.{Core, core_for, names_at, session_at, unread_at}
-use Rattle.delivery.specs.Inner.Nexts.{Asks, receipt_text}
+use Rattle.delivery.specs.Inner.Nexts.{Asks, accepted_stage, receipt_text, staged_endpoint}
 use Rattle.delivery.specs.Inner.Stands.{IsReached, Makes}
-use Rattle.delivery.specs.Inner.Subscriptions.{closed_view, left_at, number_in, subscribed_view}
-use Rattle.delivery.specs.Inner.View.{View, EndpointView, LeftView, group_view, no_group, view_after, view_with, written_endpoint, group_in}
+use Rattle.delivery.specs.Inner.Subscriptions.{closed_view, left_at, number_in, parts_in, stage_parts, subscribed_view}
+use Rattle.delivery.specs.Inner.View.{View, EndpointView, LeftView, group_view, no_endpoint, no_group, view_after, view_with, written_endpoint, group_in}
 use Rattle.delivery.proofs.Views.Subscriptions.ClosedIsDropped.{closed_is, closed_end}
 use Rattle.delivery.proofs.Views.Endpoints.EndpointChanges.{with_endpoint}
-use Rattle.delivery.proofs.Views.Events.NextFrames.{move_makes, names_for, receipt_is, replied_view, there_for}
+use Rattle.delivery.proofs.Views.Events.NextFrames.{changed_view, move_makes, names_for, receipt_is, replied_view, there_for}
+use Rattle.delivery.proofs.Views.Events.NextFaults.{endpoint_of, within_endpoints}
 use Rattle.delivery.proofs.Core.FrameWorld.{by_use, framed_none, idle_for}
 use Rattle.delivery.proofs.Machine.SubscriptionSteps.{at_added}
 use Rattle.delivery.proofs.Theorem.AcceptedIsDue.{reached}
 use Rattle.delivery.proofs.Views.Endpoints.StandingOfConnection.{differ}
 use Rattle.delivery.proofs.Views.Runs.ByRunOfCore.{by_world}
 use Rattle.delivery.proofs.Views.Senders.SendsAreToTopics.{topic_made}
-use Rattle.delivery.proofs.Views.Events.NextStep.{held_still, idle_reads, idle_there, next_of, text_added}
-use Rattle.delivery.proofs.Views.Subscriptions.OpenIsLive.{names_live, subscribe_free, unsubscribe_free}
-use Rattle.delivery.proofs.Views.Subscriptions.NewSubscription.{begun_as, new_id, old_ids, subscribed_is}
+use Rattle.delivery.proofs.Views.Events.NextStep.{held_still, idle_reads, idle_there, next_of, text_added, view_by}
+use Rattle.delivery.proofs.Views.Subscriptions.OpenIsLive.{names_live, not_ended, subscribe_free, unsubscribe_free}
+use Rattle.delivery.proofs.Views.Subscriptions.NewSubscription.{begun_as, new_frame, old_frames, subscribed_is}
 
 -- ---- SUBSCRIBE
+
+-- it asks for a subscription
+subscribes : (command : Command) (s : Held) (f : RawFrame) (id : List ℕ) (t : Topic) → action_by command s f ≡ actions.Subscribe id t
+    → command ≡ commands.Subscribe
+subscribes commands.Subscribe s f id t e = refl
+subscribes commands.Send s f id t e = sent_subscribes s f (first_of (codes "transaction") f.headers) id t e
+subscribes commands.Commit s f id t e = committed_subscribes (sends_in (transaction_of f) s.transactions) id t e
+subscribes _ s f id t e = absurd (cc)
+
+-- the session says of its id what it asked for
+parts_asked : (k : Core) (c : ℕ) (f : RawFrame) (left : Unread) (id : List ℕ) (t : Topic) (receipt : Option (List ℕ)) (held mid : View) (d : EndpointView)
+    → Asks k c f left (actions.Subscribe id t) receipt held
+    → mid ≡ with_endpoint held c (written_endpoint (receipt_text receipt) (get_or held.endpoints c d))
+    → parts_in mid c id ≡ wants_parts f
+parts_asked k c f left id t receipt held mid d asks written =
+    let names = names_for k f in let q = core_for k f in
+    let v = view_by names q in
+    let accepted = accepted_of c k.steps in
+    let endpoint = written_endpoint (receipt_text receipt) (staged_endpoint (accepted_stage k c f left) (endpoint_of names q c)) in
+    let command = subscribes f.command (session_at k c) f id t asks.does in
+    let going : is_ended (accepted ++ f ∷ []) ≡ false =
+    list_any-push (λ g. is_disconnect g.command) accepted f
+    ∙ (λ i. not_ended k c asks.reached (idle_reads k.world c asks.idle) i || is_disconnect (command i)) in
+    ap (λ (x : View). parts_in x c id) (changed_view k c f left (actions.Subscribe id t) receipt held mid (written_endpoint (receipt_text receipt)) d asks written)
+    ∙ (ap (λ (l : EndpointView). stage_parts id l.stage) (get_or-set_same v.endpoints c endpoint no_endpoint (within_endpoints names q c (there_for k f c asks.idle)))
+    ∙ (ap (λ (z : List ℕ). asks_parts z (state_of (held_after names (accepted ++ f ∷ [])))) (sym (begins f.command (session_at k c) f id t asks.does))
+    ∙ held_asks names accepted f (ap is_subscribe command) going))
 
 -- its RECEIPT is written, and the subscription begins
 pub next_subscribes : (k : Core) (c : ℕ) (f : RawFrame) (left : Unread) (id : List ℕ) (t : Topic) (receipt : Option (List ℕ)) (held mid new : View) (s : ℕ) (from : Stamp) (d : EndpointView)
@@ -51,7 +84,7 @@ pub next_subscribes : (k : Core) (c : ℕ) (f : RawFrame) (left : Unread) (id : 
     → mid ≡ with_endpoint held c (written_endpoint (receipt_text receipt) (get_or held.endpoints c d))
     → t.0 < length mid.groups
     → s ≡ length mid.subs → from ≡ (group_in mid t).topic.frontier
-    → new ≡ subscribed_view c id t mid
+    → new ≡ subscribed_view c id (parts_in mid c id) t mid
     → Makes k (Event.Next c) (Outcome.Subscribed s from) new
 next_subscribes k c f left id t receipt held mid new s from d asks written topic number begins_at is =
     let names = names_for k f in let q = core_for k f in let w = q.world in
@@ -67,15 +100,16 @@ next_subscribes k c f left id t receipt held mid new s from d asks written topic
     (receipt_is k c f left (actions.Subscribe id t) receipt held asks) written in
     let groups : length mid.groups ≡ length w.topics = ap (λ (v : View). length v.groups) still ∙ length-map w.topics (group_view w) in
     let named : t.0 < length w.topics = omega (arith, topic, groups) in
-    let begun = begun_as names w t (λ m. accepted_of m steps) (λ m. unread_at m steps) (λ m. text_out k.names m steps) (λ m. sub_id_text m k.steps) named in
+    let begun = begun_as names w t (λ m. accepted_of m steps) (λ m. unread_at m steps) (λ m. text_out k.names m steps) (λ m. subscribe_frame m k.steps) named in
     let same : n ≡ s = sym (number ∙ (ap (λ (v : View). length v.subs) still ∙ begun.0)) in
     let at : y ≡ from = sym (begins_at ∙ (ap (λ (v : View). (group_in v t).topic.frontier) still ∙ begun.1)) in
-    let own = new_id c f left n y k.steps ∙ begins f.command (session_at k c) f id t asks.does in
-    let view = subscribed_is names w c id t (λ m. accepted_of m steps) (λ m. unread_at m steps) (λ m. text_out k.names m steps) (λ m. sub_id_text m k.steps) (λ m. sub_id_text m steps)
-    there named (old_ids c f left n y k.steps) own in
+    let named_id = begins f.command (session_at k c) f id t asks.does in
+    let parts = parts_asked k c f left id t receipt held mid d asks written in
+    let view = subscribed_is names w c f t (λ m. accepted_of m steps) (λ m. unread_at m steps) (λ m. text_out k.names m steps) (λ m. subscribe_frame m k.steps) (λ m. subscribe_frame m steps)
+    there named (old_frames c f left n y k.steps) (new_frame c f left n y k.steps) in
     subst (λ (p : Outcome). Makes k (Event.Next c) p new) (λ i. Outcome.Subscribed (same i) (at i))
     (move_makes k c f left (actions.Subscribe id t) receipt held new (Move.Subscribes c t) o asks refl refl (subscribe_free w c t idle named) refl refl refl
-    (is ∙ (ap (λ (v : View). subscribed_view c id t v) still ∙ view)))
+    (is ∙ ((λ i. subscribed_view c (sym named_id i) (parts i) t (still i)) ∙ view)))
 
 -- ---- what is asked of the private call
 
@@ -119,7 +153,7 @@ next_free k c f left id t receipt held mid d asks written =
     let made : is_topic w t ≡ true = subst (λ (u : Topic). is_topic w u ≡ true) asked.1 (topic_made k f asks.reached asked.0) in
     let named : t.0 < length w.topics = ltb-true t.0 (length w.topics) made in
     let groups : length mid.groups ≡ length w.topics = ap (λ (v : View). length v.groups) still ∙ length-map w.topics (group_view w) in
-    let begun = begun_as names w t (λ m. accepted_of m steps) (λ m. unread_at m steps) (λ m. text_out k.names m steps) (λ m. sub_id_text m k.steps) named in
+    let begun = begun_as names w t (λ m. accepted_of m steps) (λ m. unread_at m steps) (λ m. text_out k.names m steps) (λ m. subscribe_frame m k.steps) named in
     let group : group_in (held_still names q w c reading o) t ≡ group_view w (topic_at w t) = get_or-map (group_view w) w.topics t.0 (new_topic t 0 0) no_group named in (
       omega (arith, named, groups),
       ap (λ (v : View). subscribe_fault (length v.subs) (group_in v t).topic) still
@@ -188,7 +222,7 @@ next_leaves k c f left id receipt held mid d asks written =
     let n = number_by c (id_of f) k.steps in
     ap (λ (v : View). option_map (λ (x : LeftView). x.to) (left_at (number_by c id k.steps) v)) still
     ∙ subst (λ (z : List ℕ). option_map (λ (x : LeftView). x.to) (left_at (number_by c z k.steps) (held_still (names_at k) k w c reading o)) ≡ Some (end_now w (number_by c z k.steps))) ended.1
-    (closed_end k c n asks.reached live.there live.live (λ m. accepted_of m steps) (λ m. unread_at m steps) (λ m. text_out k.names m steps) (λ m. sub_id_text m k.steps))
+    (closed_end k c n asks.reached live.there live.live (λ m. accepted_of m steps) (λ m. unread_at m steps) (λ m. text_out k.names m steps) (λ m. subscribe_frame m k.steps))
 
 -- its RECEIPT is written, and the subscription ends
 pub next_unsubscribes : (k : Core) (c : ℕ) (f : RawFrame) (left : Unread) (id : List ℕ) (receipt : Option (List ℕ)) (held mid new : View) (s : ℕ) (to : Stamp) (d : EndpointView)
@@ -216,10 +250,10 @@ next_unsubscribes k c f left id receipt held mid new s to d asks written number 
     ∙ next_leaves k c f left id receipt held mid d asks written))) in
     let found : n < length w.subscriptions = subst (λ (z : List ℕ). number_by c z k.steps < length w.subscriptions) ended.1 live.there in
     let alive = subst (λ (z : List ℕ). is_live c (subscription_at w (number_by c z k.steps)) ≡ true) ended.1 live.live in
-    let view = closed_is k c n asks.reached there found alive (λ m. accepted_of m steps) (λ m. unread_at m steps) (λ m. text_out k.names m steps) (λ m. sub_id_text m k.steps) in
-    let after : view_with (names_at k) (move_effect w (Move.Unsubscribes c n)) (λ m. accepted_of m steps) (λ m. unread_at m steps) (λ m. text_out k.names m steps) (λ m. sub_id_text m k.steps)
+    let view = closed_is k c n asks.reached there found alive (λ m. accepted_of m steps) (λ m. unread_at m steps) (λ m. text_out k.names m steps) (λ m. subscribe_frame m k.steps) in
+    let after : view_with (names_at k) (move_effect w (Move.Unsubscribes c n)) (λ m. accepted_of m steps) (λ m. unread_at m steps) (λ m. text_out k.names m steps) (λ m. subscribe_frame m k.steps)
     ≡ view_after k.names (move_effect (core_for k f).world (Move.Unsubscribes c n)) steps =
-    λ i. view_with (sym here.names i) (move_effect (sym here.core i).world (Move.Unsubscribes c n)) (λ m. accepted_of m steps) (λ m. unread_at m steps) (λ m. text_out k.names m steps) (λ m. sub_id_text m k.steps) in
+    λ i. view_with (sym here.names i) (move_effect (sym here.core i).world (Move.Unsubscribes c n)) (λ m. accepted_of m steps) (λ m. unread_at m steps) (λ m. text_out k.names m steps) (λ m. subscribe_frame m k.steps) in
     subst (λ (p : Outcome). Makes k (Event.Next c) p new) (λ i. Outcome.Unsubscribed (same i) (at i))
     (move_makes k c f left (actions.Unsubscribe id) receipt held new (Move.Unsubscribes c n) o asks refl refl
     (subst (λ (z : Core). move_refusal z.world (Move.Unsubscribes c n) ≡ None) (sym here.core) (unsubscribe_free w c n asks.idle found alive))

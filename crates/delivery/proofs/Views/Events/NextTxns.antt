@@ -17,7 +17,7 @@ use Rattle.delivery.specs.Machine.Objections.{Objection}
 use Rattle.delivery.specs.Machine.World.{World, is_gone, connection_at, speaker, speaker_number}
 use Rattle.delivery.specs.Machine.Moves.{Move, commit_effect, is_topic, move_refusal, needs_idle, next_txn}
 use Rattle.delivery.specs.Core.Steps.{Reading, accepted_of}
-use Rattle.delivery.specs.Core.Output.{commit_frame, receipt_asked, sub_id_text, text_out}
+use Rattle.delivery.specs.Core.Output.{commit_frame, receipt_asked, subscribe_frame, text_out}
 use Rattle.delivery.specs.Core.State.{Core, core_for, session_at, unread_at}
 use Rattle.delivery.specs.Inner.Nexts.{Asks, accepted_stage, staged_endpoint}
 use Rattle.delivery.specs.Inner.Senders.{asked_view, launched_id, launched_view}
@@ -92,26 +92,26 @@ still_view k c f left action receipt held id asks =
 
 -- what is held once the transaction has begun, where the frame's destination has its topic
 begun_for : (k : Core) (f : RawFrame) (c : ℕ) (first : SentMessage) (others : List SentMessage) → IsReached k → first_refusal (needs_idle k.world c) ≡ None → IsSpeaking k.world c
-    → (accepted : ℕ → List RawFrame) (unread : ℕ → Unread) (text ids : ℕ → List ℕ)
-    → asked_view (receipt_asked (commit_frame (accepted c))) c (launched_view (first ∷ others) c (view_with (names_for k f) (core_for k f).world accepted unread text ids))
-    ≡ view_with (names_for k f) (commit_effect (core_for k f).world c (first ∷ others)) accepted unread text ids
-begun_for k f c first others reached idle speaking accepted unread text ids =
+    → (accepted : ℕ → List RawFrame) (unread : ℕ → Unread) (text : ℕ → List ℕ) (began : ℕ → Option RawFrame)
+    → asked_view (receipt_asked (commit_frame (accepted c))) c (launched_view (first ∷ others) c (view_with (names_for k f) (core_for k f).world accepted unread text began))
+    ≡ view_with (names_for k f) (commit_effect (core_for k f).world c (first ∷ others)) accepted unread text began
+begun_for k f c first others reached idle speaking accepted unread text began =
     let names = names_for k f in
-    let P : World → View = λ w. asked_view (receipt_asked (commit_frame (accepted c))) c (launched_view (first ∷ others) c (view_with names w accepted unread text ids)) in
-    let Q : World → View = λ w. view_with names (commit_effect w c (first ∷ others)) accepted unread text ids in
+    let P : World → View = λ w. asked_view (receipt_asked (commit_frame (accepted c))) c (launched_view (first ∷ others) c (view_with names w accepted unread text began)) in
+    let Q : World → View = λ w. view_with names (commit_effect w c (first ∷ others)) accepted unread text began in
     let old : P k.world ≡ Q k.world =
-    begun_is names k c first others reached (idle_there k.world c idle) speaking (idle_reads k.world c idle) (idle_flight k.world c idle) accepted unread text ids in
+    begun_is names k c first others reached (idle_there k.world c idle) speaking (idle_reads k.world c idle) (idle_flight k.world c idle) accepted unread text began in
     by_use (λ w. P w ≡ Q w) k f old
     (λ i. record (P (with_topic k.world)) { senders = (old i).senders; verdicts = (old i).verdicts; endpoints = (old i).endpoints })
 
 -- its id
 begun_id_for : (k : Core) (f : RawFrame) (c : ℕ) (sends : List SentMessage) → IsReached k → first_refusal (needs_idle k.world c) ≡ None → IsSpeaking k.world c
-    → (accepted : ℕ → List RawFrame) (unread : ℕ → Unread) (text ids : ℕ → List ℕ)
-    → launched_id (view_with (names_for k f) (core_for k f).world accepted unread text ids) c ≡ (next_txn (core_for k f).world c sends).id
-begun_id_for k f c sends reached idle speaking accepted unread text ids =
+    → (accepted : ℕ → List RawFrame) (unread : ℕ → Unread) (text : ℕ → List ℕ) (began : ℕ → Option RawFrame)
+    → launched_id (view_with (names_for k f) (core_for k f).world accepted unread text began) c ≡ (next_txn (core_for k f).world c sends).id
+begun_id_for k f c sends reached idle speaking accepted unread text began =
     let names = names_for k f in
-    let old = begun_id_is names k c sends reached (idle_there k.world c idle) speaking (idle_flight k.world c idle) accepted unread text ids in
-    by_use (λ w. launched_id (view_with names w accepted unread text ids) c ≡ (next_txn w c sends).id) k f old old
+    let old = begun_id_is names k c sends reached (idle_there k.world c idle) speaking (idle_flight k.world c idle) accepted unread text began in
+    by_use (λ w. launched_id (view_with names w accepted unread text began) c ≡ (next_txn w c sends).id) k f old old
 
 commits_some : (k : Core) (c : ℕ) (f : RawFrame) (left : Unread) (first : SentMessage) (others : List SentMessage) (receipt : Option (List ℕ)) (held mid new : View) (id : TxnId)
     → Asks k c f left (actions.Commit (first ∷ others)) receipt held
@@ -131,16 +131,16 @@ commits_some k c f left first others receipt held mid new id asks named is withi
     let accepted = λ (n : ℕ). accepted_of n steps in
     let unread = λ (n : ℕ). unread_at n steps in
     let text = λ (n : ℕ). text_out k.names n steps in
-    let ids = λ (s : ℕ). sub_id_text s k.steps in
+    let began = λ (s : ℕ). subscribe_frame s k.steps in
     let own = has_sender k c f asks.reached (commits_other f.command (session_at k c) f sends asks.does) asks.free in
     let speaking = speaks (speaker_number k.world c) (connection_at k.world c) (ap is_gone (idle_open k.world c asks.idle)) (has_speaker k.world c own) in
-    let still : held ≡ view_with names w accepted unread text ids = still_view k c f left action receipt held last asks in
-    let same : last ≡ id = sym (is ∙ (ap (λ (v : View). launched_id v c) still ∙ begun_id_for k f c sends asks.reached asks.idle speaking accepted unread text ids)) in
+    let still : held ≡ view_with names w accepted unread text began = still_view k c f left action receipt held last asks in
+    let same : last ≡ id = sym (is ∙ (ap (λ (v : View). launched_id v c) still ∙ begun_id_for k f c sends asks.reached asks.idle speaking accepted unread text began)) in
     let free = begun_free q c sends (subst (λ (i : TxnId). i.seq ≤ last_number) (sym same) within) in
     let wanted : receipt ≡ receipt_asked (commit_frame (accepted c)) =
     sym (ap (λ (fs : List RawFrame). receipt_asked (last_or None fs)) (own_accepted c reading o k.steps)
     ∙ (ap receipt_asked (last_is None (accepted_of c k.steps) f) ∙ asks.wants)) in
-    let view = begun_for k f c first others asks.reached asks.idle speaking accepted unread text ids in
+    let view = begun_for k f c first others asks.reached asks.idle speaking accepted unread text began in
     let has = by_use (λ (v : World). is_some (connection_at v c).sender ≡ true) k f own own in
     subst (λ (i : TxnId). Makes k (Event.Next c) (Outcome.Flying i) new) same
     (move_makes k c f left action receipt held new (Move.Commits c sends) o asks refl refl (commit_free w c first others (idle_for k f c asks.idle) has named free) refl refl refl
@@ -173,9 +173,9 @@ next_idle k c f left sends receipt held asks =
     let accepted = λ (n : ℕ). accepted_of n steps in
     let unread = λ (n : ℕ). unread_at n steps in
     let text = λ (n : ℕ). text_out k.names n steps in
-    let ids = λ (s : ℕ). sub_id_text s k.steps in
+    let began = λ (s : ℕ). subscribe_frame s k.steps in
     let own = has_sender k c f asks.reached (commits_other f.command (session_at k c) f sends asks.does) asks.free in
     let speaking = speaks (speaker_number k.world c) (connection_at k.world c) (ap is_gone (idle_open k.world c asks.idle)) (has_speaker k.world c own) in
-    let old = idle_in names k c asks.reached (idle_there k.world c asks.idle) speaking (idle_flight k.world c asks.idle) accepted unread text ids in
+    let old = idle_in names k c asks.reached (idle_there k.world c asks.idle) speaking (idle_flight k.world c asks.idle) accepted unread text began in
     subst (λ (v : View). IsIdleIn v c) (sym (still_view k c f left (actions.Commit sends) receipt held (launched_id held c) asks))
-    (by_use (λ w. IsIdleIn (view_with names w accepted unread text ids) c) k f old old)
+    (by_use (λ w. IsIdleIn (view_with names w accepted unread text began) c) k f old old)

@@ -18,7 +18,7 @@ use Rattle.delivery.specs.Machine.World.{World, Undecided, Connection, Standing,
 use Rattle.delivery.specs.Machine.Moves.{Move, Answer, move_refusal, answer_to, needs_open, with_leaving}
 use Rattle.delivery.specs.Machine.Runs.{run}
 use Rattle.delivery.specs.Core.Steps.{Reading, accepted_of}
-use Rattle.delivery.specs.Core.Output.{text_out, sub_id_text}
+use Rattle.delivery.specs.Core.Output.{text_out, subscribe_frame}
 use Rattle.delivery.specs.Core.State.{Core, moves, unread_at, names_at}
 use Rattle.delivery.specs.Core.Outcomes.{outcomes, outcome_of, move_outcome, IsReadAt}
 use Rattle.delivery.specs.Core.Reports.{each_number}
@@ -179,11 +179,11 @@ endpoint_read endpoints c endpoint there is = slice_get-get_or endpoints c endpo
 -- ---- an endpoint that is leaving
 
 -- what is held once this connection is leaving, whatever is held of endpoints
-pub left_with : (names : List (List ℕ)) (w : World) (accepted : ℕ → List RawFrame) (unread : ℕ → Unread) (text ids : ℕ → List ℕ)
+pub left_with : (names : List (List ℕ)) (w : World) (accepted : ℕ → List RawFrame) (unread : ℕ → Unread) (text : ℕ → List ℕ) (began : ℕ → Option RawFrame)
     (c : ℕ) (parting : Option (List ℕ)) (d : EndpointView) → c < length w.connections → is_gone (connection_at w c).standing ≡ false → parting_receipt (accepted c) ≡ parting
-    → let v = view_with names w accepted unread text ids in
-    record v { endpoints = set v.endpoints c (leaving_endpoint parting (get_or v.endpoints c d)) } ≡ view_with names (with_leaving w c) accepted unread text ids
-left_with names w accepted unread text ids c parting d there staying is =
+    → let v = view_with names w accepted unread text began in
+    record v { endpoints = set v.endpoints c (leaving_endpoint parting (get_or v.endpoints c d)) } ≡ view_with names (with_leaving w c) accepted unread text began
+left_with names w accepted unread text began c parting d there staying is =
     let x : Connection = record { sender = (connection_at w c).sender; standing = Standing.Leaving } in
     let f = λ (n : ℕ). endpoint_view names w n (accepted n) (unread n) (text n) in
     let ls = each_number f 0 w.connections in
@@ -202,7 +202,7 @@ left_with names w accepted unread text ids c parting d there staying is =
     let endpoints : set ls c (leaving_endpoint parting (get_or ls c d)) ≡ each_number (λ n. endpoint_view names u n (accepted n) (unread n) (text n)) 0 u.connections =
     ap (λ (l : EndpointView). set ls c l) (old ∙ (parted ∙ endpoint)) ∙ endpoints_with names w c x accepted unread text there in
     let senders = senders_standing w c Standing.Leaving refl staying in
-    λ i. record (view_with names w accepted unread text ids) { senders = senders i; endpoints = endpoints i }
+    λ i. record (view_with names w accepted unread text began) { senders = senders i; endpoints = endpoints i }
 
 -- the same of a core
 pub left_view : (k : Core) (c : ℕ) (parting : Option (List ℕ)) (d : EndpointView) → c < length k.world.connections
@@ -210,16 +210,16 @@ pub left_view : (k : Core) (c : ℕ) (parting : Option (List ℕ)) (d : Endpoint
     → record (view_of k) { endpoints = set (view_of k).endpoints c (leaving_endpoint parting (get_or (view_of k).endpoints c d)) }
     ≡ view_after k.names (with_leaving k.world c) k.steps
 left_view k c parting d there staying is =
-    left_with (names_at k) k.world (λ n. accepted_of n k.steps) (λ n. unread_at n k.steps) (λ n. text_out k.names n k.steps) (λ s. sub_id_text s k.steps) c parting d there staying is
+    left_with (names_at k) k.world (λ n. accepted_of n k.steps) (λ n. unread_at n k.steps) (λ n. text_out k.names n k.steps) (λ s. subscribe_frame s k.steps) c parting d there staying is
 
 -- ---- text that is written to an endpoint
 
 -- what is held once this text is written to a connection, whatever is held of endpoints
-pub written_with : (names : List (List ℕ)) (w : World) (accepted : ℕ → List RawFrame) (unread : ℕ → Unread) (text later ids : ℕ → List ℕ)
+pub written_with : (names : List (List ℕ)) (w : World) (accepted : ℕ → List RawFrame) (unread : ℕ → Unread) (text later : ℕ → List ℕ) (began : ℕ → Option RawFrame)
     (c : ℕ) (more : List ℕ) (d : EndpointView) → c < length w.connections → later c ≡ text c ++ more → ((n : ℕ) → n ≢ c → later n ≡ text n)
-    → let v = view_with names w accepted unread text ids in
-    record v { endpoints = set v.endpoints c (written_endpoint more (get_or v.endpoints c d)) } ≡ view_with names w accepted unread later ids
-written_with names w accepted unread text later ids c more d there own others =
+    → let v = view_with names w accepted unread text began in
+    record v { endpoints = set v.endpoints c (written_endpoint more (get_or v.endpoints c d)) } ≡ view_with names w accepted unread later began
+written_with names w accepted unread text later began c more d there own others =
     let f = λ (n : ℕ). endpoint_view names w n (accepted n) (unread n) (text n) in
     let g = λ (n : ℕ). endpoint_view names w n (accepted n) (unread n) (later n) in
     let ls = each_number f 0 w.connections in
@@ -233,4 +233,4 @@ written_with names w accepted unread text later ids c more d there own others =
     ∙ (each_number-set f g 0 w.connections c (connection_at w c) there
     (λ n low high differ. ap (λ (t : List ℕ). endpoint_view names w n (accepted n) (unread n) t) (sym (others n (λ same. differ (same ∙ e)))))
     ∙ ap (λ (xs : List Connection). each_number g 0 xs) (set-get_or w.connections c nobody))) in
-    ap (λ (zs : List EndpointView). record (view_with names w accepted unread text ids) { endpoints = zs }) endpoints
+    ap (λ (zs : List EndpointView). record (view_with names w accepted unread text began) { endpoints = zs }) endpoints

@@ -112,5 +112,5 @@ piece_makes k c octets d is =
       reading = Reading.Nothing;
       may = record { reading = refl; outcome = rw (ap piece_outcomes (sym (open_checked k c) ∙ is)) (inl refl) };
       view = ap (λ (ls : List EndpointView). record (view_of k) { endpoints = ls }) endpoints
-          ∙ (λ i. view_with (names_at k) w (λ n. sym (append-nil (accepted n)) i) (fed_at unread c octets) (λ n. sym (append-nil (text n)) i) (λ s. Rattle.delivery.specs.Core.Output.sub_id_text s k.steps));
+          ∙ (λ i. view_with (names_at k) w (λ n. sym (append-nil (accepted n)) i) (fed_at unread c octets) (λ n. sym (append-nil (text n)) i) (λ s. Rattle.delivery.specs.Core.Output.subscribe_frame s k.steps));
     }

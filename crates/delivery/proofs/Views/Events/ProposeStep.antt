@@ -33,7 +33,7 @@ use Rattle.delivery.specs.Machine.Objections.{Objection, refusal_of}
 use Rattle.delivery.specs.Machine.World.{World, Undecided, SenderState, topic_at, sender_at, speaker, is_in_use, with_sender, with_topic, speaker_number}
 use Rattle.delivery.specs.Machine.Moves.{Move, Answer, move_refusal, needs_connection, is_topic, has_ticket, insert_ticket, undecided_or_none, undecided_at, next_ticket, proposal_fault, or_out_of_memory, propose_effect, propose_answer}
 use Rattle.delivery.specs.Core.Steps.{CoreStep, Reading, accepted_of, has_effect, names_after}
-use Rattle.delivery.specs.Core.Output.{text_out, sub_id_text}
+use Rattle.delivery.specs.Core.Output.{text_out, subscribe_frame}
 use Rattle.delivery.specs.Core.State.{Core, names_at, unread_at, is_out_of_memory}
 use Rattle.delivery.specs.Core.Outcomes.{move_outcome, outcomes}
 use Rattle.delivery.specs.Inner.Senders.{there_objection, speaker_at, sender_in, gate_of, is_slot, flight_refusal, part_refusal, part_in, taken_sending, taken_sender, takes_ticket, put_sender, failed_sender, is_group, propose_refusal_in, taken_view, floor_in, ticket_in, proposed_view, failed_view, IsProposed, no_sender}
@@ -429,10 +429,10 @@ marked_is k s t f fault was is unmarked named =
 quiet_proposal : (names : List (List ℕ)) (c : ℕ) (t : Topic) (o : Outcome) (older : List CoreStep)
     → ((d : ℕ) → accepted_of d (step_of (Event.Propose c t) Reading.Nothing o ∷ older) ≡ accepted_of d older)
     → ((d : ℕ) → text_out names d (step_of (Event.Propose c t) Reading.Nothing o ∷ older) ≡ text_out names d older)
-    → ((s : ℕ) → sub_id_text s (step_of (Event.Propose c t) Reading.Nothing o ∷ older) ≡ sub_id_text s older)
+    → ((s : ℕ) → subscribe_frame s (step_of (Event.Propose c t) Reading.Nothing o ∷ older) ≡ subscribe_frame s older)
     → IsQuiet names (step_of (Event.Propose c t) Reading.Nothing o) older
-quiet_proposal names c t o older accepted text ids =
-    record { accepted = accepted; unread = λ d. refl; text = text; ids = ids; named = none_named (names_after names older) (has_effect o) }
+quiet_proposal names c t o older accepted text began =
+    record { accepted = accepted; unread = λ d. refl; text = text; began = began; named = none_named (names_after names older) (has_effect o) }
 
 proposed_quiet : (names : List (List ℕ)) (c : ℕ) (t : Topic) (n : ℕ) (older : List CoreStep) → IsQuiet names (step_of (Event.Propose c t) Reading.Nothing (Outcome.Proposed n)) older
 proposed_quiet names c t n older =
@@ -487,7 +487,7 @@ with_flight_quiet : (k : Core) (c s : ℕ) (t : Topic) (h : Proposes k c s t) (f
     ≡ view_after k.names (with_sender k.world (speaker_number k.world c) (with_flight (speaker k.world c) f)) k.steps
 with_flight_quiet k c s t h f =
     sender_quiet k c (with_flight (speaker k.world c) f) h.was (is_there k c h.free) (flying_speaking k c h.can.flight h.free h.can.is) refl (λ accepted. sym (ap (λ (o : Option Undecided). pending_receipt accepted o) h.can.is))
-    (λ n. accepted_of n k.steps) (λ n. unread_at n k.steps) (λ n. text_out k.names n k.steps) (λ n. sub_id_text n k.steps)
+    (λ n. accepted_of n k.steps) (λ n. unread_at n k.steps) (λ n. text_out k.names n k.steps) (λ n. subscribe_frame n k.steps)
 
 -- ---- a ticket
 
@@ -528,7 +528,7 @@ proposed_whole k c s t h =
     ∙ ap (λ (m : ℕ). set v.senders m (sender_view n new)) (h.own ∙ speaker_of k c there)))) in
     (λ i. record v { groups = groups i; senders = senders i })
     ∙ (ap (λ (u : View). record u { groups = set u.groups t.0 (group_view w z) }) (with_flight_quiet k c s t h (record f { given = insert_ticket (next_ticket w c t) f.given }))
-    ∙ topic_quiet (names_at k) (with_sender w n new) t z (λ m. accepted_of m k.steps) (λ m. unread_at m k.steps) (λ m. text_out k.names m k.steps) (λ m. sub_id_text m k.steps))
+    ∙ topic_quiet (names_at k) (with_sender w n new) t z (λ m. accepted_of m k.steps) (λ m. unread_at m k.steps) (λ m. text_out k.names m k.steps) (λ m. subscribe_frame m k.steps))
 
 -- what the topic answers is what it answers in the world
 fault_is : (k : Core) (c s : ℕ) (t : Topic) (h : Proposes k c s t)

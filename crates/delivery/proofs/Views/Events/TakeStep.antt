@@ -29,7 +29,7 @@ use Rattle.delivery.specs.Machine.Moves.{Move, Answer, move_refusal, needs_open,
 use Rattle.delivery.specs.Machine.Observed.{accepted_at, end_at, entry_items, entry_to}
 use Rattle.delivery.specs.Core.Steps.{Reading, accepted_of}
 use Rattle.delivery.specs.Core.Account.{account_of, beginning_of, next_item, no_item}
-use Rattle.delivery.specs.Core.Output.{text_out, sub_id_text, item_messages}
+use Rattle.delivery.specs.Core.Output.{text_out, subscribe_frame, sub_id_text, sub_parts, messages_for}
 use Rattle.delivery.specs.Core.State.{Core, unread_at, names_at}
 use Rattle.delivery.specs.Core.Outcomes.{unless, move_outcome}
 use Rattle.delivery.specs.Core.Reports.{each_number}
@@ -98,17 +98,17 @@ next_there groups t s item is = elim (cases_lt t (length groups)) [
 pub item_put : (v : View) (s : ℕ) (x : SubView) (item : Item) (id : List ℕ) (g h : GroupState) (endpoint later : EndpointView)
     → sub_held v s ≡ x → next_held v s ≡ Some item → id ≡ x.id
     → get_or v.groups x.topic.0 no_group ≡ g → h ≡ group_after_take s g
-    → get_or v.endpoints x.connection no_endpoint ≡ endpoint → later ≡ written_endpoint (flat_map spelling_of (item_messages id item)) endpoint
+    → get_or v.endpoints x.connection no_endpoint ≡ endpoint → later ≡ written_endpoint (flat_map spelling_of (messages_for x.parts id item)) endpoint
     → record v { groups = set v.groups x.topic.0 h; endpoints = set v.endpoints x.connection later } ≡ after_next_item v s (next_held v s)
 item_put v s x item id g h endpoint later sub next named group taken old written =
     (λ i. record v { groups = set v.groups x.topic.0 (taken i); endpoints = set v.endpoints x.connection (written i) })
     ∙ ((λ i. record v {
       groups = set v.groups x.topic.0 (group_after_take s (sym group i));
-      endpoints = set v.endpoints x.connection (written_endpoint (flat_map spelling_of (item_messages (named i) item)) (sym old i));
+      endpoints = set v.endpoints x.connection (written_endpoint (flat_map spelling_of (messages_for x.parts (named i) item)) (sym old i));
     })
     ∙ (ap (λ (y : SubView). record v {
       groups = set v.groups y.topic.0 (group_after_take s (get_or v.groups y.topic.0 no_group));
-      endpoints = set v.endpoints y.connection (written_endpoint (flat_map spelling_of (item_messages y.id item)) (get_or v.endpoints y.connection no_endpoint));
+      endpoints = set v.endpoints y.connection (written_endpoint (flat_map spelling_of (messages_for y.parts y.id item)) (get_or v.endpoints y.connection no_endpoint));
     }) (sym sub)
     ∙ ap (after_next_item v s) (sym next)))
 
@@ -149,7 +149,7 @@ objected k s = elim (cases_Bool (nat_lt s (length k.world.subscriptions))) [
 ]
   where
     g : ℕ → SubView
-    g n = sub_view k.world n (sub_id_text n k.steps)
+    g n = sub_view k.world n (subscribe_frame n k.steps)
 
     subs : List SubView
     subs = (view_of k).subs
@@ -159,8 +159,8 @@ objected k s = elim (cases_Bool (nat_lt s (length k.world.subscriptions))) [
 
     here : s < length k.world.subscriptions → take_objection (view_of k) s ≡ first_refusal ((is_over k.world s, Objection.Gone) ∷ [])
     here l =
-        let n = length-each_number (λ m. sub_view k.world m (sub_id_text m k.steps)) 0 k.world.subscriptions in
-        let read : slice_get subs s ≡ Some (sub_view k.world s (sub_id_text s k.steps)) =
+        let n = length-each_number (λ m. sub_view k.world m (subscribe_frame m k.steps)) 0 k.world.subscriptions in
+        let read : slice_get subs s ≡ Some (sub_view k.world s (subscribe_frame s k.steps)) =
         slice_get-get_or subs s Rattle.delivery.specs.Inner.Subscriptions.no_sub (omega arith) ∙ ap Some (sub_is k s l) in
         ap (sub_objection (view_of k).endpoints) read
         ∙ (λ i. first_refusal ((is_some_map (left_in_view x.taken) x.closed i || endpoint_shut k x.connection i, Objection.Gone) ∷ []))
@@ -343,12 +343,12 @@ written_other k s replies reached l n other =
 -- the view of the world after a take, with these texts
 abbrev taken_view : Core → ℕ → (ℕ → List ℕ) → View
 taken_view k s text =
-    view_with (names_at k) (taken_world k.world s) (λ c. accepted_of c k.steps) (λ c. unread_at c k.steps) text (λ n. sub_id_text n k.steps)
+    view_with (names_at k) (taken_world k.world s) (λ c. accepted_of c k.steps) (λ c. unread_at c k.steps) text (λ n. subscribe_frame n k.steps)
 
 -- what is held after it, where its MESSAGEs were written
 item_view : (k : Core) (s : ℕ) (item : Item) (text : ℕ → List ℕ) → IsReached k → (m : MayTake k s)
     → (subscription_at k.world s).taken < length m.queue.entry.accepted
-    → (let c = (subscription_at k.world s).connection in text c ≡ text_out k.names c k.steps ++ flat_map spelling_of (item_messages (sub_id_text s k.steps) item))
+    → (let c = (subscription_at k.world s).connection in text c ≡ text_out k.names c k.steps ++ flat_map spelling_of (messages_for (sub_parts s k.steps) (sub_id_text s k.steps) item))
     → ((n : ℕ) → n ≢ (subscription_at k.world s).connection → text n ≡ text_out k.names n k.steps)
     → after_item (view_of k) s item ≡ taken_view k s text
 item_view k s item text reached m l own others =
@@ -364,12 +364,12 @@ item_view k s item text reached m l own others =
     v = view_of k
 
     x : SubView
-    x = sub_view w s (sub_id_text s k.steps)
+    x = sub_view w s (subscribe_frame s k.steps)
 
     with_sub : SubView → View
     with_sub y = record v {
       groups = set v.groups y.topic.0 (group_after_take s (get_or v.groups y.topic.0 no_group));
-      endpoints = set v.endpoints y.connection (written_endpoint (flat_map spelling_of (item_messages y.id item)) (get_or v.endpoints y.connection no_endpoint));
+      endpoints = set v.endpoints y.connection (written_endpoint (flat_map spelling_of (messages_for y.parts y.id item)) (get_or v.endpoints y.connection no_endpoint));
     }
 
     named : after_item v s item ≡ with_sub x
@@ -381,13 +381,13 @@ item_view k s item text reached m l own others =
         ∙ taken_groups k s m.queue reached l
 
     subs : v.subs ≡ (taken_view k s text).subs
-    subs = taken_subs w s (λ n. sub_id_text n k.steps) m.queue.there m.unclosed
+    subs = taken_subs w s (λ n. subscribe_frame n k.steps) m.queue.there m.unclosed
 
-    endpoints : set v.endpoints c (written_endpoint (flat_map spelling_of (item_messages x.id item)) (get_or v.endpoints c no_endpoint)) ≡ (taken_view k s text).endpoints
+    endpoints : set v.endpoints c (written_endpoint (flat_map spelling_of (messages_for x.parts x.id item)) (get_or v.endpoints c no_endpoint)) ≡ (taken_view k s text).endpoints
     endpoints =
         ap (λ (z : View). z.endpoints)
-        (written_with (names_at k) w (λ n. accepted_of n k.steps) (λ n. unread_at n k.steps) (λ n. text_out k.names n k.steps) text (λ n. sub_id_text n k.steps)
-        c (flat_map spelling_of (item_messages x.id item)) no_endpoint m.connection own others)
+        (written_with (names_at k) w (λ n. accepted_of n k.steps) (λ n. unread_at n k.steps) (λ n. text_out k.names n k.steps) text (λ n. subscribe_frame n k.steps)
+        c (flat_map spelling_of (messages_for x.parts x.id item)) no_endpoint m.connection own others)
         ∙ (λ i. each_number (λ n. record {
           sender = (connection_at w n).sender;
           stage = stage_view (names_at k) (connection_at w n).standing (speaker w n).flight (accepted_of n k.steps) (unread_at n k.steps);
@@ -410,10 +410,10 @@ take_item k s item reached free due =
     let account = account_of k.names k.steps in
     let next : next_item s account ≡ item =
     some_same (next_item s account) item (next_is k s reached m.queue.there (subst (λ (xs : List Item). (subscription_at w s).taken < length xs) (sym (accepted_is k s m)) l) ∙ first) in
-    let replies = item_messages (sub_id_text s k.steps) (next_item s account) in
+    let replies = messages_for (sub_parts s k.steps) (sub_id_text s k.steps) (next_item s account) in
     let text = λ (c : ℕ). text_after k s replies c in
     let own = written_own k s replies reached m.queue.there
-    ∙ ap (λ (i : Item). text_out k.names (subscription_at w s).connection k.steps ++ flat_map spelling_of (item_messages (sub_id_text s k.steps) i)) next in
+    ∙ ap (λ (i : Item). text_out k.names (subscription_at w s).connection k.steps ++ flat_map spelling_of (messages_for (sub_parts s k.steps) (sub_id_text s k.steps) i)) next in
     let answered = made_answer w (Move.Takes s) unrefused ∙ ap (take_answer w s) first in
     record {
       reading = Reading.Nothing;
@@ -424,7 +424,7 @@ take_item k s item reached free due =
             (in_outcome k (Move.Takes s) (Outcome.Handed (length item.sends)) (Answer.Handed s item) answered refl));
       };
       view = item_view k s item text reached m l own (written_other k s replies reached m.queue.there)
-          ∙ ((λ i. view_with (names_at k) (taken_world w s) (λ n. sym (append-nil (accepted_of n k.steps)) i) (λ n. unread_at n k.steps) text (λ n. sub_id_text n k.steps))
+          ∙ ((λ i. view_with (names_at k) (taken_world w s) (λ n. sym (append-nil (accepted_of n k.steps)) i) (λ n. unread_at n k.steps) text (λ n. subscribe_frame n k.steps))
           ∙ ap (λ (z : World). view_after k.names z (step ∷ k.steps)) (sym (made_world w (Move.Takes s) unrefused ∙ ap (take_effect w s) first)));
     }
 
@@ -472,12 +472,12 @@ take_lags k s reached free none lagged =
     let accepted = λ (n : ℕ). accepted_of n k.steps in
     let unread = λ (n : ℕ). unread_at n k.steps in
     let text = λ (n : ℕ). text_after k s (lag_error ∷ []) n in
-    let ids = λ (n : ℕ). sub_id_text n k.steps in
+    let began = λ (n : ℕ). subscribe_frame n k.steps in
     let own = written_own k s (lag_error ∷ []) reached m.queue.there
     ∙ ap (λ (t : List ℕ). text_out k.names c k.steps ++ t) (append-nil (spelling_of lag_error)) in
     let parting : parting_receipt (accepted c) ≡ None = ap (λ (f : Option RawFrame). option_and_then receipt_of f) (not_parting k c reached m.reads) in
-    let written : after_error (view_of k) c ≡ view_with (names_at k) w accepted unread text ids =
-    written_with (names_at k) w accepted unread (λ n. text_out k.names n k.steps) text ids c (spelling_of lag_error) no_endpoint m.connection own
+    let written : after_error (view_of k) c ≡ view_with (names_at k) w accepted unread text began =
+    written_with (names_at k) w accepted unread (λ n. text_out k.names n k.steps) text began c (spelling_of lag_error) no_endpoint m.connection own
     (written_other k s (lag_error ∷ []) reached m.queue.there) in
     let answered = made_answer w (Move.Takes s) unrefused ∙ ap (take_answer w s) last in
     record {
@@ -489,8 +489,8 @@ take_lags k s reached free none lagged =
       };
       view = ap (λ (x : SubView). after_lag (view_of k) x.connection) (sub_is k s m.queue.there)
           ∙ (ap (λ (v : View). record v { endpoints = set v.endpoints c (leaving_endpoint None (get_or v.endpoints c no_endpoint)) }) written
-          ∙ (left_with (names_at k) w accepted unread text ids c None no_endpoint m.connection (reading_there (connection_at w c).standing m.reads) parting
-          ∙ ((λ i. view_with (names_at k) (with_leaving w c) (λ n. sym (append-nil (accepted n)) i) unread text ids)
+          ∙ (left_with (names_at k) w accepted unread text began c None no_endpoint m.connection (reading_there (connection_at w c).standing m.reads) parting
+          ∙ ((λ i. view_with (names_at k) (with_leaving w c) (λ n. sym (append-nil (accepted n)) i) unread text began)
           ∙ ap (λ (z : World). view_after k.names z (step ∷ k.steps)) (sym (made_world w (Move.Takes s) unrefused ∙ ap (take_effect w s) last)))));
     }
 

@@ -1,12 +1,13 @@
 -- The text of an item's MESSAGEs, SEND by SEND.
-use Rattle.std.proofs.Common.{◌≡◌, ℕ, ◌+◌, ◌<◌, List, [], ◌∷◌, ◌++◌, map, take, length, Some, sym, ap, ◌∙◌}
+use Rattle.std.proofs.Common.{◌≡◌, ℕ, ◌+◌, ◌<◌, List, [], ◌∷◌, ◌++◌, map, take, length, Some, sym, ap, ◌∙◌, arith}
 use Rattle.std.specs.Prelude.{slice_get}
-use Rattle.std.specs.List.{flat_map}
+use Rattle.std.specs.List.{enumerate_from, flat_map}
 use Rattle.std.proofs.lemmas.List.{map-append, append-nil, append_assoc, take_more}
 use Rattle.std.proofs.lemmas.List.Concat.{flat_map-append}
-use Rattle.std.proofs.lemmas.Option.{get_or_from_slice_get}
+use Rattle.std.proofs.lemmas.List.FromFn.{get_or-enumerate_from, length-enumerate_from}
+use Rattle.std.proofs.lemmas.Option.{get_or_from_slice_get, slice_get-get_or}
 use Rattle.stomp_frame.specs.declared.raw_frame.RawFrame.{RawFrame}
-use Rattle.stomp_frame.specs.ServerFrames.{message_frame, message_id}
+use Rattle.stomp_frame.specs.ServerFrames.{message_frame, message_id, part_message_frame}
 use Rattle.stomp_frame.specs.Writing.{spelling_of}
 use Rattle.mcast_txn.specs.declared.parts.part_message.PartMessage.{PartMessage}
 use Rattle.mcast_txn.specs.declared.stamp.Stamp.{Stamp}
@@ -15,26 +16,40 @@ use Rattle.mcast_txn.specs.declared.stamp.Stamp.{Stamp}
 abbrev pub message_of : List ℕ → Stamp → PartMessage → RawFrame
 message_of id stamp p = message_frame id (message_id stamp.n stamp.topic.0 p.index) p.headers p.body
 
--- the text of the MESSAGEs of these SENDs
-abbrev pub text_of : List ℕ → Stamp → List PartMessage → List ℕ
-text_of id stamp sends = flat_map spelling_of (map (message_of id stamp) sends)
+-- that of a SEND with its place, of so many
+abbrev pub placed_of : ℕ → List ℕ → Stamp → ℕ × PartMessage → RawFrame
+placed_of count id stamp at =
+    part_message_frame at.0 count id (message_id stamp.n stamp.topic.0 at.1.index) at.1.headers at.1.body
 
--- one more SEND
-pub text_more : (id : List ℕ) (stamp : Stamp) (sends : List PartMessage) (i : ℕ) (p : PartMessage) → i < length sends → slice_get sends i ≡ Some p
-    → text_of id stamp (take (i + 1) sends) ≡ text_of id stamp (take i sends) ++ spelling_of (message_of id stamp p)
-text_more id stamp sends i p there is =
-    let f = message_of id stamp in
-    ap (text_of id stamp) (take_more sends i p there ∙ ap (λ (q : PartMessage). take i sends ++ q ∷ []) (get_or_from_slice_get sends i p p is))
-    ∙ (ap (flat_map spelling_of) (map-append f (take i sends) (p ∷ []))
-    ∙ (flat_map-append spelling_of (map f (take i sends)) (f p ∷ [])
-    ∙ ap (λ (t : List ℕ). text_of id stamp (take i sends) ++ t) (append-nil (spelling_of (f p)))))
+-- the text of the frames of these
+abbrev pub text_of : {X : Type 0} → (X → RawFrame) → List X → List ℕ
+text_of frame xs = flat_map spelling_of (map frame xs)
 
--- one more SEND's MESSAGE was appended
-pub text_put : (id : List ℕ) (stamp : Stamp) (sends : List PartMessage) (i : ℕ) (p : PartMessage) (old before after : List ℕ) → i < length sends → slice_get sends i ≡ Some p
-    → before ≡ old ++ text_of id stamp (take i sends) → after ≡ before ++ spelling_of (message_of id stamp p)
-    → after ≡ old ++ text_of id stamp (take (i + 1) sends)
-text_put id stamp sends i p old before after there is was put =
+-- one more
+pub text_more : {X : Type 0} (frame : X → RawFrame) (xs : List X) (i : ℕ) (x : X) → i < length xs → slice_get xs i ≡ Some x
+    → text_of frame (take (i + 1) xs) ≡ text_of frame (take i xs) ++ spelling_of (frame x)
+text_more {X = X} frame xs i x there is =
+    ap (text_of frame) (take_more xs i x there ∙ ap (λ (y : X). take i xs ++ y ∷ []) (get_or_from_slice_get xs i x x is))
+    ∙ (ap (flat_map spelling_of) (map-append frame (take i xs) (x ∷ []))
+    ∙ (flat_map-append spelling_of (map frame (take i xs)) (frame x ∷ [])
+    ∙ ap (λ (t : List ℕ). text_of frame (take i xs) ++ t) (append-nil (spelling_of (frame x)))))
+
+-- one more frame was appended
+pub text_put : {X : Type 0} (frame : X → RawFrame) (xs : List X) (i : ℕ) (x : X) (old before after : List ℕ) → i < length xs → slice_get xs i ≡ Some x
+    → before ≡ old ++ text_of frame (take i xs) → after ≡ before ++ spelling_of (frame x)
+    → after ≡ old ++ text_of frame (take (i + 1) xs)
+text_put frame xs i x old before after there is was put =
     put
-    ∙ (ap (λ (t : List ℕ). t ++ spelling_of (message_of id stamp p)) was
-    ∙ (append_assoc old (text_of id stamp (take i sends)) (spelling_of (message_of id stamp p))
-    ∙ ap (λ (t : List ℕ). old ++ t) (sym (text_more id stamp sends i p there is))))
+    ∙ (ap (λ (t : List ℕ). t ++ spelling_of (frame x)) was
+    ∙ (append_assoc old (text_of frame (take i xs)) (spelling_of (frame x))
+    ∙ ap (λ (t : List ℕ). old ++ t) (sym (text_more frame xs i x there is))))
+
+-- a SEND with its place, which is one more than its index
+pub placed_at : (sends : List PartMessage) (i : ℕ) (p : PartMessage) → i < length sends → slice_get sends i ≡ Some p
+    → slice_get (enumerate_from 1 sends) i ≡ Some (i + 1, p)
+placed_at sends i p there is =
+    let many : i < length (enumerate_from 1 sends) = omega (arith, there, length-enumerate_from 1 sends) in
+    let place : 1 + i ≡ i + 1 = omega arith in
+    slice_get-get_or (enumerate_from 1 sends) i (i + 1, p) many
+    ∙ ap (λ (at : ℕ × PartMessage). Some at)
+    (get_or-enumerate_from 1 sends i (i + 1, p) there ∙ (λ k. (place k, get_or_from_slice_get sends i p p is k)))

@@ -64,11 +64,12 @@ is_delivered net held are keeps =
     subst (λ (r : Report). Delivery net.topics net.capacity net.steps r) (sym is_report)
     (subst (λ (steps : List CoreStep). Delivery net.topics net.capacity steps (report_of k)) same (delivery net.topics net.capacity keeps.steps keeps.as_many keeps.is_run)) in
     record {
+      kept = keeps.are_kept ∙ ap kept_run same;
+      read = run.read;
       delivered = run.delivered;
       written = run.written;
       answered = record {
         as_many = keeps.as_many;
-        are_kept = keeps.are_kept ∙ ap kept_run same;
         is_run = subst (λ (steps : List CoreStep). IsCoreRun net.topics net.capacity steps) same keeps.is_run;
         is_report = is_report ∙ ap (λ (steps : List CoreStep). report_of (core_of net.topics net.capacity steps)) same;
       };

@@ -7,6 +7,7 @@ use Rattle.std.proofs.lemmas.Option.{slice_get-get_or, slice_get_past}
 use Rattle.std.proofs.lemmas.List.FromFn.{length-enumerate_from}
 use Rattle.std.proofs.lemmas.List.{length-map, get_or-map}
 use Rattle.std.proofs.lemmas.Bool.{cases_lt}
+use Rattle.stomp_frame.specs.declared.raw_frame.RawFrame.{RawFrame}
 use Rattle.mcast_txn.specs.declared.id.Topic.{Topic}
 use Rattle.mcast_txn.specs.declared.stamp.Stamp.{Stamp}
 use Rattle.mcast_txn.specs.Span.{LogRow, Item}
@@ -17,7 +18,7 @@ use Rattle.mcast_group.specs.Group.{GroupState, shown_with, shown_at}
 use Rattle.mcast_group.specs.Machine.{TopicState, Entry, EntryEnd, new_topic, find_entry, subscription_state, state_of_entry}
 use Rattle.delivery.specs.Machine.World.{World, subscription_at, topic_at, entry_at}
 use Rattle.delivery.specs.Machine.Observed.{entry_items, entry_to}
-use Rattle.delivery.specs.Core.Output.{text_out, sub_id_text}
+use Rattle.delivery.specs.Core.Output.{text_out, subscribe_frame}
 use Rattle.delivery.specs.Core.Reports.{QueueReport, queue_report, each_number, report_of}
 use Rattle.delivery.specs.Core.Steps.{accepted_of}
 use Rattle.delivery.specs.Core.State.{Core, unread_at, names_at}
@@ -138,22 +139,22 @@ open_is w s x topic from =
     }
 
 -- a subscription of the view is reported as the machine's
-sub_is : (w : World) (s : ℕ) (id : List ℕ) → sub_report (map (group_view w) w.topics) s (sub_view w s id) ≡ queue_report w s
-sub_is w s id = by_closed (subscription_at w s).closed refl
+sub_is : (w : World) (s : ℕ) (began : Option RawFrame) → sub_report (map (group_view w) w.topics) s (sub_view w s began) ≡ queue_report w s
+sub_is w s began = by_closed (subscription_at w s).closed refl
   where
     by_closed : (closed : Option EntryEnd) → (subscription_at w s).closed ≡ closed
-        → sub_report (map (group_view w) w.topics) s (sub_view w s id) ≡ queue_report w s
+        → sub_report (map (group_view w) w.topics) s (sub_view w s began) ≡ queue_report w s
     by_closed None is =
         ap (λ (z : Option EntryEnd). elim (option_map (left_view (subscription_at w s).taken) z) [
-          | None ↦ open_report (map (group_view w) w.topics) s (sub_view w s id)
-          | Some left ↦ closed_report (sub_view w s id) left
+          | None ↦ open_report (map (group_view w) w.topics) s (sub_view w s began)
+          | Some left ↦ closed_report (sub_view w s began) left
         ]) is
-        ∙ (open_is w s (sub_view w s id) refl refl
+        ∙ (open_is w s (sub_view w s began) refl refl
         ∙ sym (ap (reported_with w s (entry_at w s)) is))
     by_closed (Some end) is =
         ap (λ (z : Option EntryEnd). elim (option_map (left_view (subscription_at w s).taken) z) [
-          | None ↦ open_report (map (group_view w) w.topics) s (sub_view w s id)
-          | Some left ↦ closed_report (sub_view w s id) left
+          | None ↦ open_report (map (group_view w) w.topics) s (sub_view w s began)
+          | Some left ↦ closed_report (sub_view w s began) left
         ]) is
         ∙ sym (ap (reported_with w s (entry_at w s)) is)
 
@@ -163,13 +164,13 @@ sub_is w s id = by_closed (subscription_at w s).closed refl
 pub reported : (k : Core) → report_in (view_of k) ≡ report_of k
 reported k =
     let w = k.world in
-    let subs = λ (s : ℕ). sub_view w s (sub_id_text s k.steps) in
+    let subs = λ (s : ℕ). sub_view w s (subscribe_frame s k.steps) in
     let endpoint = λ (c : ℕ). endpoint_view (names_at k) w c (accepted_of c k.steps) (unread_at c k.steps) (text_out k.names c k.steps) in
     let logs : map (λ (g : GroupState). g.topic.held) (map (group_view w) w.topics) ≡ map (λ (x : TopicState). x.held) w.topics = logs_are w w.topics in
     let subscriptions : map (λ (p : ℕ × SubView). sub_report (map (group_view w) w.topics) p.0 p.1) (enumerate_from 0 (each_number subs 0 w.subscriptions))
     ≡ each_number (queue_report w) 0 w.subscriptions =
     map-enumerate (sub_report (map (group_view w) w.topics)) subs 0 w.subscriptions
-    ∙ each_number-same (λ s. sub_report (map (group_view w) w.topics) s (subs s)) (queue_report w) 0 w.subscriptions (λ s low high. sub_is w s (sub_id_text s k.steps)) in
+    ∙ each_number-same (λ s. sub_report (map (group_view w) w.topics) s (subs s)) (queue_report w) 0 w.subscriptions (λ s low high. sub_is w s (subscribe_frame s k.steps)) in
     let outs : map (λ (l : EndpointView). l.output) (each_number endpoint 0 w.connections) ≡ each_number (λ c. text_out k.names c k.steps) 0 w.connections =
     map-each_number (λ (l : EndpointView). l.output) endpoint 0 w.connections in
     λ i. record {

@@ -41,12 +41,12 @@ lists_kept k c x reached speaking seq =
 -- the sender alone changes
 pub sender_quiet : (k : Core) (c : ℕ) (x : SenderState) → IsReached k → c < length k.world.connections → IsSpeaking k.world c → x.seq ≡ (speaker k.world c).seq
     → ((accepted : List RawFrame) → pending_receipt accepted x.flight ≡ pending_receipt accepted (speaker k.world c).flight)
-    → (accepted : ℕ → List RawFrame) (unread : ℕ → Unread) (text ids : ℕ → List ℕ)
-    → record (view_with (names_at k) k.world accepted unread text ids) {
-      senders = set (view_with (names_at k) k.world accepted unread text ids).senders (speaker_number k.world c) (sender_view (speaker_number k.world c) x);
+    → (accepted : ℕ → List RawFrame) (unread : ℕ → Unread) (text : ℕ → List ℕ) (began : ℕ → Option RawFrame)
+    → record (view_with (names_at k) k.world accepted unread text began) {
+      senders = set (view_with (names_at k) k.world accepted unread text began).senders (speaker_number k.world c) (sender_view (speaker_number k.world c) x);
     }
-    ≡ view_with (names_at k) (with_sender k.world (speaker_number k.world c) x) accepted unread text ids
-sender_quiet k c x reached there speaking seq receipts accepted unread text ids =
+    ≡ view_with (names_at k) (with_sender k.world (speaker_number k.world c) x) accepted unread text began
+sender_quiet k c x reached there speaking seq receipts accepted unread text began =
     let w = k.world in
     let s = speaker_number w c in
     let v = with_sender w s x in
@@ -62,12 +62,12 @@ sender_quiet k c x reached there speaking seq receipts accepted unread text ids 
     ∙ set-get_or (each_number old 0 w.connections) c (old c) in
     let endpoints = sym same ∙ (number_set old new w.connections c (connection_at w c) there others
     ∙ ap (λ (xs : List Connection). each_number new 0 xs) (set-get_or w.connections c nobody)) in
-    λ i. record (view_with (names_at k) w accepted unread text ids) { senders = speaker_with k c x reached speaking i; verdicts = verdicts i; endpoints = endpoints i }
+    λ i. record (view_with (names_at k) w accepted unread text began) { senders = speaker_with k c x reached speaking i; verdicts = verdicts i; endpoints = endpoints i }
 
 -- a topic alone changes
 pub topic_quiet : (names : List (List ℕ)) (w : World) (t : Topic) (y : TopicState)
-    → (accepted : ℕ → List RawFrame) (unread : ℕ → Unread) (text ids : ℕ → List ℕ)
-    → record (view_with names w accepted unread text ids) { groups = set (view_with names w accepted unread text ids).groups t.0 (group_view w y) }
-    ≡ view_with names (with_topic w t y) accepted unread text ids
-topic_quiet names w t y accepted unread text ids =
-    ap (λ (gs : List GroupState). record (view_with names w accepted unread text ids) { groups = gs }) (sym (map-set (group_view w) w.topics t.0 y))
+    → (accepted : ℕ → List RawFrame) (unread : ℕ → Unread) (text : ℕ → List ℕ) (began : ℕ → Option RawFrame)
+    → record (view_with names w accepted unread text began) { groups = set (view_with names w accepted unread text began).groups t.0 (group_view w y) }
+    ≡ view_with names (with_topic w t y) accepted unread text began
+topic_quiet names w t y accepted unread text began =
+    ap (λ (gs : List GroupState). record (view_with names w accepted unread text began) { groups = gs }) (sym (map-set (group_view w) w.topics t.0 y))

@@ -10,7 +10,7 @@ use Rattle.mcast_txn.specs.declared.id.TxnId.{TxnId}
 use Rattle.mcast_txn.specs.Ballot.{Decision}
 use Rattle.delivery.specs.Machine.World.{World, SenderState, Connection, Standing, is_gone, is_in_use, new_sender, nobody, connection_at, sender_at, speaker, speaks_for, with_sender, speaker_number}
 use Rattle.delivery.specs.Machine.Moves.{find_verdict}
-use Rattle.delivery.specs.Core.Output.{text_out, sub_id_text}
+use Rattle.delivery.specs.Core.Output.{text_out, subscribe_frame}
 use Rattle.delivery.specs.Core.State.{Core, unread_at, names_at}
 use Rattle.delivery.specs.Core.Steps.{accepted_of}
 use Rattle.delivery.specs.Core.Reports.{each_number}
@@ -34,27 +34,27 @@ pub number_at : {X Y : Type 0} (f : ℕ → Y) (xs : List X) (n : ℕ) (d : Y) �
 number_at f xs n d there = let e : 0 + n ≡ n = omega arith in get_or-each_number f 0 xs n d there ∙ ap f e
 
 -- the endpoint of a connection that is there, whatever it accepted
-pub endpoint_in : (names : List (List ℕ)) (w : World) (accepted : ℕ → List RawFrame) (unread : ℕ → Unread) (text ids : ℕ → List ℕ) (c : ℕ) (d : EndpointView)
-    → c < length w.connections → get_or (view_with names w accepted unread text ids).endpoints c d ≡ endpoint_view names w c (accepted c) (unread c) (text c)
-endpoint_in names w accepted unread text ids c d there =
+pub endpoint_in : (names : List (List ℕ)) (w : World) (accepted : ℕ → List RawFrame) (unread : ℕ → Unread) (text : ℕ → List ℕ) (began : ℕ → Option RawFrame) (c : ℕ) (d : EndpointView)
+    → c < length w.connections → get_or (view_with names w accepted unread text began).endpoints c d ≡ endpoint_view names w c (accepted c) (unread c) (text c)
+endpoint_in names w accepted unread text began c d there =
     number_at (λ n. endpoint_view names w n (accepted n) (unread n) (text n)) w.connections c d there
 
 -- its sender
-pub speaker_is : (names : List (List ℕ)) (w : World) (accepted : ℕ → List RawFrame) (unread : ℕ → Unread) (text ids : ℕ → List ℕ) (c : ℕ)
-    → c < length w.connections → speaker_at (view_with names w accepted unread text ids) c ≡ speaker_number w c
-speaker_is names w accepted unread text ids c there =
-    ap (λ (l : EndpointView). unwrap_or l.sender (length (view_with names w accepted unread text ids).senders)) (endpoint_in names w accepted unread text ids c no_endpoint there)
+pub speaker_is : (names : List (List ℕ)) (w : World) (accepted : ℕ → List RawFrame) (unread : ℕ → Unread) (text : ℕ → List ℕ) (began : ℕ → Option RawFrame) (c : ℕ)
+    → c < length w.connections → speaker_at (view_with names w accepted unread text began) c ≡ speaker_number w c
+speaker_is names w accepted unread text began c there =
+    ap (λ (l : EndpointView). unwrap_or l.sender (length (view_with names w accepted unread text began).senders)) (endpoint_in names w accepted unread text began c no_endpoint there)
     ∙ ap (unwrap_or (connection_at w c).sender) (length-each_number (held_sender w) 0 w.senders)
 
 -- a sender that is there, and in use
-pub sender_is : (names : List (List ℕ)) (w : World) (accepted : ℕ → List RawFrame) (unread : ℕ → Unread) (text ids : ℕ → List ℕ) (s : ℕ)
-    → s < length w.senders → is_in_use w s ≡ true → sender_in (view_with names w accepted unread text ids) s ≡ sender_view s (sender_at w s)
-sender_is names w accepted unread text ids s there used = number_at (held_sender w) w.senders s (no_sender s) there ∙ used_held w s used
+pub sender_is : (names : List (List ℕ)) (w : World) (accepted : ℕ → List RawFrame) (unread : ℕ → Unread) (text : ℕ → List ℕ) (began : ℕ → Option RawFrame) (s : ℕ)
+    → s < length w.senders → is_in_use w s ≡ true → sender_in (view_with names w accepted unread text began) s ≡ sender_view s (sender_at w s)
+sender_is names w accepted unread text began s there used = number_at (held_sender w) w.senders s (no_sender s) there ∙ used_held w s used
 
 -- the same in the view of a core
 pub speaker_of : (k : Core) (c : ℕ) → c < length k.world.connections → speaker_at (view_of k) c ≡ speaker_number k.world c
 speaker_of k c there =
-    speaker_is (names_at k) k.world (λ n. accepted_of n k.steps) (λ n. unread_at n k.steps) (λ n. text_out k.names n k.steps) (λ n. sub_id_text n k.steps) c there
+    speaker_is (names_at k) k.world (λ n. accepted_of n k.steps) (λ n. unread_at n k.steps) (λ n. text_out k.names n k.steps) (λ n. subscribe_frame n k.steps) c there
 
 pub sender_of : (k : Core) (s : ℕ) → s < length k.world.senders → sender_in (view_of k) s ≡ held_sender k.world s
 sender_of k s there = number_at (held_sender k.world) k.world.senders s (no_sender s) there
@@ -65,7 +65,7 @@ held_of k s there used = sender_of k s there ∙ used_held k.world s used
 pub endpoint_of : (k : Core) (c : ℕ) (d : EndpointView) → c < length k.world.connections
     → get_or (view_of k).endpoints c d ≡ endpoint_view (names_at k) k.world c (accepted_of c k.steps) (unread_at c k.steps) (text_out k.names c k.steps)
 endpoint_of k c d there =
-    endpoint_in (names_at k) k.world (λ n. accepted_of n k.steps) (λ n. unread_at n k.steps) (λ n. text_out k.names n k.steps) (λ n. sub_id_text n k.steps) c d there
+    endpoint_in (names_at k) k.world (λ n. accepted_of n k.steps) (λ n. unread_at n k.steps) (λ n. text_out k.names n k.steps) (λ n. subscribe_frame n k.steps) c d there
 
 -- the connection speaks for a sender, and isn't gone
 abbrev pub IsSpeaking : World → ℕ → Type 0

@@ -3,7 +3,7 @@ use Rattle.std.proofs.Common.{◌≡◌, ◌≢◌, ℕ, zero, suc, ◌+◌, ◌
 use Rattle.std.proofs.Common.{eq-eqb, nat_lt}
 use Rattle.std.specs.Prelude.{slice_get}
 use Rattle.std.specs.List.{position, position_or_len, remove}
-use Rattle.std.specs.Option.{is_some, option_map, option_and_then}
+use Rattle.std.specs.Option.{is_some, option_map, option_map_or, option_and_then}
 use Rattle.std.proofs.lemmas.Bool.{eqb-true, cases_lt}
 use Rattle.std.proofs.lemmas.Option.{slice_get-get_or, get_or_from_slice_get}
 use Rattle.std.proofs.lemmas.List.{get_or-map, map-set, set-get_or, get_or-set_same, get_or-set_other}
@@ -12,6 +12,7 @@ use Rattle.mcast_txn.specs.declared.id.Topic.{Topic}
 use Rattle.mcast_txn.specs.Stamp.{zero_stamp}
 use Rattle.stomp_frame.specs.declared.raw_frame.RawFrame.{RawFrame}
 use Rattle.stomp_frame.specs.Reader.{Unread}
+use Rattle.stomp_session.specs.Frames.{id_of, wants_parts}
 use Rattle.sub_queue.specs.Shown.{Gauge}
 use Rattle.mcast_group.specs.Sound.{NumbersDiffer}
 use Rattle.mcast_group.specs.Group.{GroupState, gauge_at, gauges_without, group_after_unsubscribe}
@@ -203,13 +204,13 @@ abbrev leaves : World → ℕ → Entry → LeftView
 leaves w s e = left_view (subscription_at w s).taken (end_of (topic_at w (subscription_at w s).topic).frontier e)
 
 -- it is what is found in the view
-pub left_is : (names : List (List ℕ)) (w : World) (s : ℕ) (e : Entry) (accepted : ℕ → List RawFrame) (unread : ℕ → Unread) (text ids : ℕ → List ℕ)
+pub left_is : (names : List (List ℕ)) (w : World) (s : ℕ) (e : Entry) (accepted : ℕ → List RawFrame) (unread : ℕ → Unread) (text : ℕ → List ℕ) (began : ℕ → Option RawFrame)
     → s < length w.subscriptions → entry_at w s ≡ Some e
-    → (slice_get (view_with names w accepted unread text ids).subs s ≡ Some (sub_view w s (ids s)))
-    × (left_at s (view_with names w accepted unread text ids) ≡ Some (leaves w s e))
-left_is names w s e accepted unread text ids there found =
-    let v = view_with names w accepted unread text ids in
-    let h = λ (n : ℕ). sub_view w n (ids n) in
+    → (slice_get (view_with names w accepted unread text began).subs s ≡ Some (sub_view w s (began s)))
+    × (left_at s (view_with names w accepted unread text began) ≡ Some (leaves w s e))
+left_is names w s e accepted unread text began there found =
+    let v = view_with names w accepted unread text began in
+    let h = λ (n : ℕ). sub_view w n (began n) in
     let x = subscription_at w s in
     let y = topic_at w x.topic in
     let many : s < length (each_number h 0 w.subscriptions) = omega (arith, there, length-each_number h 0 w.subscriptions) in
@@ -226,18 +227,18 @@ left_is names w s e accepted unread text ids there found =
     (sub, close_some v s (h s) (leaves w s e) sub (ap (left_in s) group ∙ left))
 
 -- the view of a world in which a subscription with this entry is closed
-closed_in : (names : List (List ℕ)) (w : World) (c s : ℕ) (e : Entry) (accepted : ℕ → List RawFrame) (unread : ℕ → Unread) (text ids : ℕ → List ℕ)
+closed_in : (names : List (List ℕ)) (w : World) (c s : ℕ) (e : Entry) (accepted : ℕ → List RawFrame) (unread : ℕ → Unread) (text : ℕ → List ℕ) (began : ℕ → Option RawFrame)
     → c < length w.connections → s < length w.subscriptions → is_live c (subscription_at w s) ≡ true → entry_at w s ≡ Some e
     → NumbersDiffer (topic_at w (subscription_at w s).topic).subscriptions
-    → closed_view s (view_with names w accepted unread text ids) ≡ view_with names (close_effect_of w s (Some e)) accepted unread text ids
-closed_in names w c s e accepted unread text ids spoken there live found numbers =
-    let v = view_with names w accepted unread text ids in
+    → closed_view s (view_with names w accepted unread text began) ≡ view_with names (close_effect_of w s (Some e)) accepted unread text began
+closed_in names w c s e accepted unread text began spoken there live found numbers =
+    let v = view_with names w accepted unread text began in
     let x = subscription_at w s in
     let t = x.topic in
     let y = topic_at w t in
     let u = close_effect_of w s (Some e) in
     let x' : Subscription = record x { closed = Some (end_of y.frontier e) } in
-    let left = left_is names w s e accepted unread text ids there found in
+    let left = left_is names w s e accepted unread text began there found in
     let own : x.connection ≡ c = live_owned c x live in
     let topic : t.0 < length w.topics = entry_topic w s e found in
     let from : 0 + s ≡ s = omega arith in
@@ -260,9 +261,9 @@ closed_in names w c s e accepted unread text ids spoken there live found numbers
     ∙ (ap (λ (l : EndpointView). set v.endpoints c l) (endpoint ∙ ap g first)
     ∙ (each_number-set f g 0 w.connections c (get_or w.connections c nobody) spoken (λ n low high apart. other n (λ same. apart (same ∙ first)))
     ∙ ap (λ (cs : List Connection). each_number g 0 cs) (set-get_or w.connections c nobody)))) in
-    let h = λ (n : ℕ). sub_view w n (ids n) in
-    let h' = λ (n : ℕ). sub_view u n (ids n) in
-    let sub_with : ℕ → Subscription → SubView = λ n z. record { connection = z.connection; id = ids n; topic = z.topic; from = z.from; left = option_map (left_view z.taken) z.closed } in
+    let h = λ (n : ℕ). sub_view w n (began n) in
+    let h' = λ (n : ℕ). sub_view u n (began n) in
+    let sub_with : ℕ → Subscription → SubView = λ n z. record { connection = z.connection; id = option_map_or id_of (began n) []; parts = option_map_or wants_parts (began n) false; topic = z.topic; from = z.from; left = option_map (left_view z.taken) z.closed } in
     let own_sub : record (h s) { left = Some (leaves w s e) } ≡ h' s = ap (sub_with s) (sym (get_or-set_same w.subscriptions s x' no_subscription there)) in
     let subs : set v.subs s (record (h s) { left = Some (leaves w s e) }) ≡ each_number h' 0 (set w.subscriptions s x') =
     ap (λ (z : SubView). set v.subs s z) (own_sub ∙ ap h' (sym from))
@@ -291,23 +292,23 @@ live_entry k c s reached there live = has k.world s (has_entry k s reached there
 -- closing a live subscription gives the view of the machine after it, whatever was accepted, read and written
 pub closed_is : (k : Core) (c s : ℕ) → IsReached k → c < length k.world.connections → s < length k.world.subscriptions
     → is_live c (subscription_at k.world s) ≡ true
-    → (accepted : ℕ → List RawFrame) (unread : ℕ → Unread) (text ids : ℕ → List ℕ)
-    → closed_view s (view_with (names_at k) k.world accepted unread text ids) ≡ view_with (names_at k) (close_effect k.world s) accepted unread text ids
-closed_is k c s reached spoken there live accepted unread text ids =
+    → (accepted : ℕ → List RawFrame) (unread : ℕ → Unread) (text : ℕ → List ℕ) (began : ℕ → Option RawFrame)
+    → closed_view s (view_with (names_at k) k.world accepted unread text began) ≡ view_with (names_at k) (close_effect k.world s) accepted unread text began
+closed_is k c s reached spoken there live accepted unread text began =
     let has = live_entry k c s reached there live in
     let numbers : NumbersDiffer (topic_at k.world (subscription_at k.world s).topic).subscriptions =
     by_world (λ w. NumbersDiffer (topic_at w (subscription_at w s).topic).subscriptions) k reached
     (λ r. numbers_differ _ (topics_are_sound r (subscription_at (final_world r) s).topic).0.numbers) in
-    closed_in (names_at k) k.world c s has.entry accepted unread text ids spoken there live has.found numbers
-    ∙ ap (λ (o : Option Entry). view_with (names_at k) (close_effect_of k.world s o) accepted unread text ids) (sym has.found)
+    closed_in (names_at k) k.world c s has.entry accepted unread text began spoken there live has.found numbers
+    ∙ ap (λ (o : Option Entry). view_with (names_at k) (close_effect_of k.world s o) accepted unread text began) (sym has.found)
 
 -- its span ends where the machine says
 pub closed_end : (k : Core) (c s : ℕ) → IsReached k → s < length k.world.subscriptions
     → is_live c (subscription_at k.world s) ≡ true
-    → (accepted : ℕ → List RawFrame) (unread : ℕ → Unread) (text ids : ℕ → List ℕ)
-    → option_map (λ left. left.to) (left_at s (view_with (names_at k) k.world accepted unread text ids)) ≡ Some (end_now k.world s)
-closed_end k c s reached there live accepted unread text ids =
+    → (accepted : ℕ → List RawFrame) (unread : ℕ → Unread) (text : ℕ → List ℕ) (began : ℕ → Option RawFrame)
+    → option_map (λ left. left.to) (left_at s (view_with (names_at k) k.world accepted unread text began)) ≡ Some (end_now k.world s)
+closed_end k c s reached there live accepted unread text began =
     let has = live_entry k c s reached there live in
     let w = k.world in
-    ap (λ (o : Option LeftView). option_map (λ (left : LeftView). left.to) o) (left_is (names_at k) w s has.entry accepted unread text ids there has.found).1
+    ap (λ (o : Option LeftView). option_map (λ (left : LeftView). left.to) o) (left_is (names_at k) w s has.entry accepted unread text began there has.found).1
     ∙ ap (λ (o : Option Entry). Some (elim o [ None ↦ zero_stamp | Some e ↦ (end_of (topic_at w (subscription_at w s).topic).frontier e).to ])) (sym has.found)

@@ -1,9 +1,9 @@
 -- A subscription that begins.
-use Rattle.std.proofs.Common.{◌≡◌, ◌≢◌, ℕ, suc, ◌+◌, ◌<◌, nat_lt, Bool, true, false, cond, ◌&&◌, List, [], ◌∷◌, ◌++◌, map, length, get_or, set, Some, None, refl, sym, ap, ◌∙◌, arith}
+use Rattle.std.proofs.Common.{◌≡◌, ◌≢◌, ℕ, suc, ◌+◌, ◌<◌, nat_lt, Bool, true, false, cond, ◌&&◌, List, [], ◌∷◌, ◌++◌, map, length, get_or, set, Option, Some, None, refl, sym, ap, ◌∙◌, arith}
 use Rattle.std.proofs.Common.{eq-eqb}
 use Rattle.std.specs.Prelude.{slice_get}
 use Rattle.std.specs.List.{find, position, position_or_len}
-use Rattle.std.specs.Option.{option_map}
+use Rattle.std.specs.Option.{option_map, option_map_or}
 use Rattle.std.proofs.lemmas.Option.{slice_get-get_or, slice_get_past}
 use Rattle.std.proofs.lemmas.List.Folds.{find_at}
 use Rattle.std.proofs.lemmas.List.{get_or-map, map-set, set-get_or, get_or_append_left, append-nil}
@@ -11,7 +11,7 @@ use Rattle.mcast_txn.specs.declared.id.Topic.{Topic}
 use Rattle.mcast_txn.specs.declared.stamp.Stamp.{Stamp}
 use Rattle.stomp_frame.specs.declared.raw_frame.RawFrame.{RawFrame}
 use Rattle.stomp_frame.specs.Reader.{Unread}
-use Rattle.stomp_session.specs.Frames.{id_of}
+use Rattle.stomp_session.specs.Frames.{id_of, wants_parts}
 use Rattle.sub_queue.specs.Shown.{Gauge}
 use Rattle.mcast_group.specs.Group.{GroupState, gauges_with, group_after_subscribe}
 use Rattle.mcast_group.specs.Machine.{TopicState, Entry, new_topic, insert_entry, after_subscribe}
@@ -21,7 +21,7 @@ use Rattle.delivery.specs.declared.outcome.Outcome.{Outcome}
 use Rattle.delivery.specs.Machine.World.{World, Connection, Subscription, no_subscription, nobody, topic_at, subscription_at}
 use Rattle.delivery.specs.Machine.Moves.{is_live, subscribe_effect}
 use Rattle.delivery.specs.Core.Steps.{CoreStep, Reading}
-use Rattle.delivery.specs.Core.Output.{sub_id_text}
+use Rattle.delivery.specs.Core.Output.{subscribe_frame}
 use Rattle.delivery.specs.Core.Reports.{each_number}
 use Rattle.delivery.specs.Core.Connections.{live_numbers}
 use Rattle.delivery.specs.Inner.View.{EndpointView, SubView, view_with, group_view, queue_gauge, left_view, endpoint_view, sub_view, no_group, no_endpoint, group_in}
@@ -80,20 +80,20 @@ taken_stays w x topics none n =
     (λ e. ap (λ (z : Subscription). z.taken) (beyond w.subscriptions n no_subscription (omega (arith, e))) ∙ sym none) (λ e. refl))
 
 -- what is held once a subscription begins is the view of the machine after it, whatever was accepted, read and written
-pub subscribed_is : (names : List (List ℕ)) (w : World) (c : ℕ) (id : List ℕ) (t : Topic)
-    (accepted : ℕ → List RawFrame) (unread : ℕ → Unread) (text ids later : ℕ → List ℕ)
+pub subscribed_is : (names : List (List ℕ)) (w : World) (c : ℕ) (frame : RawFrame) (t : Topic)
+    (accepted : ℕ → List RawFrame) (unread : ℕ → Unread) (text : ℕ → List ℕ) (began later : ℕ → Option RawFrame)
     → c < length w.connections → t.0 < length w.topics
-    → ((s : ℕ) → s < length w.subscriptions → later s ≡ ids s) → later (length w.subscriptions) ≡ id
-    → subscribed_view c id t (view_with names w accepted unread text ids) ≡ view_with names (subscribe_effect w c t) accepted unread text later
-subscribed_is names w c id t accepted unread text ids later spoken topic same own =
-    let v = view_with names w accepted unread text ids in
+    → ((s : ℕ) → s < length w.subscriptions → later s ≡ began s) → later (length w.subscriptions) ≡ Some frame
+    → subscribed_view c (id_of frame) (wants_parts frame) t (view_with names w accepted unread text began) ≡ view_with names (subscribe_effect w c t) accepted unread text later
+subscribed_is names w c frame t accepted unread text began later spoken topic same own =
+    let v = view_with names w accepted unread text began in
     let y = topic_at w t in
     let n = length w.subscriptions in
     let x : Subscription = record { connection = c; topic = t; from = y.frontier; taken = 0; closed = None } in
     let u = subscribe_effect w c t in
     let first : c ≡ 0 + c = omega arith in
     let last : 0 + n ≡ n = omega arith in
-    let h : ℕ → SubView = λ m. sub_view w m (ids m) in
+    let h : ℕ → SubView = λ m. sub_view w m (began m) in
     let h' : ℕ → SubView = λ m. sub_view u m (later m) in
     let count : length v.subs ≡ n = length-each_number h 0 w.subscriptions in
     let group : group_in v t ≡ group_view w y = get_or-map (group_view w) w.topics t.0 (new_topic t 0 0) no_group topic in
@@ -118,8 +118,8 @@ subscribed_is names w c id t accepted unread text ids later spoken topic same ow
     ∙ (ap (λ (l : EndpointView). set v.endpoints c l) (endpoint ∙ ap g first)
     ∙ (each_number-set f g 0 w.connections c (get_or w.connections c nobody) spoken (λ m low high apart. other m (λ e. apart (e ∙ first)))
     ∙ ap (λ (cs : List Connection). each_number g 0 cs) (set-get_or w.connections c nobody)))) in
-    let sub_with : List ℕ → Subscription → SubView = λ text z. record { connection = z.connection; id = text; topic = z.topic; from = z.from; left = option_map (left_view z.taken) z.closed } in
-    let new : SubView = record { connection = c; id = id; topic = t; from = (group_in v t).topic.frontier; left = None } in
+    let sub_with : Option RawFrame → Subscription → SubView = λ o z. record { connection = z.connection; id = option_map_or id_of o []; parts = option_map_or wants_parts o false; topic = z.topic; from = z.from; left = option_map (left_view z.taken) z.closed } in
+    let new : SubView = record { connection = c; id = id_of frame; parts = wants_parts frame; topic = t; from = (group_in v t).topic.frontier; left = None } in
     let older : (m : ℕ) → m < n → h m ≡ h' m = λ m l i. sub_with (sym (same m l) i) (sym (get_or_append_left w.subscriptions (x ∷ []) no_subscription m l) i) in
     let here : subscription_at u n ≡ x = at_end (λ (z : Subscription). z ≡ x) w.subscriptions x no_subscription refl in
     let newest : new ≡ h' (0 + n) =
@@ -133,11 +133,11 @@ subscribed_is names w c id t accepted unread text ids later spoken topic same ow
 
 -- its number and where its span begins
 pub begun_as : (names : List (List ℕ)) (w : World) (t : Topic)
-    (accepted : ℕ → List RawFrame) (unread : ℕ → Unread) (text ids : ℕ → List ℕ) → t.0 < length w.topics
-    → (length (view_with names w accepted unread text ids).subs ≡ length w.subscriptions)
-    × ((group_in (view_with names w accepted unread text ids) t).topic.frontier ≡ (topic_at w t).frontier)
-begun_as names w t accepted unread text ids topic = (
-  length-each_number (λ m. sub_view w m (ids m)) 0 w.subscriptions,
+    (accepted : ℕ → List RawFrame) (unread : ℕ → Unread) (text : ℕ → List ℕ) (began : ℕ → Option RawFrame) → t.0 < length w.topics
+    → (length (view_with names w accepted unread text began).subs ≡ length w.subscriptions)
+    × ((group_in (view_with names w accepted unread text began) t).topic.frontier ≡ (topic_at w t).frontier)
+begun_as names w t accepted unread text began topic = (
+  length-each_number (λ m. sub_view w m (began m)) 0 w.subscriptions,
   ap (λ (z : GroupState). z.topic.frontier) (get_or-map (group_view w) w.topics t.0 (new_topic t 0 0) no_group topic),
 )
 
@@ -153,18 +153,18 @@ found_none p ns e =
     let far = end_is p ns e in
     sym (find_at p ns ∙ slice_get_past ns (position_or_len p ns) (omega (arith, far)))
 
--- ---- ids
+-- ---- its SUBSCRIBE
 
 -- the step of an accepted SUBSCRIBE
 abbrev pub begin_step : ℕ → RawFrame → Unread → ℕ → Stamp → CoreStep
 begin_step c f left n from = record { event = Event.Next c; reading = Reading.Finds f left; outcome = Outcome.Subscribed n from }
 
--- the new number has the frame's id
-pub new_id : (c : ℕ) (f : RawFrame) (left : Unread) (n : ℕ) (from : Stamp) (older : List CoreStep)
-    → sub_id_text n (begin_step c f left n from ∷ older) ≡ id_of f
-new_id c f left n from older = ap (λ (b : Bool). cond b (id_of f) (sub_id_text n older)) (eq-eqb n n refl)
+-- the new number has the frame
+pub new_frame : (c : ℕ) (f : RawFrame) (left : Unread) (n : ℕ) (from : Stamp) (older : List CoreStep)
+    → subscribe_frame n (begin_step c f left n from ∷ older) ≡ Some f
+new_frame c f left n from older = ap (λ (b : Bool). cond b (Some f) (subscribe_frame n older)) (eq-eqb n n refl)
 
 -- the others keep theirs
-pub old_ids : (c : ℕ) (f : RawFrame) (left : Unread) (n : ℕ) (from : Stamp) (older : List CoreStep)
-    → (s : ℕ) → s < n → sub_id_text s (begin_step c f left n from ∷ older) ≡ sub_id_text s older
-old_ids c f left n from older s l = ap (λ (b : Bool). cond b (id_of f) (sub_id_text s older)) (differ n s (λ e. omega (arith, e, l)))
+pub old_frames : (c : ℕ) (f : RawFrame) (left : Unread) (n : ℕ) (from : Stamp) (older : List CoreStep)
+    → (s : ℕ) → s < n → subscribe_frame s (begin_step c f left n from ∷ older) ≡ subscribe_frame s older
+old_frames c f left n from older s l = ap (λ (b : Bool). cond b (Some f) (subscribe_frame s older)) (differ n s (λ e. omega (arith, e, l)))

@@ -33,7 +33,7 @@ use Rattle.delivery.specs.Machine.Objections.{Objection}
 use Rattle.delivery.specs.Machine.Moves.{Move, is_live, is_topic, needs_idle, move_refusal}
 use Rattle.delivery.specs.Theorem.Laws.{final_world}
 use Rattle.delivery.specs.Core.Steps.{CoreStep, frame_in, accepted_of, is_next, has_id, begun_by, number_by}
-use Rattle.delivery.specs.Core.Output.{sub_id_text}
+use Rattle.delivery.specs.Core.Output.{subscribe_frame, sub_id_text}
 use Rattle.delivery.specs.Core.State.{Core, core_of, core_after, moves, session_at, names_at}
 use Rattle.delivery.specs.Core.Outcomes.{IsCoreRun}
 use Rattle.delivery.specs.Core.Reports.{each_number}
@@ -254,11 +254,11 @@ begins_agree k c step going a h =
     ∙ (live_push c 0 w.subscriptions x
     ∙ (ap (λ (b : Bool). live_at k c ++ cond (b && true) ((0 + n) ∷ []) []) (eq-eqb c c refl)
     ∙ ap (λ (m : ℕ). live_at k c ++ m ∷ []) last)) in
-    let text : (s : ℕ) → sub_id_text s after.steps ≡ cond (n == s) (id_of f) (sub_id_text s k.steps) = λ s i.
-    cond (option_map_or (λ r. r == s) (begun_by (h.is i)) false) (option_map_or id_of (h.reads.read i) []) (sub_id_text s k.steps) in
+    let text : (s : ℕ) → sub_id_text s after.steps ≡ option_map_or id_of (cond (n == s) (Some f) (subscribe_frame s k.steps)) [] = λ s i.
+    option_map_or id_of (cond (option_map_or (λ r. r == s) (begun_by (h.is i)) false) (h.reads.read i) (subscribe_frame s k.steps)) [] in
     let text_old : (s : ℕ) → s < n → sub_id_text s after.steps ≡ sub_id_text s k.steps = λ s l.
-    text s ∙ ap (λ (b : Bool). cond b (id_of f) (sub_id_text s k.steps)) (differ n s (λ z. omega (arith, z, l))) in
-    let text_new : sub_id_text n after.steps ≡ id_of f = text n ∙ ap (λ (b : Bool). cond b (id_of f) (sub_id_text n k.steps)) (eq-eqb n n refl) in
+    text s ∙ ap (λ (b : Bool). option_map_or id_of (cond b (Some f) (subscribe_frame s k.steps)) []) (differ n s (λ z. omega (arith, z, l))) in
+    let text_new : sub_id_text n after.steps ≡ id_of f = text n ∙ ap (λ (b : Bool). option_map_or id_of (cond b (Some f) (subscribe_frame n k.steps)) []) (eq-eqb n n refl) in
     let topic_old : (s : ℕ) → s < n → (subscription_at after.world s).topic ≡ (subscription_at w s).topic = λ s l.
     ap (λ (xs : List Subscription). (get_or xs s no_subscription).topic) h.new
     ∙ ap (λ (z : Subscription). z.topic) (get_or_append_left w.subscriptions (x ∷ []) no_subscription s l) in
@@ -312,7 +312,7 @@ ends_agree k c step going a h =
     ∙ (live_of_own c 0 s w.subscriptions h.new h.there h.live shut
     ∙ ap (λ m. without_number m (live_at k c)) from) in
     let text : (m : ℕ) → sub_id_text m after.steps ≡ sub_id_text m k.steps = λ m.
-    ap (λ (o : Outcome). cond (option_map_or (λ r. r == m) (begun_by o) false) (option_map_or id_of (frame_in step.reading) []) (sub_id_text m k.steps)) h.is in
+    ap (λ (o : Outcome). option_map_or id_of (cond (option_map_or (λ r. r == m) (begun_by o) false) (frame_in step.reading) (subscribe_frame m k.steps)) []) h.is in
     let topic : (m : ℕ) → (subscription_at after.world m).topic ≡ (subscription_at w m).topic = λ m.
     ap (λ (xs : List Subscription). (get_or xs m no_subscription).topic) h.set_to
     ∙ at_set (λ (z : Subscription). z.topic ≡ (subscription_at w m).topic) w.subscriptions s m h.new no_subscription
@@ -411,7 +411,8 @@ reached_agrees k c reached reading =
     subst (λ (z : Core). Agrees z c) (sym reached.is)
     (agrees_run reached.topics reached.capacity reached.steps reached.run c (subst (λ (z : Core). open_in z.world.connections c ≡ true) reached.is reading))
 
-not_ended : (k : Core) (c : ℕ) → IsReached k → is_reading (connection_at k.world c).standing ≡ true → is_ended (accepted_of c k.steps) ≡ false
+-- no DISCONNECT was accepted of an open connection
+pub not_ended : (k : Core) (c : ℕ) → IsReached k → is_reading (connection_at k.world c).standing ≡ true → is_ended (accepted_of c k.steps) ≡ false
 not_ended k c reached reading = any_none (λ f. is_disconnect f.command) (accepted_of c k.steps) (not_parting k c reached reading)
 
 -- the open subscriptions of an open connection's session are the live ones of the connection
@@ -429,13 +430,13 @@ pub record NamesLive (k : Core) (c : ℕ) (id : List ℕ) : Type 0 where
   pub there : number_by c id k.steps < length k.world.subscriptions
   pub live : is_live c (subscription_at k.world (number_by c id k.steps)) ≡ true
   pub found : (accepted : ℕ → List RawFrame) (unread : ℕ → Unread) (text : ℕ → List ℕ)
-      → number_in (view_with (names_at k) k.world accepted unread text (λ s. sub_id_text s k.steps)) c id ≡ Some (number_by c id k.steps)
+      → number_in (view_with (names_at k) k.world accepted unread text (λ s. subscribe_frame s k.steps)) c id ≡ Some (number_by c id k.steps)
 
 -- the subscription of a number has an id by the view where it has it by the steps
 has_by_view : (k : Core) (accepted : ℕ → List RawFrame) (unread : ℕ → Unread) (text : ℕ → List ℕ) (id : List ℕ) (s : ℕ) → s < length k.world.subscriptions
-    → has_sub_id (view_with (names_at k) k.world accepted unread text (λ n. sub_id_text n k.steps)).subs id s ≡ bytes_eq (sub_id_text s k.steps) id
+    → has_sub_id (view_with (names_at k) k.world accepted unread text (λ n. subscribe_frame n k.steps)).subs id s ≡ bytes_eq (sub_id_text s k.steps) id
 has_by_view k accepted unread text id s there =
-    let h : ℕ → SubView = λ n. sub_view k.world n (sub_id_text n k.steps) in
+    let h : ℕ → SubView = λ n. sub_view k.world n (subscribe_frame n k.steps) in
     let many : s < length (each_number h 0 k.world.subscriptions) = omega (arith, there, length-each_number h 0 k.world.subscriptions) in
     let first : 0 + s ≡ s = omega arith in
     ap (λ (o : Option SubView). option_map_or (λ x. bytes_eq x.id id) o false)
@@ -458,7 +459,7 @@ names_live k c f reached reading command none =
     record {
       there = at.there;
       live = at.live;
-      found = λ accepted unread text. (let v = view_with (names_at k) w accepted unread text (λ n. sub_id_text n k.steps) in
+      found = λ accepted unread text. (let v = view_with (names_at k) w accepted unread text (λ n. subscribe_frame n k.steps) in
           let g : ℕ → EndpointView = λ n. endpoint_view (names_at k) w n (accepted n) (unread n) (text n) in
           let first : 0 + c ≡ c = omega arith in
           let endpoint : get_or v.endpoints c no_endpoint ≡ g c = get_or-each_number g 0 w.connections c no_endpoint (open_there w.connections c reading) ∙ ap g first in

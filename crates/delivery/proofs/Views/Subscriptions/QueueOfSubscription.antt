@@ -1,9 +1,11 @@
 -- The queue of a subscription that isn't closed: in its topic's group, and after a take.
 use Rattle.std.proofs.Common.{◌≡◌, ◌≢◌, ℕ, zero, suc, ◌+◌, ◌<◌, ◌==◌, Bool, true, false, cond, inl, inr, List, [], ◌∷◌, map, length, get_or, set, Option, Some, None, refl, sym, ap, subst, ◌∙◌, arith, eq-eqb}
 use Rattle.std.specs.Prelude.{slice_get}
-use Rattle.std.specs.Option.{is_some, option_map}
+use Rattle.std.specs.Option.{is_some, option_map, option_map_or}
 use Rattle.std.proofs.lemmas.Bool.{eqb-true, true≢false, lt-ltb, cases_lt}
 use Rattle.std.proofs.lemmas.List.{get_or-set_same, get_or-set_other, get_or_past, get_or_default}
+use Rattle.stomp_frame.specs.declared.raw_frame.RawFrame.{RawFrame}
+use Rattle.stomp_session.specs.Frames.{id_of, wants_parts}
 use Rattle.mcast_txn.specs.Lists.{In}
 use Rattle.mcast_txn.specs.declared.id.Topic.{Topic}
 use Rattle.sub_queue.specs.Shown.{Gauge, gauge_after_take}
@@ -16,7 +18,7 @@ use Rattle.mcast_group.proofs.Parts.{none_some}
 use Rattle.delivery.specs.Machine.World.{World, Subscription, no_subscription, topic_at, subscription_at, entry_at, with_subscription}
 use Rattle.delivery.specs.Machine.Moves.{is_live}
 use Rattle.delivery.specs.Machine.Observed.{entry_to}
-use Rattle.delivery.specs.Core.Output.{sub_id_text}
+use Rattle.delivery.specs.Core.Output.{subscribe_frame}
 use Rattle.delivery.specs.Core.State.{Core}
 use Rattle.delivery.specs.Core.Reports.{each_number}
 use Rattle.delivery.specs.Inner.Stands.{IsReached}
@@ -62,9 +64,9 @@ has_queue k s reached l unclosed = by_case (entry_at k.world s) refl
     }
 
 -- the subscription as it is held
-pub sub_is : (k : Core) (s : ℕ) → s < length k.world.subscriptions → sub_held (view_of k) s ≡ sub_view k.world s (sub_id_text s k.steps)
+pub sub_is : (k : Core) (s : ℕ) → s < length k.world.subscriptions → sub_held (view_of k) s ≡ sub_view k.world s (subscribe_frame s k.steps)
 sub_is k s l =
-    let f = λ (n : ℕ). sub_view k.world n (sub_id_text n k.steps) in
+    let f = λ (n : ℕ). sub_view k.world n (subscribe_frame n k.steps) in
     let e : 0 + s ≡ s = omega arith in
     get_or-each_number f 0 k.world.subscriptions s no_sub l ∙ ap f e
 
@@ -195,30 +197,30 @@ each_number-any f i [] j x = refl
 each_number-any f i (y ∷ ys) zero x = refl
 each_number-any {Y = Y} f i (y ∷ ys) (suc j) x = ap (λ (zs : List Y). f i ∷ zs) (each_number-any f (i + 1) ys j x)
 
--- this subscription, with this id
-abbrev shape : List ℕ → Subscription → SubView
-shape id x = record { connection = x.connection; id = id; topic = x.topic; from = x.from; left = option_map (left_in_view x.taken) x.closed }
+-- this subscription, which this SUBSCRIBE began
+abbrev shape : Option RawFrame → Subscription → SubView
+shape began x = record { connection = x.connection; id = option_map_or id_of began []; parts = option_map_or wants_parts began false; topic = x.topic; from = x.from; left = option_map (left_in_view x.taken) x.closed }
 
 -- a subscription that isn't closed shows nothing of what was taken
-same_sub : (w : World) (s : ℕ) (id : List ℕ) → s < length w.subscriptions → (subscription_at w s).closed ≡ None → sub_view w s id ≡ sub_view (taken_world w s) s id
-same_sub w s id l unclosed =
+same_sub : (w : World) (s : ℕ) (began : Option RawFrame) → s < length w.subscriptions → (subscription_at w s).closed ≡ None → sub_view w s began ≡ sub_view (taken_world w s) s began
+same_sub w s began l unclosed =
     let x = subscription_at w s in
     let later : Subscription = record x { taken = x.taken + 1 } in
-    ap (λ (o : Option EntryEnd). record (shape id x) { left = option_map (left_in_view x.taken) o }) unclosed
-    ∙ (ap (λ (o : Option EntryEnd). record (shape id x) { left = option_map (left_in_view later.taken) o }) (sym unclosed)
-    ∙ ap (shape id) (sym (this_taken w s l)))
+    ap (λ (o : Option EntryEnd). record (shape began x) { left = option_map (left_in_view x.taken) o }) unclosed
+    ∙ (ap (λ (o : Option EntryEnd). record (shape began x) { left = option_map (left_in_view later.taken) o }) (sym unclosed)
+    ∙ ap (shape began) (sym (this_taken w s l)))
 
 -- the subscriptions after the take are held as before
-pub taken_subs : (w : World) (s : ℕ) (ids : ℕ → List ℕ) → s < length w.subscriptions → (subscription_at w s).closed ≡ None
-    → each_number (λ n. sub_view w n (ids n)) 0 w.subscriptions ≡ each_number (λ n. sub_view (taken_world w s) n (ids n)) 0 (taken_world w s).subscriptions
-taken_subs w s ids l unclosed =
+pub taken_subs : (w : World) (s : ℕ) (began : ℕ → Option RawFrame) → s < length w.subscriptions → (subscription_at w s).closed ≡ None
+    → each_number (λ n. sub_view w n (began n)) 0 w.subscriptions ≡ each_number (λ n. sub_view (taken_world w s) n (began n)) 0 (taken_world w s).subscriptions
+taken_subs w s began l unclosed =
     (λ i. each_number (λ n. each n i) 0 w.subscriptions)
-    ∙ sym (each_number-any (λ n. sub_view (taken_world w s) n (ids n)) 0 w.subscriptions s (record (subscription_at w s) { taken = (subscription_at w s).taken + 1 }))
+    ∙ sym (each_number-any (λ n. sub_view (taken_world w s) n (began n)) 0 w.subscriptions s (record (subscription_at w s) { taken = (subscription_at w s).taken + 1 }))
   where
-    each : (n : ℕ) → sub_view w n (ids n) ≡ sub_view (taken_world w s) n (ids n)
+    each : (n : ℕ) → sub_view w n (began n) ≡ sub_view (taken_world w s) n (began n)
     each n = elim (same_or n s) [
-      | inl e ↦ subst (λ (m : ℕ). sub_view w m (ids m) ≡ sub_view (taken_world w s) m (ids m)) (sym e) (same_sub w s (ids s) l unclosed)
-      | inr ne ↦ ap (shape (ids n)) (sym (other_stays w s n ne))
+      | inl e ↦ subst (λ (m : ℕ). sub_view w m (began m) ≡ sub_view (taken_world w s) m (began m)) (sym e) (same_sub w s (began s) l unclosed)
+      | inr ne ↦ ap (shape (began n)) (sym (other_stays w s n ne))
     ]
 
 live_set : (c i : ℕ) (xs : List Subscription) (j : ℕ) (x : Subscription) → is_live c x ≡ is_live c (get_or xs j no_subscription) → live_numbers c i (set xs j x) ≡ live_numbers c i xs

@@ -38,7 +38,7 @@ use Rattle.delivery.specs.Machine.Moves.{Move, move_refusal, move_answer, needs_
 use Rattle.delivery.specs.Machine.Runs.{run}
 use Rattle.delivery.specs.Core.Claims.{claims_of, claimed_sender}
 use Rattle.delivery.specs.Core.Steps.{CoreStep, Reading, frame_in, has_effect, frame_from, accepted_of, has_id, begun_by, number_by}
-use Rattle.delivery.specs.Core.Output.{sub_id_text, is_cut}
+use Rattle.delivery.specs.Core.Output.{subscribe_frame, sub_id_text, is_cut}
 use Rattle.delivery.specs.Core.State.{Core, core_after, moves, frame_move, session_at, is_faulted, is_no_memory, unread_at, core_for, names_at, topic_moves}
 use Rattle.delivery.proofs.Machine.Effects.{made_world, made_answer}
 use Rattle.delivery.proofs.Core.ByRun.{run_append}
@@ -152,7 +152,7 @@ plain_step k c e rd o plain none reading frames =
       topics = keeps.topics;
       frames = frames;
       numbers = λ id. ap (λ (b : Option ℕ). cond (has_id c id step) (unwrap_or b (number_by c id k.steps)) (number_by c id k.steps)) none ∙ if_same (has_id c id step) (number_by c id k.steps);
-      ids = λ s l. ap (λ (b : Option ℕ). cond (option_map_or (λ r. r == s) b false) (option_map_or id_of (frame_in rd) []) (sub_id_text s k.steps)) none;
+      ids = λ s l. ap (λ (b : Option ℕ). option_map_or id_of (cond (option_map_or (λ r. r == s) b false) (frame_in rd) (subscribe_frame s k.steps)) []) none;
     }
 
 plain_if : (b : Bool) (xs ys : List Move) → ArePlain xs → ArePlain ys → ArePlain (cond b xs ys)
@@ -445,8 +445,8 @@ begun_change k c d rd o false e h =
           ∙ ap (λ (z : Subscription). z.topic) (get_or_append_left w.subscriptions (x ∷ []) no_subscription s l);
       frames = others_frame k c d rd o e;
       numbers = others_number k c d rd o e;
-      ids = λ s l. ap (λ (z : Outcome). cond (option_map_or (λ r. r == s) (begun_by z) false) (option_map_or id_of (frame_in rd) []) (sub_id_text s k.steps)) h.is
-          ∙ ap (λ (b : Bool). cond b (option_map_or id_of (frame_in rd) []) (sub_id_text s k.steps)) (differ n s (λ z. omega (arith, z, l)));
+      ids = λ s l. ap (λ (z : Outcome). option_map_or id_of (cond (option_map_or (λ r. r == s) (begun_by z) false) (frame_in rd) (subscribe_frame s k.steps)) []) h.is
+          ∙ ap (λ (b : Bool). option_map_or id_of (cond b (frame_in rd) (subscribe_frame s k.steps)) []) (differ n s (λ z. omega (arith, z, l)));
     })
 
 -- what stands against an end doesn't
@@ -520,7 +520,7 @@ ended_change k c d rd o false e entries h =
       topics = keeps.topics;
       frames = others_frame k c d rd o e;
       numbers = others_number k c d rd o e;
-      ids = λ q l. ap (λ (z : Outcome). cond (option_map_or (λ r. r == q) (begun_by z) false) (option_map_or id_of (frame_in rd) []) (sub_id_text q k.steps)) h.is;
+      ids = λ q l. ap (λ (z : Outcome). option_map_or id_of (cond (option_map_or (λ r. r == q) (begun_by z) false) (frame_in rd) (subscribe_frame q k.steps)) []) h.is;
     })
 
 next_change : (k : Core) (c d : ℕ) (rd : Reading) (o : Outcome)

@@ -6,7 +6,7 @@ use Rattle.mcast_txn.specs.declared.parts.part.Part.{Part}
 use Rattle.mcast_txn.specs.declared.parts.part_message.PartMessage.{PartMessage}
 use Rattle.mcast_txn.specs.declared.stamp.Stamp.{Stamp}
 use Rattle.mcast_txn.specs.Span.{Item}
-use Rattle.delivery.proofs.Views.Lists.TextOfMessages.{text_put}
+use Rattle.delivery.proofs.Views.Lists.TextOfMessages.{message_of, text_put}
 use Rattle.delivery.proofs.messages.put_messages.Goals as goal
 
 pub loop-i-preserved : goal.loop-i-preserved
@@ -22,4 +22,4 @@ loop-i-preserved c =
     let whole = put
     ∙ (ap (λ (st : Stamp). c.loop-i.out ++ spelling_of (frame st c.as_slice.result.now)) stamp
     ∙ ap (λ (b : List ℕ). c.loop-i.out ++ spelling_of (frame item.stamp b)) c.as_slice.ensures) in
-    record { written = text_put c.args.id.now item.stamp item.sends c.loop-i.i p c.args.out.now c.loop-i.out c.write_server.new.out there is c.loop-i.invariant.written whole }
+    record { written = text_put (message_of c.args.id.now item.stamp) item.sends c.loop-i.i p c.args.out.now c.loop-i.out c.write_server.new.out there is c.loop-i.invariant.written whole }

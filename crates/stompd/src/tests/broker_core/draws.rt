@@ -62,7 +62,7 @@ fn commits_c_a() -> Made {
     }
 }
 
-/// At 5 to 8: SUBSCRIBEs.
+/// At 5 to 8: SUBSCRIBEs, of which those of `t` and `u` ask for parts.
 fn subscribes(index: usize) -> Made {
     match index {
         5 => Made {
@@ -73,14 +73,14 @@ fn subscribes(index: usize) -> Made {
             asks: false,
         },
         6 => Made {
-            octets: b"SUBSCRIBE\nid:t\ndestination:B\n\n\0",
+            octets: b"SUBSCRIBE\nid:t\ndestination:B\npart:yes\n\n\0",
             destinations: b"B",
             topics: b"B",
             id: 't',
             asks: false,
         },
         7 => Made {
-            octets: b"SUBSCRIBE\nid:u\ndestination:A\n\n\0",
+            octets: b"SUBSCRIBE\nid:u\ndestination:A\npart:yes\n\n\0",
             destinations: b"A",
             topics: b"A",
             id: 'u',

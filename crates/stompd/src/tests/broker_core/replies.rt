@@ -1,6 +1,7 @@
 //! What made runs write to their connections, by a plain program: each reply as the outcomes say, in their order.
 
 use delivery::{ConnectionFault, QueueItem};
+use mcast_txn::Stamp;
 use std::alloc::{AllocError, Global};
 use std::fmt::Write;
 
@@ -47,19 +48,35 @@ pub(super) fn title(fault: ConnectionFault) -> &'static str {
     }
 }
 
+/// Whether the subscriptions of this id ask that each MESSAGE say its part.
+fn asks_parts(id: char) -> bool {
+    id == 't' || id == 'u'
+}
+
+/// The MESSAGE of a SEND with the body `m`, up to the headers that not each has.
+fn put_head(text: &mut String, dues: &Dues, stamp: Stamp, index: u32) -> Result<(), AllocError> {
+    let (id, topic) = (dues.id, dues.topic);
+    let (n, t) = (stamp.n, stamp.topic.0);
+    write!(
+        text,
+        "MESSAGE\nsubscription:{id}\nmessage-id:{n}.{t}.{index}\ndestination:{topic}\ncontent-length:1\n"
+    )
+}
+
 /// The MESSAGEs of an item: each SEND of its part has the body `m`.
 fn put_item(text: &mut String, dues: &Dues, i: usize) -> Result<(), AllocError> {
     let Some(item) = dues.items.get(i) else {
         return text.push_str("no item");
     };
-    let (id, topic) = (dues.id, dues.topic);
-    let (n, t) = (item.stamp.n, item.stamp.topic.0);
+    let count = item.sends.len();
+    let mut place = 0usize;
     for send in &item.sends {
-        let index = send.index;
-        write!(
-            text,
-            "MESSAGE\nsubscription:{id}\nmessage-id:{n}.{t}.{index}\ndestination:{topic}\ncontent-length:1\n\nm\0"
-        )?;
+        place = place.saturating_add(1);
+        put_head(text, dues, item.stamp, send.index)?;
+        if asks_parts(dues.id) {
+            write!(text, "part:{place}/{count}\n")?;
+        }
+        text.push_str("\nm\0")?;
     }
     Ok(())
 }

@@ -4,6 +4,7 @@ pub(crate) mod first_uses;
 pub(crate) mod frames;
 pub(crate) mod lasting;
 pub(crate) mod order;
+pub(crate) mod parts;
 pub(crate) mod spans;
 
 use super::asks::Ask;
@@ -24,7 +25,7 @@ pub(crate) struct Run {
 }
 
 /// How many runs there are.
-pub(crate) const RUNS_LEN: usize = 25;
+pub(crate) const RUNS_LEN: usize = 30;
 
 /// The run of this number, from 0. Each run has a function of its own, and stands in no table: a proof writes a constant out
 /// wherever it is named.
@@ -55,6 +56,11 @@ pub(crate) fn run_at(i: usize) -> Option<&'static Run> {
         22 => lasting::flying(),
         23 => lasting::cancelling(),
         24 => lasting::counted(),
+        25 => parts::alone(),
+        26 => parts::alternating(),
+        27 => parts::own_header(),
+        28 => parts::lagging(),
+        29 => parts::without_host(),
         _ => return None,
     })
 }

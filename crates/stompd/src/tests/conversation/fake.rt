@@ -6,7 +6,7 @@ use broker_locks::CommitFault;
 use broker_server::{BrokerCalls, ConversationFault};
 use delivery::ConnectionFault;
 use mcast_group::SubFault;
-use mcast_txn::{Part, Released, Sender, Stamp, Ticket, Topic};
+use mcast_txn::{Part, Released, Sender, Stamp, Ticket, Topic, Txn};
 use sender_gate::{ClaimFault, Flying, Gate};
 use std::alloc::Global;
 use std::sync::Arc;
@@ -254,14 +254,14 @@ impl BrokerCalls for Fake {
         Some(self.items.remove(at).1)
     }
 
-    fn reserve(&mut self, topics: &[Topic]) -> Option<FakeRoom> {
+    fn reserve(&mut self, txn: &Txn) -> Option<FakeRoom> {
         let is_refused = self.refusals > 0;
         self.note(Row::AsksRoom(!is_refused));
         if is_refused {
             self.refusals = self.refusals.saturating_sub(1);
             return None;
         }
-        let topics = topics.len();
+        let topics = txn.topics().len();
         self.reserved = self.reserved.saturating_add(topics);
         Some(FakeRoom { topics })
     }

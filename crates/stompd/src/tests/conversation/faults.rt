@@ -83,6 +83,10 @@ const UNCONNECTED: &[(&str, &str)] = &[
         "CONNECT\naccept-version:1.0\n\n\0",
         "ERROR\nmessage:22 Missing host\nversion:1.2\ncontent-length:0\n\n\0\n",
     ),
+    (
+        "CONNECT\naccept-version:1.1,1.2\n\n\0",
+        "ERROR\nmessage:22 Missing host\ncontent-length:0\n\n\0\n",
+    ),
 ];
 
 #[test]

@@ -11,7 +11,7 @@ use broker_locks::{Broker, CommitFault, Side, Subscribed, Worker};
 use broker_server::{BrokerCalls, Conversation, ConversationFault, Exit, ProgramFault};
 use delivery::ConnectionFault;
 use mcast_group::{SubFault, SubState};
-use mcast_txn::{Released, Stamp, Topic};
+use mcast_txn::{Released, Stamp, Topic, Txn};
 use sender_gate::{ClaimFault, Flying, Gate};
 use std::alloc::Global;
 use std::io::{ErrorKind, Write};
@@ -108,7 +108,7 @@ impl<'a, R: Wait, W: Side, T: Side> BrokerCalls for Calls<'a, R, W, T> {
         sub.begun.taker.take(self.rt)
     }
 
-    fn reserve(&mut self, _topics: &[Topic]) -> Option<()> {
+    fn reserve(&mut self, _txn: &Txn) -> Option<()> {
         Some(())
     }
 

@@ -4,7 +4,7 @@ ghost use Rattle.std.specs.Prelude.{◌≡◌, ◌≤◌};
 
 use super::flights::{Quiet, begun};
 use super::jobs::{Job, Opening, with_broker};
-use broker_locks::{Broker, NoRoom, Reserved, Side, Subscribed, Worker};
+use broker_locks::{Broker, NoRoom, PartOctets, Reserved, Side, Subscribed, Worker};
 use mcast_group::{SubState, Turned};
 use mcast_txn::{NoMemory, Sender, Stamp, Topic};
 use sender_gate::Gate;
@@ -13,6 +13,9 @@ use std::mem;
 use std::sync::Wait;
 use std::sync::ledger::Blank;
 use std::test::Fail;
+
+/// How many octets each part has: so few that it asks for one place.
+const SMALL: PartOctets = PartOctets(1);
 
 /// A call. A subscription is named by its place among those that began, from 0; all are at topic 0.
 #[derive(Clone, Copy)]
@@ -107,7 +110,7 @@ fn reserve_all<R: Wait, W: Side, T: Side>(
     numbers: &[u32],
 ) -> Result<(), NoRoom> {
     for &number in numbers {
-        broker.reserve_at(rt, Topic(number), 0, reserved)?;
+        broker.reserve_at(rt, Topic(number), SMALL, 0, reserved)?;
     }
     Ok(())
 }
@@ -146,7 +149,7 @@ fn reserve_from<R: Wait, W: Side, T: Side>(
         Some(reserved) => reserved,
         None => broker.no_room(),
     };
-    let answer = broker.reserve_at(rt, Topic(number), start, &mut reserved);
+    let answer = broker.reserve_at(rt, Topic(number), SMALL, start, &mut reserved);
     given_back(rt, broker, mem::replace(hand, Some(reserved)));
     match answer {
         Ok(()) => Answer::Done,
@@ -262,7 +265,7 @@ fn turned<R: Wait, W: Side, T: Side>(rt: &R, broker: &Broker<R, W, T>) -> Answer
 /// Who lacks room at topic 0: the first three.
 fn lacking<R: Wait, W: Side, T: Side>(rt: &R, alloc: Global, broker: &Broker<R, W, T>) -> Answer {
     let mut list = Vec::new(alloc);
-    match broker.lacking(rt, Topic(0), &mut list) {
+    match broker.lacking(rt, Topic(0), SMALL, &mut list) {
         Ok(()) => Answer::Numbers([
             list.first().copied(),
             list.get(1).copied(),
@@ -303,7 +306,7 @@ fn asked_of_one<R: Wait, W: Side, T: Side>(
             Answer::Is(broker.wait_for(rt, Topic(0), number_of(subs, place)))
         }
         Call::PassOver(place) => {
-            Answer::Is(broker.pass_over(rt, Topic(0), number_of(subs, place)))
+            Answer::Is(broker.pass_over(rt, Topic(0), SMALL, number_of(subs, place)))
         }
         Call::State(place) => { Answer::State(broker.state(rt, Topic(0), number_of(subs, place))) }
         Call::Unsubscribe(place) => done_if(
@@ -588,8 +591,8 @@ fn who_is_passed_over_lags(rt: HostRuntime) -> Result<(), Fail> {
         (Call::Turn, Answer::Turned(2, false)),
         (Call::Reserve(&[0]), full(Some(0))),
         (Call::PassOver(0), Answer::Is(true)),
-        (Call::WaitFor(0), Answer::Is(true)),
-        (Call::PassOver(0), Answer::Is(true)),
+        (Call::WaitFor(0), Answer::Is(false)),
+        (Call::PassOver(0), Answer::Is(false)),
         (Call::Reserve(&[0]), Answer::Done),
         (Call::WaitFor(0), Answer::Is(false)),
         (Call::Enter(&[0]), Answer::Done),
@@ -606,7 +609,7 @@ fn who_is_passed_over_lags(rt: HostRuntime) -> Result<(), Fail> {
     Ok(())
 }
 
-/// One that was passed over and didn't lag is waited for again once what is pending and reserved fits into its queue.
+/// One that was passed over and didn't lag is waited for again once its queue is known to be empty.
 #[test]
 fn who_was_passed_over_is_waited_for_again(rt: HostRuntime) -> Result<(), Fail> {
     let rows = [
@@ -622,8 +625,13 @@ fn who_was_passed_over_is_waited_for_again(rt: HostRuntime) -> Result<(), Fail> 
         (Call::Take(0), Answer::Is(true)),
         (Call::WaitFor(0), Answer::Is(false)),
         (Call::Tell(0), Answer::Done),
+        (Call::WaitFor(0), Answer::Is(false)),
+        (Call::Take(0), Answer::Is(true)),
+        (Call::WaitFor(0), Answer::Is(false)),
+        (Call::Tell(0), Answer::Done),
         (Call::WaitFor(0), Answer::Is(true)),
-        (Call::ReserveMore(&[0]), full(Some(0))),
+        (Call::ReserveMore(&[0]), Answer::Done),
+        (Call::GiveMoreBack, Answer::Done),
         (Call::Enter(&[0]), Answer::Done),
         (Call::Turn, Answer::Turned(1, false)),
         (Call::State(0), Answer::State(Some(SubState::Open))),
@@ -805,7 +813,7 @@ fn tried<R: Wait, W: Side, T: Side>(
     sender: u64,
 ) -> (bool, bool) {
     let mut reserved = broker.no_room();
-    match broker.reserve_at(rt, Topic(0), 0, &mut reserved) {
+    match broker.reserve_at(rt, Topic(0), SMALL, 0, &mut reserved) {
         Ok(()) => {
             let answer = enter_by(rt, alloc, broker, worker, sender, &[0], reserved);
             (answer == Answer::Done, false)

@@ -5,7 +5,7 @@ ghost use Rattle.std.specs.Prelude.{◌≡◌};
 
 use super::flights::{Quiet, begun};
 use super::jobs::{Job, Opening, with_broker};
-use broker_locks::{Broker, NoRoom, Reserved, Side, Subscribed, Worker};
+use broker_locks::{Broker, NoRoom, PartOctets, Reserved, Side, Subscribed, Worker};
 use mcast_group::SubFault;
 use mcast_txn::{NoMemory, Sender, Topic};
 use sender_gate::Gate;
@@ -50,7 +50,7 @@ fn is_reserved_at_last<R: Wait, W: Side, T: Side>(
 ) -> bool {
     let many = reserved.topics().len();
     for _ in 0..3u8 {
-        match broker.reserve_at(rt, topic, 0, reserved) {
+        match broker.reserve_at(rt, topic, PartOctets(1), 0, reserved) {
             Ok(()) => return true,
             Err(NoRoom::NoMemory) if reserved.topics().len() == many => {}
             Err(_) => return false,
@@ -77,7 +77,7 @@ fn reserved_at_last<R: Wait, W: Side, T: Side>(
 /// Whether a reservation at the topic is refused for want of room there; it takes no memory.
 fn is_full<R: Wait, W: Side, T: Side>(rt: &R, broker: &Broker<R, W, T>, topic: Topic) -> bool {
     let mut reserved = broker.no_room();
-    let answer = broker.reserve_at(rt, topic, 0, &mut reserved);
+    let answer = broker.reserve_at(rt, topic, PartOctets(1), 0, &mut reserved);
     broker.release_room(rt, reserved);
     answer == Err(NoRoom::Full { topic, sub: None })
 }
@@ -125,7 +125,9 @@ fn lacking_at_last<R: Wait, W: Side, T: Side>(
 ) -> Option<[Option<u64>; 2]> {
     for _ in 0..3u8 {
         let mut list = Vec::new(alloc);
-        if broker.lacking(rt, Topic(0), &mut list).is_ok() {
+        if broker
+            .lacking(rt, Topic(0), PartOctets(1), &mut list)
+            .is_ok() {
             return Some([list.first().copied(), list.get(1).copied()]);
         }
     }
@@ -170,7 +172,7 @@ fn one_place<R: Wait, W: Side, T: Side>(
     let is_entered = is_entered_at_last(rt, alloc, broker, worker);
     let _turned = broker.head_turned(rt, Topic(0));
     let lacking = lacking_at_last(rt, alloc, broker);
-    let is_passed_over = broker.pass_over(rt, Topic(0), begun.sub);
+    let is_passed_over = broker.pass_over(rt, Topic(0), PartOctets(1), begun.sub);
     let _item = begun.taker.take(rt);
     begun.taker.tell(rt);
     Some(Found {

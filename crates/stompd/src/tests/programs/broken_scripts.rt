@@ -398,7 +398,7 @@ fn pieces_of_spans_may_be_cut(rt: HostRuntime) {
 
 #[test]
 fn pieces_of_frames_may_be_cut(rt: HostRuntime) {
-    assert!(rt; holds(rt.alloc(), Done::Cut, frames(), 0, 8));
+    assert!(rt; holds(rt.alloc(), Done::Cut, frames(), 0, 10));
 }
 
 #[test]
@@ -439,6 +439,11 @@ fn pieces_of_frames_may_be_changed(rt: HostRuntime) {
 #[test]
 fn pieces_of_faults_may_be_changed(rt: HostRuntime) {
     assert!(rt; holds(rt.alloc(), Done::Changed, frames(), 5, 8));
+}
+
+#[test]
+fn pieces_of_parts_may_be_changed(rt: HostRuntime) {
+    assert!(rt; holds(rt.alloc(), Done::Changed, frames(), 8, 10));
 }
 
 #[test]

@@ -93,7 +93,7 @@ impl Peers for LeavingPeers {
 }
 
 /// Whether one line, and no other, begins with this and ends with that.
-fn is_said_once(lines: &[String], front: &str, back: &str) -> bool {
+pub(super) fn is_said_once(lines: &[String], front: &str, back: &str) -> bool {
     let found = lines.iter().filter(|line| line.as_str().starts_with(front)
         && line.as_str().ends_with(back));
     found.count() == 1

@@ -20,6 +20,7 @@ returns-in_default g c =
       exit = held.exit;
       cut = held.cut;
       more = held.more;
+      half = held.half;
       capacity = held.capacity;
       next = held.next;
     } in

@@ -22,6 +22,7 @@ returns-in-Some g c =
       exit = held.exit;
       cut = held.cut;
       more = held.more;
+      half = held.half;
       capacity = held.capacity;
       next = held.next;
     } in

@@ -39,6 +39,7 @@ returns-in-Ok-None-clause-rests g c =
       exit = held.exit;
       cut = held.cut;
       more = held.more;
+      half = held.half;
       capacity = held.capacity;
       next = held.next;
     } in
@@ -68,6 +69,7 @@ returns-then-not-is_idle-clause-rests g c =
       exit = held.exit;
       cut = held.cut;
       more = held.more;
+      half = held.half;
       capacity = held.capacity;
       next = held.next;
     } in
@@ -95,6 +97,7 @@ returns-else-not-is_idle-clause-rests g c =
       exit = held.exit;
       cut = held.cut;
       more = held.more;
+      half = held.half;
       capacity = held.capacity;
       next = held.next;
     } in

@@ -24,6 +24,7 @@ returns-in-Ok-clause-accepted g c =
       exit = held.exit;
       cut = held.cut;
       more = held.more;
+      half = held.half;
       capacity = held.capacity;
       next = held.next;
     } in (
@@ -52,6 +53,7 @@ returns-in-Err-clause-refused g c =
       exit = held.exit;
       cut = held.cut;
       more = held.more;
+      half = held.half;
       capacity = held.capacity;
       next = held.next;
     } in (
@@ -84,6 +86,7 @@ returns-in-Ok-step-clause-accepted g c =
       exit = held.exit;
       cut = held.cut;
       more = held.more;
+      half = held.half;
       capacity = held.capacity;
       next = held.next;
     } in (
@@ -114,6 +117,7 @@ returns-in-Err-step-clause-refused g c =
       exit = held.exit;
       cut = held.cut;
       more = held.more;
+      half = held.half;
       capacity = held.capacity;
       next = held.next;
     } in (

@@ -1,5 +1,4 @@
-use Rattle.std.proofs.Common.{List, [], ◌∷◌, ◌++◌, true, false, refl, subst, ◌∙◌, inl, inr}
-use Rattle.mcast_txn.specs.declared.id.Topic.{Topic}
+use Rattle.std.proofs.Common.{[], ◌∷◌, ◌++◌, true, false, refl, inl, inr}
 use Rattle.mcast_txn.specs.Transaction.{topics_of}
 use Rattle.broker_server.specs.BrokerRows.{AsksRoom}
 use Rattle.broker_server.proofs.ConversationLemmas.{asks_on, asks_one}
@@ -9,8 +8,7 @@ pub returns-in-Some : goal.returns-in-Some
 returns-in-Some g c =
     let called = g.C.BrokerCalls.called in
     let row = AsksRoom (topics_of c.args.txn) true in
-    let topics = c.as_slice.ensures.value ∙ c.topics.ensures.value in
-    let one = subst (λ (ts : List Topic). called c.args.calls.now (AsksRoom ts true) c.reserve.new.self) topics c.in-Some.ensures in
+    let one = c.in-Some.ensures in
     let did = c.commit-done.ensures in
     let told = c.conclude.ensures in (
       (row ∷ did.0) ++ told.0,
@@ -30,6 +28,5 @@ pub returns-in-None : goal.returns-in-None
 returns-in-None g c =
     let called = g.C.BrokerCalls.called in
     let row = AsksRoom (topics_of c.args.txn) false in
-    let topics = c.as_slice.ensures.value ∙ c.topics.ensures.value in
-    let one = subst (λ (ts : List Topic). called c.args.calls.now (AsksRoom ts false) c.reserve.new.self) topics c.in-None.ensures in
+    let one = c.in-None.ensures in
     (row ∷ [], asks_one called c.args.calls.now c.reserve.new.self row one, inr (c.args.txn, refl, refl, c.hold.ensures))

@@ -1,6 +1,7 @@
-use Rattle.std.proofs.Common.{ℕ, List, [], ◌∷◌, ◌++◌, false, Ok, Err, refl, ap, ◌∙◌, inl, inr}
+use Rattle.std.proofs.Common.{ℕ, Bool, List, [], ◌∷◌, ◌++◌, Ok, Err, refl, ap, ◌∙◌, inl, inr}
+use Rattle.stomp_session.specs.Open.{asks_parts}
 use Rattle.broker_server.specs.BrokerRows.{Subscribes}
-use Rattle.broker_server.specs.Conversations.{ConversationState, OpenSubState}
+use Rattle.broker_server.specs.Conversations.{ConversationState, OpenSubState, begun_sub}
 use Rattle.broker_server.proofs.ConversationLemmas.{asks_one}
 use Rattle.broker_server.proofs.conversation.Conversation.subscribe.Goals as goal
 
@@ -18,6 +19,7 @@ returns-then-is_err g c =
       exit = held.exit;
       cut = held.cut;
       more = held.more;
+      half = held.half;
       capacity = held.capacity;
       next = held.next;
     } in
@@ -28,8 +30,9 @@ returns-in-Ok g c =
     let called = g.C.BrokerCalls.called in
     let name = g.C.BrokerCalls.name c.in-Ok.sub in
     let row = Subscribes c.args.topic (Ok name) in
-    let sub : ℕ → OpenSubState = λ capacity. record { id = c.args.id; sub = name; until_lag = capacity; lagged = false } in
+    let sub : Bool → ℕ → OpenSubState = λ parts capacity. begun_sub c.args.id parts name capacity in
     let held = c.self.inside in
+    let parts_is = c.asks_parts-parts.ensures ∙ ap (λ (id : List ℕ). asks_parts id held.session) c.as_slice.ensures in
     let with : List OpenSubState → ConversationState = λ subs. record {
       reader = held.reader;
       session = held.session;
@@ -41,6 +44,7 @@ returns-in-Ok g c =
       exit = held.exit;
       cut = held.cut;
       more = held.more;
+      half = held.half;
       capacity = held.capacity;
       next = held.next;
     } in (
@@ -50,8 +54,9 @@ returns-in-Ok g c =
         name,
         refl,
         refl,
-        ap with (c.push_reserved.ensures.items ∙ ap (λ (subs : List OpenSubState). subs ++ sub held.capacity ∷ []) c.reserve.ensures.items)
-            ∙ ap (λ (s : ConversationState). record s { subs = s.subs ++ sub s.capacity ∷ [] }) c.self.view_is,
+        ap with (c.push_reserved.ensures.items ∙ ap (λ (subs : List OpenSubState). subs ++ sub c.asks_parts-parts.result held.capacity ∷ []) c.reserve.ensures.items)
+            ∙ (ap (λ (parts : Bool). with (held.subs.items ++ sub parts held.capacity ∷ [])) parts_is
+            ∙ ap (λ (s : ConversationState). record s { subs = s.subs ++ sub (asks_parts c.args.id s.session) s.capacity ∷ [] }) c.self.view_is),
       ),
     )
 
@@ -71,6 +76,7 @@ returns-in-Err g c =
       exit = held.exit;
       cut = held.cut;
       more = held.more;
+      half = held.half;
       capacity = held.capacity;
       next = held.next;
     } in (

@@ -1,12 +1,13 @@
-use Rattle.std.proofs.Common.{◌++◌, refl, inl, inr, ap, ◌∙◌, subst}
+use Rattle.std.proofs.Common.{◌++◌, Bool, None, refl, inl, inr, ap, ◌∙◌, subst}
 use Rattle.stomp_frame.specs.declared.client_frame.ClientFrame.{ClientFrame}
 use Rattle.stomp_frame.specs.declared.raw_frame.RawFrame.{RawFrame}
 use Rattle.stomp_frame.specs.ClientFrames.{raw_of}
 use Rattle.stomp_frame.specs.Receipts.{receipt_of}
-use Rattle.broker_server.specs.Conversations.{closing_rows}
+use Rattle.broker_server.specs.ConversationFaults.{tells_version}
+use Rattle.broker_server.specs.Conversations.{EndsSaying, closing_rows}
 use Rattle.broker_server.specs.Hearing.{AcceptsFrame, DeniesFrame}
 use Rattle.broker_server.proofs.ConversationLemmas.{asks_on}
-use Rattle.broker_server.proofs.HearingLemmas.{refused_as, takes_judged}
+use Rattle.broker_server.proofs.HearingLemmas.{refused_as, takes_judged, tells_alike}
 use Rattle.broker_server.proofs.conversation.Conversation.take_frame.Goals as goal
 
 pub returns-in-Ok-judge : goal.returns-in-Ok-judge
@@ -44,5 +45,12 @@ returns-in-Err-judge g c =
       judged.0 ++ rest,
       asks_on called c.args.calls.now c.judge.new.calls new.calls judged.0 rest judged.1 c.fail-in-Err-judge.ensures.rows,
       takes_judged f old (judged.0 ++ rest) new.self c.in-Ok.ensures.accepted.1
-          (judged.0, rest, refl, between, inr (e.fault, denies, (refl, refused_as f (raw_of came) same _ asks e.fault between new.self c.fail-in-Err-judge.ensures.fails))),
+          (judged.0, rest, refl, between, inr (e.fault, denies, (refl, refused_as f (raw_of came) same _ asks (tells_version None e.fault) e.fault (tells_alike f e.fault old.session denies.known denies.refused) between new.self c.fail-in-Err-judge.ensures.fails))),
     )
+
+pub returns-in-Err : goal.returns-in-Err
+returns-in-Err g c =
+    let old = c.args.self.now in
+    let why = c.from-fault.result in
+    let new = c.fail_saying.new in
+    (closing_rows old, c.fail_saying.ensures.rows, c.fail_saying.ensures.fails)

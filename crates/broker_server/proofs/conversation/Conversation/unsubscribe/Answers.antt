@@ -50,6 +50,7 @@ returns g c =
       exit = held.exit;
       cut = held.cut;
       more = held.more;
+      half = held.half;
       capacity = held.capacity;
       next = next;
     } in (

@@ -9,4 +9,4 @@ returns c =
     let is : IsDelivered c.args.self.now (report_in c.self.inside.state) =
     subst (λ (net : KeptRun). IsDelivered net (report_in c.self.inside.state)) c.self.view_is
     (is_delivered _ c.self.inside.state refl c.self.invariant.run) in
-    record { delivered = is.delivered; written = is.written; answered = is.answered }
+    record { kept = is.kept; read = is.read; delivered = is.delivered; written = is.written; answered = is.answered }

@@ -1,6 +1,7 @@
 use Rattle.std.proofs.Common.{◌≡◌, ◌+◌, ◌<◌, true, false, sym, take, set, length, length-set, subst, ap, ◌∙◌, arith, List, Bool}
 use Rattle.stomp_frame.specs.Headers.{Header}
 use Rattle.stomp_frame.specs.Inner.NameKinds.{kind, HaveKinds}
+use Rattle.stomp_frame.specs.Inner.Withheld.{withheld_by}
 use Rattle.stomp_frame.proofs.OfAKind.{kinds_more}
 use Rattle.stomp_frame.proofs.Names.{has, seen}
 use Rattle.stomp_frame.proofs.Written.{taken}
@@ -11,6 +12,7 @@ use Rattle.stomp_frame.proofs.writing.server_writer.put_first_entries.Goals.{the
 pub loop-i-preserved : goal.loop-i-preserved
 loop-i-preserved c =
     let sent = c.args.sent.now in
+    let kept = withheld_by c.args.parts in
     let i = c.loop-i.i in
     let name = c.pair.result.0.now in
     let h : Header = (name, c.pair.result.1.now) in
@@ -21,16 +23,16 @@ loop-i-preserved c =
     let sized : length c.add.new.self.among ≡ 128 = ap length c.add.ensures ∙ length-set among (kind name) true ∙ c.loop-i.invariant.sized in
     elim c.if-not-is_dropped.branch [
       | then-not-is_dropped+in_ok-put_header w ↦
-          let absent : has (seen (take i sent)) name ≡ false = sym c.is_dropped.ensures ∙ grind arith in
+          let absent : has (seen kept (take i sent)) name ≡ false = sym c.is_dropped.ensures ∙ grind arith in
           rw w.out-is record {
-            written = goes_on c.args.out.now c.loop-i.out _ (line_of name c.pair.result.1.now) _ w.in_ok-put_header.ensures.ok (due sent (i + 1)) (due sent i) (due_put sent i h c.pair.ensures.value absent) c.loop-i.invariant.written;
+            written = goes_on c.args.out.now c.loop-i.out _ (line_of name c.pair.result.1.now) _ w.in_ok-put_header.ensures.ok (due kept sent (i + 1)) (due kept sent i) (due_put kept sent i h c.pair.ensures.value absent) c.loop-i.invariant.written;
             grown = longer _ _ _ c.loop-i.invariant.grown (appended c.loop-i.out _ (line_of name c.pair.result.1.now) w.in_ok-put_header.ensures.ok);
             sized = sized;
             kinds = kinds;
           }
       | else-not-is_dropped w ↦
-          let found : has (seen (take i sent)) name ≡ true = sym c.is_dropped.ensures ∙ grind arith in
-          rw (w.out-is, sym (due_passed sent i h c.pair.ensures.value found)) record {
+          let found : has (seen kept (take i sent)) name ≡ true = sym c.is_dropped.ensures ∙ grind arith in
+          rw (w.out-is, sym (due_passed kept sent i h c.pair.ensures.value found)) record {
             written = c.loop-i.invariant.written;
             grown = c.loop-i.invariant.grown;
             sized = sized;

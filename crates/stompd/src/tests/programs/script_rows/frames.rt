@@ -12,6 +12,8 @@ const FRAMES: &[&Row] = &[
     CONNECTION_FAULTS,
     MESSAGE_HEADERS,
     READER_FAULTS,
+    PARTS,
+    MISSING_HOST,
 ];
 
 pub(crate) fn frames() -> &'static [&'static Row] {
@@ -334,6 +336,113 @@ out 4 ERROR\nmessage:5 BadText\ncontent-length:0\n\n\0
 out 5 ERROR\nmessage:6 BadLength\ncontent-length:0\n\n\0
 out 6 ERROR\nmessage:7 BadEnd\ncontent-length:0\n\n\0
 out 7
+",
+    trace: br"",
+    answer: br"complete
+",
+};
+
+const PARTS: &Row = &Row {
+    script: br"# SENDs that alternate: each MESSAGE of a and b says which of those at its topic it is; c didn't ask, and has the SEND's own header.
+topic A 0
+topic B 0
+open
+piece 0 CONNECT\naccept-version:1.2\nhost:h\n\n\0
+next 0
+piece 0 SUBSCRIBE\nid:a\ndestination:A\npart:yes\n\n\0SUBSCRIBE\nid:b\ndestination:B\npart:yes\n\n\0SUBSCRIBE\nid:c\ndestination:A\n\n\0
+next 0
+next 0
+next 0
+piece 0 BEGIN\ntransaction:x\n\n\0SEND\ndestination:A\ntransaction:x\npart:9\n\nm0\0SEND\ndestination:B\ntransaction:x\n\nm1\0SEND\ndestination:A\ntransaction:x\n\nm2\0SEND\ndestination:B\ntransaction:x\nk:v\n\nm3\0COMMIT\ntransaction:x\n\n\0
+next 0
+next 0
+next 0
+next 0
+next 0
+next 0
+propose 0 0
+propose 0 1
+decide 0
+turn 0
+turn 1
+take 0
+take 1
+take 2
+",
+    output: br"conn 0
+fed
+done
+fed
+sub 0 from 0.0
+sub 1 from 0.0
+sub 2 from 0.0
+fed
+done
+done
+done
+done
+done
+flight 0 1
+ticket 1
+ticket 1
+stamp 1.1
+turned 1
+turned 1
+handed 2
+handed 2
+handed 2
+commit 0 1 1.1 0,1
+log 0 0 1 1.1 0,1
+log 1 0 1 1.1 0,1
+span 0 0 0.0 -
+queue 0 0 1 1.1
+handed 0 0 1 1.1
+span 1 1 0.0 -
+queue 1 0 1 1.1
+handed 1 0 1 1.1
+span 2 0 0.0 -
+queue 2 0 1 1.1
+handed 2 0 1 1.1
+out 0 CONNECTED\nversion:1.2\nheart-beat:0,0\n\n\0MESSAGE\nsubscription:a\nmessage-id:1.1.0\ndestination:A\ncontent-length:2\npart:1/2\n\nm0\0MESSAGE\nsubscription:a\nmessage-id:1.1.2\ndestination:A\ncontent-length:2\npart:2/2\n\nm2\0MESSAGE\nsubscription:b\nmessage-id:1.1.1\ndestination:B\ncontent-length:2\npart:1/2\n\nm1\0MESSAGE\nsubscription:b\nmessage-id:1.1.3\ndestination:B\ncontent-length:2\npart:2/2\nk:v\n\nm3\0MESSAGE\nsubscription:c\nmessage-id:1.1.0\ndestination:A\ncontent-length:2\npart:9\n\nm0\0MESSAGE\nsubscription:c\nmessage-id:1.1.2\ndestination:A\ncontent-length:2\n\nm2\0
+",
+    trace: br"log 0 0 1 1.1 0,1
+log 1 0 1 1.1 0,1
+span 0 0 0.0 -
+queue 0 0 1 1.1
+span 1 1 0.0 -
+queue 1 0 1 1.1
+span 2 0 0.0 -
+queue 2 0 1 1.1
+",
+    answer: br"agreed 0 1 1.1 0,1
+complete
+",
+};
+
+const MISSING_HOST: &Row = &Row {
+    script: br"# CONNECTs without a host: the ERROR says our version, but to who offers it.
+open
+piece 0 CONNECT\naccept-version:1.1,1.2\n\n\0
+next 0
+open
+piece 1 CONNECT\naccept-version:1.1\n\n\0
+next 1
+open
+piece 2 CONNECT\n\n\0
+next 2
+",
+    output: br"conn 0
+fed
+error 22 Missing host
+conn 1
+fed
+error 22 Missing host
+conn 2
+fed
+error 22 Missing accept-version
+out 0 ERROR\nmessage:22 Missing host\ncontent-length:0\n\n\0
+out 1 ERROR\nmessage:22 Missing host\nversion:1.2\ncontent-length:0\n\n\0
+out 2 ERROR\nmessage:22 Missing accept-version\nversion:1.2\ncontent-length:0\n\n\0
 ",
     trace: br"",
     answer: br"complete

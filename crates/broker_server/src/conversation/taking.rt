@@ -1,0 +1,191 @@
+//! Taking what is there of the queues of a connection's subscriptions.
+
+ghost use Rattle.std.specs.Prelude.{◌≡◌, ◌≤◌, List, Some, IfErr, OnOk};
+ghost use Rattle.broker_server.specs.BrokerRows.{AsksInOrder, BrokerRow};
+ghost use Rattle.broker_server.specs.Conversations.{unwritten};
+ghost use Rattle.broker_server.specs.Delivering.{BreaksOff, Drains, DrainsAll, DrainsOn, DrainsQueues, TellsLag, WritesAll, begins_at, has_item};
+
+use crate::conversation::broker_calls::BrokerCalls;
+use crate::conversation::conversation_fault::ConversationFault;
+use crate::conversation::drained::{Drained, Taking};
+use crate::conversation::item_rest::ItemRest;
+use crate::conversation::open_sub::OpenSub;
+use crate::wire::Wire;
+use mcast_txn::Topic;
+
+/// So many calls are made of one queue before another is taken, at most (our choice). An item writes an octet or
+/// more, so the wire is full before.
+const MOST_CALLS: usize = 65_536;
+
+/// At which of so many queues it begins: at the one that is next, or at the first where none has its index.
+fn begins_at(next: usize, count: usize) -> usize
+    ensures at { result ≡ begins_at next count }
+    ensures there { result ≤ count }
+{
+    if next < count { next } else { 0 }
+}
+
+/// Takes what is there of each queue, from the next one to the last, and then from the first to that one; and which
+/// is next later.
+pub(crate) fn drain_queues<C: BrokerCalls>(
+    calls: &mut C,
+    queues: &mut [OpenSub<C>],
+    next: usize,
+    wire: &mut Wire,
+    capacity: u64,
+    waits: bool,
+) -> (Drained, usize)
+    ensures { (asked : List BrokerRow) × AsksInOrder C.called calls.old asked calls.new
+        × DrainsQueues waits capacity next asked queues.old wire.old result.0.end queues.new wire.new result.1
+        × (result.0.any ≡ has_item asked) }
+{
+    let count = queues.len();
+    let first = begins_at(next, count);
+    let (front, back) = queues.split_at_mut(first);
+    let (drained, left) = drain_all(calls, back, wire, capacity, waits);
+    let Taking::Emptied = drained.end else {
+        let behind = count.saturating_sub(left);
+        return (drained, behind);
+    };
+    let (others, left) = drain_all(calls, front, wire, capacity, waits);
+    let later = first.saturating_sub(left);
+    let any = drained.any || others.any;
+    let end = others.end;
+    (Drained { any, end }, later)
+}
+
+/// Takes what is there of these queues, one after the other, up to the first that isn't emptied; and how many are left
+/// from there on: that one, too, where an item of it is half out. A connection has 64 of them at most.
+fn drain_all<C: BrokerCalls>(
+    calls: &mut C,
+    queues: &mut [OpenSub<C>],
+    wire: &mut Wire,
+    capacity: u64,
+    waits: bool,
+) -> (Drained, usize)
+    ensures { (asked : List BrokerRow) × AsksInOrder C.called calls.old asked calls.new
+        × DrainsAll waits capacity asked queues.old wire.old result.0.end queues.new wire.new result.1
+        × (result.0.any ≡ has_item asked) }
+{
+    let mut any = false;
+    let mut left = queues.len();
+    for queue in queues.iter_mut() {
+        let drained = drain_queue(calls, queue, wire, capacity, waits);
+        any = any || drained.any;
+        let end = drained.end;
+        match end {
+            Taking::Emptied => left = left.saturating_sub(1),
+            Taking::Halfway => return (Drained { any, end }, left),
+            _ => return (Drained { any, end }, left.saturating_sub(1)),
+        }
+    }
+    let end = Taking::Emptied;
+    (Drained { any, end }, left)
+}
+
+/// Writes what is left of the queue's item, if something is, and then takes what is there of the queue.
+fn drain_queue<C: BrokerCalls>(
+    calls: &mut C,
+    queue: &mut OpenSub<C>,
+    wire: &mut Wire,
+    capacity: u64,
+    waits: bool,
+) -> Drained
+    ensures { (asked : List BrokerRow) × AsksInOrder C.called calls.old asked calls.new
+        × DrainsOn waits capacity asked queue.old wire.old result.end queue.new wire.new
+        × (result.any ≡ has_item asked) }
+{
+    let Some(rest) = queue.rest.take() else {
+        return take_items(calls, queue, wire, capacity, waits);
+    };
+    match put_rest(queue, rest, wire, waits) {
+        Ok(()) => take_items(calls, queue, wire, capacity, waits),
+        Err(end) => Drained { any: false, end },
+    }
+}
+
+/// Takes what is there of a subscription's queue and writes it, while few octets wait. Where as many items were taken
+/// as a queue holds, the broker is asked whether it has lagged; then what is left is taken, and that is the fault.
+fn take_items<C: BrokerCalls>(
+    calls: &mut C,
+    queue: &mut OpenSub<C>,
+    wire: &mut Wire,
+    capacity: u64,
+    waits: bool,
+) -> Drained
+    ensures { (asked : List BrokerRow) × AsksInOrder C.called calls.old asked calls.new
+        × Drains waits capacity 0 asked queue.old wire.old result.end queue.new wire.new
+        × (result.any ≡ has_item asked) }
+{
+    let mut any = false;
+    for _call in 0..MOST_CALLS {
+        if !wire.may_take() {
+            break;
+        }
+        match calls.take(&mut queue.sub) {
+            Some(item) => {
+                any = true;
+                queue.run = queue.run.saturating_add(1);
+                queue.until_lag = queue.until_lag.saturating_sub(1);
+                if let Err(end) = put_rest(queue, ItemRest { item, next: 0 }, wire, waits) {
+                    return Drained { any, end };
+                }
+            }
+            None if queue.lagged => {
+                let end = end_of_lag(queue.topic, queue.run, waits);
+                return Drained { any, end };
+            }
+            None if queue.until_lag == 0 && calls.has_lagged(&queue.sub) => {
+                queue.lagged = true;
+            }
+            None => {
+                queue.run = 0;
+                queue.until_lag = capacity;
+                let end = Taking::Emptied;
+                return Drained { any, end };
+            }
+        }
+    }
+    let end = Taking::Stopped;
+    Drained { any, end }
+}
+
+/// Writes the rest of an item, MESSAGE by MESSAGE, while few octets wait; or all of it while a transaction waits for
+/// room, which would have to wait for it, and others behind that. Refused by how it ended where some aren't written:
+/// those are left with the queue, or there was no memory for the next.
+#[inline(always)]
+fn put_rest<C: BrokerCalls>(
+    queue: &mut OpenSub<C>,
+    rest: ItemRest,
+    wire: &mut Wire,
+    waits: bool,
+) -> Result<(), Taking>
+    ensures whole { OnOk result (WritesAll waits (unwritten queue.old.parts queue.old.id (Some rest)) wire.old wire.new
+        × (queue.new ≡ queue.old)) }
+    ensures breaks_off { IfErr result (λ end.
+        BreaksOff waits (unwritten queue.old.parts queue.old.id (Some rest)) queue.old wire.old end queue.new wire.new) }
+{
+    let ItemRest { item, next } = rest;
+    for at in next..item.part.sends.len() {
+        if !waits && !wire.may_take() {
+            queue.rest = Some(ItemRest { item, next: at });
+            return Err(Taking::Halfway);
+        }
+        let done = wire.put_message(queue.id.as_slice(), queue.parts, &item, at);
+        if done.is_err() {
+            return Err(Taking::Failed(ConversationFault::NoReply));
+        }
+    }
+    Ok(())
+}
+
+/// What a queue at this topic comes to that has lagged, once it is empty and so many items were taken: a fault, but
+/// while a transaction waits for room nothing yet.
+fn end_of_lag(topic: Topic, items: u64, waits: bool) -> Taking
+    ensures { TellsLag waits result }
+{
+    if waits {
+        return Taking::Emptied;
+    }
+    Taking::Failed(ConversationFault::Lagged { topic, items })
+}

@@ -1,0 +1,98 @@
+-- The ERROR of a frame that its session accepted doesn't say the version.
+use Rattle.std.proofs.Common.{◌≡◌, ℕ, Bool, true, false, List, [], ◌∷◌, ◌++◌, Option, Some, None, refl, sym, ap, subst, ◌∙◌, ◌||◌}
+use Rattle.std.specs.List.{list_any}
+use Rattle.std.specs.Option.{option_map, option_map_or, option_or, option_to_list}
+use Rattle.std.proofs.lemmas.Bool.{true≢false, or_parts}
+use Rattle.mcast_txn.specs.Checks.{first_refusal}
+use Rattle.mcast_txn.proofs.Members.{any_from}
+use Rattle.stomp_frame.specs.declared.raw_frame.RawFrame.{RawFrame}
+use Rattle.stomp_frame.specs.Cases.{case_fault}
+use Rattle.stomp_session.specs.declared.action.Action.{Action}
+use Rattle.stomp_session.specs.declared.action.Action.TheVariants as actions
+use Rattle.stomp_session.specs.Answers.{action_by}
+use Rattle.stomp_session.specs.Refusals.{session_fault}
+use Rattle.delivery.specs.declared.connection_fault.ConnectionFault.{ConnectionFault}
+use Rattle.delivery.specs.declared.outcome.Outcome.{Outcome}
+use Rattle.delivery.specs.declared.refusal.Refusal.{Refusal}
+use Rattle.delivery.specs.Machine.Objections.{Objection, refusal_of}
+use Rattle.delivery.specs.Machine.World.{is_in_use}
+use Rattle.delivery.specs.Machine.Moves.{Answer, Move, answer_to}
+use Rattle.delivery.specs.Core.Claims.{claims_of, claimed_sender, is_one_too_many}
+use Rattle.delivery.specs.Core.Output.{says_version}
+use Rattle.delivery.specs.Core.State.{Core, core_for, frame_move, session_at}
+use Rattle.delivery.specs.Core.Outcomes.{accepted_outcomes, claim_fault, fault_outcomes, frame_fault, frame_no_memory, frame_outcome, move_outcome, outcome_of, outcomes_without, wants_memory}
+use Rattle.delivery.specs.Inner.Nexts.{MayEnd}
+use Rattle.delivery.proofs.Views.Events.NextFaults.{asked_objection, fault_of_frame}
+
+-- the outcome is an ERROR of this frame, which says the version
+abbrev tells : RawFrame → Outcome → Bool
+tells f (Outcome.Faulted fault cut) = says_version (Some f) fault
+tells f o = false
+
+-- none of these does
+abbrev NoneTells : RawFrame → List Outcome → Type 0
+NoneTells f os = list_any (tells f) os ≡ false
+
+both_untold : (f : RawFrame) (os more : List Outcome) → NoneTells f os → NoneTells f more → NoneTells f (os ++ more)
+both_untold f [] more h later = later
+both_untold f (o ∷ os) more h later =
+    let parts = or_parts (tells f o) (list_any (tells f) os) h in
+    ap (λ (b : Bool). b || list_any (tells f) (os ++ more)) parts.0 ∙ both_untold f os more parts.1 later
+
+refused_untold : (f : RawFrame) (why : Option Refusal) → NoneTells f (option_to_list (option_map Outcome.Refused why))
+refused_untold f None = refl
+refused_untold f (Some why) = refl
+
+answer_untold : (f : RawFrame) (a : Answer) → NoneTells f (option_to_list (outcome_of a))
+answer_untold f (Answer.Refused why) = refused_untold f (refusal_of why)
+answer_untold f _ = refl
+
+accepted_untold : (k : Core) (c : ℕ) (f : RawFrame) → NoneTells f (accepted_outcomes k c f)
+accepted_untold k c f =
+    both_untold f (frame_outcome k c f) (outcomes_without (wants_memory k c f) frame_no_memory)
+    (by_move (frame_move k c (action_by f.command (session_at k c) f))) (by_memory (wants_memory k c f))
+  where
+    by_move : (move : Option Move) → NoneTells f (option_map_or (move_outcome (core_for k f)) move (Outcome.Done ∷ []))
+    by_move None = refl
+    by_move (Some move) = answer_untold f (answer_to (core_for k f).world move)
+
+    by_memory : (wanted : Bool) → NoneTells f (outcomes_without wanted frame_no_memory)
+    by_memory true = refl
+    by_memory false = refl
+
+-- with this fault, or without one, none of what may come of it does
+abbrev Untold : Core → ℕ → RawFrame → Option ConnectionFault → Type 0
+Untold k c f fault = NoneTells f (option_map_or fault_outcomes fault (accepted_outcomes k c f))
+
+claim_untold : (k : Core) (c : ℕ) (f : RawFrame) (action : Action) (rest : Option ConnectionFault) → Untold k c f rest
+    → Untold k c f (option_or (claim_fault k action) rest)
+claim_untold k c f (actions.Connected client) rest h =
+    let before = claims_of k.steps in
+    by (option_map_or (is_in_use k.world) (claimed_sender client before) false) (is_one_too_many client before)
+  where
+    by : (in_use many : Bool)
+        → Untold k c f (option_or (first_refusal ((in_use, ConnectionFault.SenderInUse) ∷ (many, ConnectionFault.TooManyClients) ∷ [])) rest)
+    by true many = refl
+    by false true = refl
+    by false false = h
+claim_untold k c f _ rest h = h
+
+objection_untold : (k : Core) (c : ℕ) (f : RawFrame) (why : Option Objection) → Untold k c f (option_map (λ w. frame_no_memory) why)
+objection_untold k c f None = accepted_untold k c f
+objection_untold k c f (Some why) = refl
+
+-- so no ERROR that ends it does
+pub untold : (k : Core) (c : ℕ) (f : RawFrame) (fault : ConnectionFault) → case_fault f ≡ None → session_fault (session_at k c) f ≡ None → MayEnd k c f fault
+    → says_version (Some f) fault ≡ false
+untold k c f fault cased free may = by (says_version (Some f) fault) refl
+  where
+    none : Untold k c f (frame_fault k c f)
+    none =
+        let rest = option_map (λ (why : Objection). frame_no_memory) (asked_objection k c f) in
+        subst (Untold k c f) (sym (fault_of_frame k c f cased free))
+        (claim_untold k c f (action_by f.command (session_at k c) f) rest (objection_untold k c f (asked_objection k c f)))
+
+    by : (b : Bool) → says_version (Some f) fault ≡ b → b ≡ false
+    by true is =
+        absurd (true≢false (sym (any_from (tells f) (Outcome.Faulted fault false) (option_map_or fault_outcomes (frame_fault k c f) (accepted_outcomes k c f)) (may false) is) ∙ none))
+    by false is = refl
