@@ -278,7 +278,6 @@ impl<R: Wait, T: Side> LockedTopic<R, T> {
         octets: PartOctets,
         start: u64,
     ) -> Result<(), Option<u64>>
-        requires { 0 < capacity }
         ensures heard { HasHeard self.old.place self.new.place }
         ensures answer { result ≡ reserve_answer capacity octets.0 start self.old.room self.new.place.cells.group }
         ensures ok { OnOk result (self.new.room ≡ one_reserved self.old.room) }
@@ -319,7 +318,6 @@ impl<R: Wait, T: Side> LockedTopic<R, T> {
         octets: PartOctets,
         list: &mut Vec<u64>,
     ) -> Result<(), NoMemory>
-        requires { 0 < capacity }
         ensures heard { HasHeard self.old.place self.new.place }
         ensures ok { OnOk result (list.new.items
             ≡ list.old.items ++ lacking_room capacity octets.0 self.new.place.cells.group self.old.room) }
@@ -340,7 +338,6 @@ impl<R: Wait, T: Side> LockedTopic<R, T> {
         octets: PartOctets,
         number: u64,
     ) -> bool
-        requires { 0 < capacity }
         ensures heard { HasHeard self.old.place self.new.place }
         ensures answer { result ≡ list_any (λ n. n == number)
             (lacking_room capacity octets.0 self.new.place.cells.group self.old.room) }

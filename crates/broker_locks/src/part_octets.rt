@@ -1,6 +1,6 @@
 //! How many octets a part has.
 
-ghost use Rattle.std.specs.Prelude.{◌≡◌, ◌≤◌, ◌<◌};
+ghost use Rattle.std.specs.Prelude.{◌≡◌, ◌≤◌};
 ghost use Rattle.broker_locks.specs.PartOctets.{places_for};
 
 /// By so many octets a queue's parts are bounded (our choice): the k-th of them has at most so many divided by k, but the
@@ -15,10 +15,8 @@ impl PartOctets {
     /// How many places have to be free in a queue of this capacity for it to come: its own, and so many beside it that no
     /// more parts are before it than so many octets allow.
     pub(crate) fn places(self, capacity: usize) -> u64
-        requires { 0 < capacity }
         ensures places { result ≡ places_for capacity self.0 }
         ensures some { 1 ≤ result }
-        ensures all { result ≤ capacity }
     {
         let all = capacity as u64;
         if self.0.saturating_mul(all) <= MOST_OCTETS {

@@ -72,7 +72,6 @@ impl Room {
 
     /// How many places have to be free in a queue of this capacity for one part more, of so many octets.
     fn wanted<R: Wait>(&self, capacity: usize, octets: PartOctets, place: &Place<R>) -> u128
-        requires { 0 < capacity }
         ensures { result ≡ wanted capacity octets.0 self.now place.now.cells.group }
     {
         self.due(place) + u128::from(octets.places(capacity))
@@ -91,8 +90,7 @@ impl Room {
         place: &mut Place<R>,
         spare: &mut u64,
     ) -> Result<(), Option<u64>>
-        requires capacity { 0 < capacity }
-        requires spare { HaveSpare spare.old self.old place.old.cells.group }
+        requires { HaveSpare spare.old self.old place.old.cells.group }
         ensures heard { HasHeard place.old place.new }
         ensures answer { result ≡ reserve_answer capacity octets.0 start self.old place.new.cells.group }
         ensures ok { OnOk result (self.new ≡ one_reserved self.old) }
@@ -252,7 +250,6 @@ impl Room {
         place: &mut Place<R>,
         list: &mut Vec<u64>,
     ) -> Result<(), NoMemory>
-        requires { 0 < capacity }
         ensures heard { HasHeard place.old place.new }
         ensures ok { OnOk result
             (list.new.items ≡ list.old.items ++ lacking_room capacity octets.0 place.new.cells.group self.now) }
@@ -276,7 +273,6 @@ impl Room {
         number: u64,
         place: &mut Place<R>,
     ) -> bool
-        requires { 0 < capacity }
         ensures heard { HasHeard place.old place.new }
         ensures answer { result ≡ list_any (λ n. n == number) (lacking_room capacity octets.0 place.new.cells.group self.old) }
         ensures yes { result ≡ true → self.new ≡ waiting_without number self.old }
