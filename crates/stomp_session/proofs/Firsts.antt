@@ -1,17 +1,21 @@
 -- The first name in a list that passes a test, and what a map of fingerprints knows of it.
-use Rattle.std.proofs.Common.{◌≡◌, ◌+◌, ◌-◌, ◌<◌, ◌≤◌, ℕ, Bool, true, false, cond, not, List, [], ◌∷◌, ◌++◌, Option, Some, None, length, take, min, refl, sym, ap, ◌∙◌, arith, slice_get, get_or, position, nat_eq, nat_lt}
+use Rattle.std.proofs.Common.{◌≡◌, ◌+◌, ◌-◌, ◌<◌, ◌≤◌, ℕ, Bool, true, false, cond, not, List, [], ◌∷◌, ◌++◌, Option, Some, None, length, take, min, refl, sym, ap, ◌∙◌, arith, slice_get, get_or, position, nat_eq, nat_lt, eqb}
 use Rattle.std.proofs.lemmas.Bool.{false≢true, true≢false}
-use Rattle.std.proofs.lemmas.List.{get_or-take, length-take}
+use Rattle.std.proofs.lemmas.List.{get_or-take, length-append, length-map, length-take}
 use Rattle.std.proofs.lemmas.List.Folds.{position_or_len_push}
 use Rattle.std.proofs.lemmas.List.Sums.{fails_before_first, passes_at_first, position_or_len_is}
 use Rattle.std.proofs.lemmas.Option.{get_or_from_slice_get}
 use Rattle.std.proofs.lemmas.Slice.Eq.{bytes_eq-Decides}
+use Rattle.std.specs.Arc.{arc_value}
+use Rattle.std.specs.Cmp.Lexicographic.{nat_list_eq_equiv}
 use Rattle.std.specs.List.{list_any, position_or_len}
+use Rattle.std.specs.declared.alloc.Global.{Global}
+use Rattle.std.specs.declared.sync.Arc.{Arc}
 use Rattle.std.specs.Map.{lookup}
 use Rattle.std.specs.Option.{option_or}
 use Rattle.std.specs.Str.{bytes_eq}
 use Rattle.stomp_session.specs.Names.{index_of, is_known}
-use Rattle.stomp_session.specs.Inner.Stored.{FindsFirsts, fingerprint}
+use Rattle.stomp_session.specs.Inner.Stored.{FindsFirsts, fingerprint, names_of}
 
 -- ---- where the first is
 
@@ -31,7 +35,13 @@ any_is_first p (x ∷ xs) = grind (arith, any_is_first p xs)
 -- one more item
 pub position-push : (p : List ℕ → Bool) (xs : List (List ℕ)) (y : List ℕ)
     → position p (xs ++ y ∷ []) ≡ option_or (position p xs) (cond (p y) (Some (length xs)) None)
-position-push p xs y = grind (arith, position_or_len_push p xs y, first_within p xs)
+position-push p xs y =
+    ap (λ (n : ℕ). cond (nat_lt (first p (xs ++ y ∷ [])) n) (Some (first p (xs ++ y ∷ []))) None) (length-append xs (y ∷ []))
+    ∙ by (first p xs) (length xs) (first p (xs ++ y ∷ [])) (p y) (first_within p xs) (position_or_len_push p xs y)
+  where
+    by : (n len m : ℕ) (b : Bool) → n ≤ len → m ≡ cond (eqb n len) (len + cond b 0 1) n
+        → cond (nat_lt m (len + 1)) (Some m) None ≡ option_or (cond (nat_lt n len) (Some n) None) (cond b (Some len) None)
+    by n len m b within is = grind (arith, within, is)
 
 -- the first of those that stand in front
 pub first_in_front : (p : List ℕ → Bool) (xs : List (List ℕ)) (count : ℕ) → first p (take count xs) ≡ min count (first p xs)
@@ -143,3 +153,24 @@ index_in_front name names count at found within =
     let p = bytes_eq name in
     let is : first p names ≡ at = grind (arith, found, first_within p names) in
     first_in_front p names count ∙ omega (arith, is, within)
+
+-- a walk over the names that are shared
+pub position-names_of : (text : List ℕ) (names : List (Arc (List ℕ) Global)) → position (λ name. bytes_eq (arc_value name) text) names ≡ position (bytes_eq text) (names_of names)
+position-names_of text names = grind (arith, first-names_of text names, length-map names (λ (name : Arc (List ℕ) Global). arc_value name))
+  where
+    first-names_of : (text : List ℕ) (names : List (Arc (List ℕ) Global)) → position_or_len (λ name. bytes_eq (arc_value name) text) names ≡ position_or_len (bytes_eq text) (names_of names)
+    first-names_of text [] = refl
+    first-names_of text (name ∷ names) = grind (arith, nat_list_eq_equiv.symm text (arc_value name), first-names_of text names)
+
+-- one more of them
+pub names_of-push : (names : List (Arc (List ℕ) Global)) (name : Arc (List ℕ) Global) → names_of (names ++ name ∷ []) ≡ names_of names ++ arc_value name ∷ []
+names_of-push [] name = refl
+names_of-push (one ∷ names) name = ap (λ (more : List (List ℕ)). arc_value one ∷ more) (names_of-push names name)
+
+-- how many they are
+pub length-names_of : (names : List (Arc (List ℕ) Global)) → length (names_of names) ≡ length names
+length-names_of names = length-map names (λ (name : Arc (List ℕ) Global). arc_value name)
+
+-- the name at an index
+pub name_at : (names : List (Arc (List ℕ) Global)) (at : ℕ) (name : Arc (List ℕ) Global) → slice_get names at ≡ Some name → slice_get (names_of names) at ≡ Some (arc_value name)
+name_at names at name is = search

@@ -12,8 +12,8 @@ use stomp_frame::NoMemory;
 #[derive(Drop)]
 pub(crate) struct Name {
     octets: Vec<u8>,
-    /// The fingerprint of its octets.
-    fingerprint: u64,
+    /// Their fingerprint.
+    mark: u64,
 }
 
 impl Model for Name {
@@ -24,7 +24,7 @@ impl Model for Name {
 
     ghost view = { λ n. n.octets.items };
 
-    ghost invariant = { λ n. n.fingerprint ≡ fingerprint n.octets.items };
+    ghost invariant = { λ n. n.mark ≡ fingerprint n.octets.items };
 }
 
 impl Name {
@@ -33,11 +33,8 @@ impl Name {
         ensures { IfOk result (λ name. name ≡ text.now) }
     {
         let octets = Vec::from_slice(alloc, text)?;
-        let fingerprint = fingerprint(text);
-        Ok(Name {
-            octets,
-            fingerprint,
-        })
+        let mark = fingerprint(text);
+        Ok(Name { octets, mark })
     }
 
     /// Its octets.
@@ -51,7 +48,7 @@ impl Name {
     pub(crate) fn fingerprint(&self) -> u64
         ensures { result ≡ fingerprint self.now }
     {
-        self.fingerprint
+        self.mark
     }
 }
 

@@ -79,7 +79,7 @@ impl NameSet {
         let at = self.names.len();
         self.names.reserve(1)?;
         note_first(&mut self.firsts, name.fingerprint(), at)?;
-        let _ = self.names.push(name);
+        self.names.push_reserved(name);
         Ok(())
     }
 

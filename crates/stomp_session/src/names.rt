@@ -1,9 +1,10 @@
 //! The names of the topics.
 
-ghost use Rattle.std.specs.Prelude.{◌≡◌, ◌↔◌, ◌-◌, ◌<◌, ◌≤◌, ◌^◌, [], ◌∷◌, ◌++◌, true, false, not, IsTrue, length, take, is_some, slice_get, Some, None, IfSome, IfOk, IfErr, OnOk, OnErr};
+ghost use Rattle.std.specs.Prelude.{◌≡◌, ◌↔◌, ◌-◌, ◌<◌, ◌≤◌, ◌^◌, [], ◌∷◌, ◌++◌, true, false, not, IsTrue, length, take, is_some, position, slice_get, Some, None, IfSome, IfOk, IfErr, OnOk, OnErr};
 ghost use Rattle.std.specs.Arc.{arc_value};
 ghost use Rattle.std.specs.List.{list_all};
 ghost use Rattle.std.specs.Option.{option_map};
+ghost use Rattle.std.specs.Str.{bytes_eq};
 ghost use Rattle.stomp_session.specs.Names.{index_of, is_graphic, is_known, is_name, max_topics, with_name};
 ghost use Rattle.stomp_session.specs.Inner.Effects.{destination_fault};
 ghost use Rattle.stomp_session.specs.Inner.Stored.{names_in};
@@ -176,8 +177,7 @@ impl Names {
         ensures known { is_some result ≡ is_known name.now self.now }
         ensures index { IfSome result (λ topic. topic.0 ≡ index_of name.now self.now) }
     {
-        let shared = self.shared.as_ref()?;
-        let index = shared.find(name)?;
+        let index = index_in(&self.shared, name)?;
         if index < self.count {
             Some(Topic(index as u32))
         } else {
@@ -206,6 +206,16 @@ fn is_same_at(here: &Names, there: &Names, topic: Topic) -> bool
         (Some(one), Some(other)) => one == other,
         (None, None) => true,
         _ => false,
+    }
+}
+
+/// The index of the first of these names that is this one.
+fn index_in(shared: &Option<Arc<NameSet>>, name: &[u8]) -> Option<usize>
+    ensures { result ≡ position (bytes_eq name.now) (names_in shared.now) }
+{
+    match shared {
+        Some(set) => set.find(name),
+        None => None,
     }
 }
 

@@ -29,7 +29,7 @@ both_of entries = record {
 }
 
 -- the number by which these octets are searched for
-pub fingerprint : List ℕ → ℕ
+unfoldable pub fingerprint : List ℕ → ℕ
 fingerprint text = finish (write initial text)
 
 -- the names, which are shared
