@@ -59,9 +59,9 @@ held_asks names frames f opens going =
 
 -- so does a session that stands for it and isn't closed
 pub asks_as_wanted : AsksAsWanted
-asks_as_wanted s names frames f stands e open =
+asks_as_wanted s names frames f stands e unclosed =
     ap (asks_parts (id_of f)) stands.holds ∙ held_asks names frames f (ap is_subscribe e) (going (is_ended (frames ++ f ∷ [])) refl)
   where
     going : (b : Bool) → is_ended (frames ++ f ∷ []) ≡ b → is_ended (frames ++ f ∷ []) ≡ false
-    going true ended = absurd (open (ap (λ z. z.phase) stands.holds ∙ ap (λ b. if b then Closed else (if is_connected (frames ++ f ∷ []) then Connected else New)) ended))
+    going true ended = absurd (unclosed (ap (λ z. z.phase) stands.holds ∙ ap (λ b. if b then Closed else (if is_connected (frames ++ f ∷ []) then Connected else New)) ended))
     going false live = live
