@@ -1,5 +1,5 @@
 -- The first name in a list that passes a test, and what a map of fingerprints knows of it.
-use Rattle.std.proofs.Common.{◌≡◌, ◌+◌, ◌-◌, ◌<◌, ◌≤◌, ℕ, Bool, true, false, cond, not, List, [], ◌∷◌, ◌++◌, Option, Some, None, length, take, min, refl, sym, ap, ◌∙◌, arith, slice_get, get_or, position, nat_eq, nat_lt, eqb}
+use Rattle.std.proofs.Common.{◌≡◌, ◌+◌, ◌-◌, ◌<◌, ◌≤◌, ℕ, zero, suc, Bool, true, false, cond, not, List, [], ◌∷◌, ◌++◌, Option, Some, None, length, take, min, refl, sym, ap, ◌∙◌, arith, slice_get, get_or, position, nat_eq, nat_lt, eqb}
 use Rattle.std.proofs.lemmas.Bool.{false≢true, true≢false}
 use Rattle.std.proofs.lemmas.List.{get_or-take, length-append, length-map, length-take}
 use Rattle.std.proofs.lemmas.List.Folds.{position_or_len_push}
@@ -12,7 +12,7 @@ use Rattle.std.specs.List.{list_any, position_or_len}
 use Rattle.std.specs.declared.alloc.Global.{Global}
 use Rattle.std.specs.declared.sync.Arc.{Arc}
 use Rattle.std.specs.Map.{lookup}
-use Rattle.std.specs.Option.{option_or}
+use Rattle.std.specs.Option.{option_map, option_or}
 use Rattle.std.specs.Str.{bytes_eq}
 use Rattle.stomp_session.specs.Names.{index_of, is_known}
 use Rattle.stomp_session.specs.Inner.Stored.{FindsFirsts, fingerprint, names_of}
@@ -173,4 +173,9 @@ length-names_of names = length-map names (λ (name : Arc (List ℕ) Global). arc
 
 -- the name at an index
 pub name_at : (names : List (Arc (List ℕ) Global)) (at : ℕ) (name : Arc (List ℕ) Global) → slice_get names at ≡ Some name → slice_get (names_of names) at ≡ Some (arc_value name)
-name_at names at name is = search
+name_at names at name is = slice_get-map names at ∙ ap (option_map arc_value) is
+  where
+    slice_get-map : (names : List (Arc (List ℕ) Global)) (at : ℕ) → slice_get (names_of names) at ≡ option_map arc_value (slice_get names at)
+    slice_get-map [] at = refl
+    slice_get-map (one ∷ names) zero = refl
+    slice_get-map (one ∷ names) (suc at) = slice_get-map names at

@@ -76,7 +76,7 @@ impl NameSet {
         ensures ok { OnOk result (self.new ≡ self.old ++ arc_value name ∷ []) }
         ensures err { OnErr result (self.new ≡ self.old) }
     {
-        let at = self.names.len();
+        let at = self.len();
         self.names.reserve(1)?;
         note_first(&mut self.firsts, name.fingerprint(), at)?;
         self.names.push_reserved(name);

@@ -3,14 +3,14 @@ use Rattle.std.specs.Arc.{arc_value}
 use Rattle.std.specs.declared.alloc.Global.{Global}
 use Rattle.std.specs.declared.sync.Arc.{Arc}
 use Rattle.stomp_session.specs.Inner.Stored.{fingerprint, names_of}
-use Rattle.stomp_session.proofs.Firsts.{finds_one_more, length-names_of, names_of-push}
+use Rattle.stomp_session.proofs.Firsts.{finds_one_more, names_of-push}
 use Rattle.stomp_session.proofs.name_set.NameSet.add.Goals as goal
 
 pub invariant_of-self-2 : goal.invariant_of-self-2
 invariant_of-self-2 c f =
     let items = c.self.inside.names.items in
     let name = arc_value c.args.name in
-    let at : c.len-at.result ≡ length (names_of items) = c.len-at.ensures ∙ sym (length-names_of items) in
+    let at : c.len-at.result ≡ length (names_of items) = c.len-at.ensures ∙ ap (λ (xs : List (List ℕ)). length xs) (sym c.self.view_is) in
     let mark : c.fingerprint.result ≡ fingerprint name = c.fingerprint.ensures ∙ ap fingerprint c.deref.ensures in
     let all : names_of c.push_reserved.new.self.items ≡ names_of items ++ name ∷ [] =
         ap names_of (c.push_reserved.ensures.items ∙ ap (λ (xs : List (Arc (List ℕ) Global)). xs ++ c.args.name ∷ []) c.reserve.ensures.items)

@@ -1,6 +1,6 @@
 use Rattle.std.proofs.Common.{◌≡◌, ◌∙◌, ◌<◌, ◌≤◌, ℕ, List, [], Option, ap, length, get_or, slice_get, refl, sym, arith}
-use Rattle.std.specs.Option.{unwrap_or}
 use Rattle.std.proofs.lemmas.List.{length-take, take_more_same}
+use Rattle.std.proofs.lemmas.Option.{get_or_from_slice_get, slice_get-get_or}
 use Rattle.stomp_session.specs.Inner.Stored.{names_in}
 use Rattle.stomp_session.proofs.names.Names.is_front_of.Goals as goal
 
@@ -14,4 +14,5 @@ loop-index-preserved c =
     let here : at < length these = omega (arith, many, c.loop-index-test.true) in
     let there : at < length all = omega (arith, more, c.loop-index-test.true, c.if-self-all.false) in
     let same : slice_get these at ≡ slice_get all at = c.if-not-is_same_at.ensures.0 search in
-    take_more_same all these at [] there here c.loop-index.invariant ?
+    take_more_same all these at [] there here c.loop-index.invariant
+    (get_or_from_slice_get all at (get_or these at []) [] (sym same ∙ slice_get-get_or these at [] here))
