@@ -418,18 +418,18 @@ inline sub_end(sub) {
 inline talk_close(c) {
   leaving[c] = true;
   do
-  :: d_step { e < TOPICS -> more[c] = false; n = 0; x = 0; EACH_OF(c, e, n++; x = s) };
+  :: d_step { e < TOPICS -> more[c] = false; n = 0; u = 0; EACH_OF(c, e, n++; u = s); u = (n == 1 -> Sub(u) : Any) };
      if
      :: n > 0 ->
 #ifdef M_RINGS_BEFORE_END
-        line_ring(e, (n == 1 -> Sub(x) : Any));
+        line_ring(e, u);
 #endif
         d_step { !seats[e] -> EACH_OF(c, e, seated[s] = false) };
         d_step { !topic[e] -> EACH_OF(c, e, open_[s] = false; waited[s] = false) };
 #if !defined(M_RINGS_BEFORE_END) && !defined(M_END_SILENT)
-        line_ring(e, (n == 1 -> Sub(x) : Any));
+        line_ring(e, u);
 #endif
-        d_step { EACH_OF(c, e, has[s] = false); n = 0; x = 0 }
+        d_step { EACH_OF(c, e, has[s] = false); n = 0; u = 0 }
      :: n == 0
      fi;
      e++
@@ -437,7 +437,7 @@ inline talk_close(c) {
   od;
   e = 0
 }
-/* conversation.rt drain_queue, of each queue in turn, calls.rt take */
+/* taking.rt drain_queue, of each queue in turn, calls.rt take */
 inline talk_drain(c, waits) {
   do
   :: d_step { s < SUBS ->
@@ -735,9 +735,9 @@ inline give_places_back(c) {
     u = 0; w = 0
 
 /* A connection: its thread. */
-proctype Connection(byte c) {
+proctype Connection(byte c; byte asks) {
   SCRATCH;
-  byte made, want, commits, owes, why, last, found, asks = ASKS(c);
+  byte made, want, commits, owes, why, last, found;
   bool busy, may, stands_in, again, late, bare, tries, lacks;
   if
   :: SENDS(c) -> desk[c] = TAKES(c)
@@ -1310,7 +1310,7 @@ init {
       reads[i] = (STOPS == 0);
 #endif
       if :: reads[i] -> skip :: else -> wire[i] = WIRE; blocked[i] = true fi;
-      run Connection(i);
+      run Connection(i, ASKS(i));
 #if STOPS > 0 || FRAMES > 0 || defined(NEVER)
       if :: TAKES(i) -> run Client(i) :: else fi
 #endif
