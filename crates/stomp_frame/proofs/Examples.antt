@@ -1,6 +1,7 @@
 -- Worked examples: a stream of two frames, rests that are open, one rest at each fault, and the case table's answers.
 -- Each is a witness of its definition, whose comment names it.
 use Rattle.std.proofs.Common.{◌≡◌, ℕ, true, false, List, [], ◌∷◌, ◌++◌, codes, Some, None, refl, arith}
+use Rattle.std.specs.Fmt.{digits}
 use Rattle.std.specs.List.{list_all}
 use Rattle.std.specs.Str.{is_utf8}
 use Rattle.std.proofs.lemmas.Bool.{false_from_ne_true}
@@ -170,10 +171,12 @@ pub second_of_three :
           ∷ [];
       body = codes "hi";
     }
+unfolding digits
 second_of_three = refl
 
 -- without parts it has no such header, and the SEND's own is passed on
 pub without_parts :
     (message_frame (codes "s") (message_id 7 0 4) ((codes "destination", codes "A") ∷ (codes "part", codes "1/1") ∷ (codes "k", codes "v") ∷ []) (codes "hi")).headers
     ≡ (codes "subscription", codes "s") ∷ (codes "message-id", codes "7.0.4") ∷ (codes "destination", codes "A") ∷ (codes "content-length", codes "2") ∷ (codes "part", codes "1/1") ∷ (codes "k", codes "v") ∷ []
+unfolding digits
 without_parts = refl

@@ -37,9 +37,9 @@ position-push p xs y = grind (arith, position_or_len_push p xs y, first_within p
 pub first_in_front : (p : List ℕ → Bool) (xs : List (List ℕ)) (count : ℕ) → first p (take count xs) ≡ min count (first p xs)
 first_in_front p xs count =
     position_or_len_is p (take count xs) (min count (first p xs)) []
-        (omega (arith, first_within p xs, length-take count xs))
-        (λ k below. ap p (get_or-take count xs k [] (omega (arith, below))) ∙ fails_before_first p xs k [] (omega (arith, below)))
-        (λ within. by within)
+    (omega (arith, first_within p xs, length-take count xs))
+    (λ k below. ap p (get_or-take count xs k [] (omega (arith, below))) ∙ fails_before_first p xs k [] (omega (arith, below)))
+    (λ within. by within)
   where
     by : min count (first p xs) < length (take count xs) → p (get_or (take count xs) (min count (first p xs)) []) ≡ true
     by within =
@@ -62,14 +62,14 @@ module _ (p q : List ℕ → Bool) (wider : (x : List ℕ) → p x ≡ true → 
   none_is_first : (xs : List (List ℕ)) → first q xs ≡ length xs → first p xs ≡ length xs
   none_is_first xs none =
       position_or_len_is p xs (length xs) [] (omega arith)
-          (λ k below. fails_too (get_or xs k []) (fails_before_first q xs k [] (omega (arith, below, none))))
-          (λ over. absurd (omega (arith, over)))
+      (λ k below. fails_too (get_or xs k []) (fails_before_first q xs k [] (omega (arith, below, none))))
+      (λ over. absurd (omega (arith, over)))
 
   is_first_too : (xs : List (List ℕ)) → first q xs < length xs → p (get_or xs (first q xs) []) ≡ true → first p xs ≡ first q xs
   is_first_too xs there passes =
       position_or_len_is p xs (first q xs) [] (omega (arith, there))
-          (λ k below. fails_too (get_or xs k []) (fails_before_first q xs k [] below))
-          (λ within. passes)
+      (λ k below. fails_too (get_or xs k []) (fails_before_first q xs k [] below))
+      (λ within. passes)
 
 -- ---- what is found by a fingerprint
 
@@ -104,7 +104,7 @@ first_found text entries names at name finds found is same =
     let where_it_is : first q names ≡ at = grind (arith, there, first_within q names) in
     let within : first q names < length names = grind (arith, there, first_within q names) in
     let passes : p (get_or names (first q names) []) ≡ true =
-        ap (λ (k : ℕ). p (get_or names k [])) where_it_is ∙ ap p (get_or_from_slice_get names at name [] is) ∙ same in
+    ap (λ (k : ℕ). p (get_or names k [])) where_it_is ∙ ap p (get_or_from_slice_get names at name [] is) ∙ same in
     let one : first p names ≡ first q names = is_first_too p q (same_mark text) names within passes in
     grind (arith, one, where_it_is, within)
 

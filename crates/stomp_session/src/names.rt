@@ -268,11 +268,7 @@ fn is_added_alone(
 }
 
 /// A list of the first `count` of these names.
-fn first_of(
-    alloc: Global,
-    shared: &Option<Arc<NameSet>>,
-    count: usize,
-) -> Result<NameSet, NoMemory>
+fn first_of(alloc: Global, shared: &Option<Arc<NameSet>>, count: usize) -> Result<NameSet, NoMemory>
     requires { count ≤ length (names_in shared.now) }
     ensures { IfOk result (λ set. set ≡ take count (names_in shared.now)) }
 {

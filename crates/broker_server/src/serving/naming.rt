@@ -12,9 +12,8 @@ use mcast_txn::NoMemory;
 use stomp_frame::ClientFrame;
 use stomp_session::{Names, Session, Step, is_name};
 
-/// The names of all topics, shared, as a connection knows them from now on that knows the first of them. No topic is lost
-/// while the server runs, so those that it knows are always the first; were they not, it would go on without a word of
-/// a wrong topic: as where there is no memory.
+/// The names of all topics, which a connection shares that knows the first of them. That it does is looked at, though no
+/// topic is lost while the server runs: were it otherwise, it would be as where there is no memory.
 fn caught_up(names: &Names, all: &Names) -> Result<Names, NoMemory>
     ensures known { IfOk result (λ known. known ≡ all.now) }
     ensures grows { OnOk result (Grows names.now all.now) }

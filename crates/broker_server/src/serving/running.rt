@@ -59,7 +59,7 @@ impl<R: Wait, W: Side, T: Side> Running<R, W, T> {
             × IsFrameRefused (raw_of frame) e.1 session.old known) }
         ensures back { IfErr result.0 (λ e. e.0 ≡ frame) }
     {
-        let Ok(known) = self.names.lock(rt).share() else {
+        let Ok(known) = self.all_names(rt) else {
             return (Err((frame, ConversationFault::NoMemory)), false);
         };
         if !may_make(&known, &frame) {
@@ -69,6 +69,11 @@ impl<R: Wait, W: Side, T: Side> Running<R, W, T> {
         let mut all = self.names.lock(rt);
         let all = &mut *all;
         step_by_all(all, session, frame, names)
+    }
+
+    /// The names of all topics, shared.
+    fn all_names(&self, rt: &R) -> Result<Names, NoMemory> {
+        self.names.lock(rt).share()
     }
 
     /// How many topics have a name.

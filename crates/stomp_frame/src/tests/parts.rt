@@ -100,7 +100,8 @@ fn each_is_read_back(rt: HostRuntime) {
     for row in ROWS {
         assert!(rt;
             is_read_and_written(rt.alloc(), Command::Message, row.3) == Some(true),
-            "{:?}", row.0
+            "{:?}",
+            row.0
         );
     }
 }

@@ -56,7 +56,12 @@ pub(crate) fn put_before(n: u64, after: u8, line: &mut [u8; 80], end: usize) -> 
 
 /// Writes a name so that it ends at this index, and appends the line from there on.
 #[inline(always)]
-pub(crate) fn put_named(name: &[u8], line: &mut [u8; 80], end: usize, out: &mut Octets) -> Result<(), NoMemory>
+pub(crate) fn put_named(
+    name: &[u8],
+    line: &mut [u8; 80],
+    end: usize,
+    out: &mut Octets,
+) -> Result<(), NoMemory>
     requires least { length name.now ≤ end }
     requires within { end ≤ 80 }
     ensures ok { OnOk result (out.new ≡ out.old ++ (name.now ++ drop end line.old)) }
@@ -68,7 +73,12 @@ pub(crate) fn put_named(name: &[u8], line: &mut [u8; 80], end: usize, out: &mut 
 }
 
 /// Appends a message's id. Its line is made from its end, so that each number is written once.
-pub(crate) fn put_message_id(n: u64, topic: u32, index: u32, out: &mut Octets) -> Result<(), NoMemory>
+pub(crate) fn put_message_id(
+    n: u64,
+    topic: u32,
+    index: u32,
+    out: &mut Octets,
+) -> Result<(), NoMemory>
     ensures ok { OnOk result (out.new
         ≡ out.old ++ (header_line true (codes "message-id", message_id n topic index) ++ 10 ∷ [])) }
     ensures err { OnErr result (Extends out.old out.new) }

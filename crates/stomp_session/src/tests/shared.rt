@@ -93,10 +93,12 @@ fn names_of_one_hash_are_told_apart(rt: HostRuntime) -> Result<(), Fail> {
 fn are_front_of_one_more(names: &mut Names, count: usize) -> Result<bool, NoMemory> {
     let before = names.share()?;
     add_name(names, b"one more")?;
-    Ok(names.len() == count
-        && is_only_front(&before, names)
-        && before.find(b"one more").is_none()
-        && names.find(b"one more").is_some())
+    Ok(
+        names.len() == count
+            && is_only_front(&before, names)
+            && before.find(b"one more").is_none()
+            && names.find(b"one more").is_some(),
+    )
 }
 
 #[test]
