@@ -263,7 +263,7 @@ inline talk_close(c, why) {
   }
   e = 0
 }
-/* conversation.rt drain_queue, of each queue in turn: takes until none is there, asks for a lag where it took as many as
+/* taking.rt drain_queue, of each queue in turn: takes until none is there, asks for a lag where it took as many as
    the queue holds, and stops where the wire is full */
 inline talk_drain(c, any) {
   do

@@ -205,16 +205,16 @@ bool served;                     /* the first sender's were entered */
 #define DUE(t) (pending[t] + reserved[t])
 #endif
 #define USED(sub) (queue[sub] + untold[sub] + told[sub])
-#define FITS(sub, count) (USED(sub) + DUE(TOPIC(sub)) + (count) <= CAPACITY)
-#define IS_FULL(t, count) (DUE(t) + (count) > CAPACITY)
-#define LACKS(sub, c) (waited[sub] && !IS_FULL(TOPIC(sub), ASKS(c)) && !FITS(sub, ASKS(c)))
-#define IN_WAY(sub, t, c) (sub < SUBS && TOPIC(sub) == (t) && waited[sub] && !FITS(sub, ASKS(c)))
+#define FITS(sub, count) (USED(sub) + DUE(TOPIC(sub)) + count <= CAPACITY)
+#define IS_FULL(t, count) (DUE(t) + count > CAPACITY)
+#define LACKS(sub, count) (waited[sub] && !IS_FULL(TOPIC(sub), count) && !FITS(sub, count))
+#define IN_WAY(sub, t, count) (sub < SUBS && TOPIC(sub) == (t) && waited[sub] && !FITS(sub, count))
 #if SUBS == 1
-#define HAS_ROOM(t, c) (!IS_FULL(t, ASKS(c)) && !IN_WAY(0, t, c))
+#define HAS_ROOM(t, count) (!IS_FULL(t, count) && !IN_WAY(0, t, count))
 #elif SUBS == 2
-#define HAS_ROOM(t, c) (!IS_FULL(t, ASKS(c)) && !IN_WAY(0, t, c) && !IN_WAY(1, t, c))
+#define HAS_ROOM(t, count) (!IS_FULL(t, count) && !IN_WAY(0, t, count) && !IN_WAY(1, t, count))
 #else
-#define HAS_ROOM(t, c) (!IS_FULL(t, ASKS(c)))
+#define HAS_ROOM(t, count) (!IS_FULL(t, count))
 #endif
 #define HEAR(sub) if :: telling[sub] -> skip :: else -> told[sub] = 0 fi
 
@@ -306,13 +306,18 @@ inline reserve_at(at, c, from) {
   d_step { !topic[at] ->
     why = 0;
     if
-    :: IS_FULL(at, ASKS(c)) -> why = Due
+    :: IS_FULL(at, asks) -> why = Due
     :: else ->
        u = OF(from);
        do
        :: e < SUBS ->
           if
-          :: TOPIC(u) == at && waited[u] -> HEAR(u); if :: !FITS(u, ASKS(c)) -> why = Sub(u); break :: else fi
+          :: TOPIC(u) == at && waited[u] ->
+             HEAR(u);
+             if
+             :: USED(u) + DUE(at) + asks > CAPACITY -> why = Sub(u); break
+             :: else
+             fi
           :: else
           fi;
           u = (u + 1) % NUMBER; e++
@@ -413,18 +418,18 @@ inline sub_end(sub) {
 inline talk_close(c) {
   leaving[c] = true;
   do
-  :: d_step { e < TOPICS -> more[c] = false; n = 0; x = 0; EACH_OF(c, e, n++; x = s) };
+  :: d_step { e < TOPICS -> more[c] = false; n = 0; u = 0; EACH_OF(c, e, n++; u = s); u = (n == 1 -> Sub(u) : Any) };
      if
      :: n > 0 ->
 #ifdef M_RINGS_BEFORE_END
-        line_ring(e, (n == 1 -> Sub(x) : Any));
+        line_ring(e, u);
 #endif
         d_step { !seats[e] -> EACH_OF(c, e, seated[s] = false) };
         d_step { !topic[e] -> EACH_OF(c, e, open_[s] = false; waited[s] = false) };
 #if !defined(M_RINGS_BEFORE_END) && !defined(M_END_SILENT)
-        line_ring(e, (n == 1 -> Sub(x) : Any));
+        line_ring(e, u);
 #endif
-        d_step { EACH_OF(c, e, has[s] = false); n = 0; x = 0 }
+        d_step { EACH_OF(c, e, has[s] = false); n = 0; u = 0 }
      :: n == 0
      fi;
      e++
@@ -432,7 +437,7 @@ inline talk_close(c) {
   od;
   e = 0
 }
-/* conversation.rt drain_queue, of each queue in turn, calls.rt take */
+/* taking.rt drain_queue, of each queue in turn, calls.rt take */
 inline talk_drain(c, waits) {
   do
   :: d_step { s < SUBS ->
@@ -631,7 +636,7 @@ inline turn_owed(may_tell) {
 inline look_at_whom(at, c) {
 #if PASSES > 0
   do
-  :: d_step { passes < PASSES && x < SUBS && TOPIC(x) == at && !topic[at] && !reads[TAKER(x)] && LACKS(x, c) ->
+  :: d_step { passes < PASSES && x < SUBS && TOPIC(x) == at && !topic[at] && !reads[TAKER(x)] && LACKS(x, asks) ->
        passes++;
 #ifdef M_PASSED_FIRST
        passed_over[x] = true
@@ -639,7 +644,7 @@ inline look_at_whom(at, c) {
      d_step { !topic[at] ->
 #endif
        HEAR(x);
-       if :: LACKS(x, c) -> waited[x] = false; done = true :: else fi };
+       if :: LACKS(x, asks) -> waited[x] = false; done = true :: else fi };
      if
      :: done ->
 #ifndef M_PASSED_FIRST
@@ -676,7 +681,7 @@ inline look_at_whom(at, c) {
   fi } u = 0
 #define SETTLE for (u : 0 .. TOPICS - 1) { if :: want & BIT(u) -> undecided[u]-- :: else fi } u = 0; want = 0
 #define MAY_BE_PASSED(sub) (sub < SUBS && stands[c] == 1 + TOPIC(sub) && line[TOPIC(sub)] ? [eval(c)] && \
-  LACKS(sub, c) && !reads[TAKER(sub)])
+  LACKS(sub, asks) && !reads[TAKER(sub)])
 /* waiting.rt gives_up: leaves its line, and gives all back */
 inline cancel(c) {
   if
@@ -730,7 +735,7 @@ inline give_places_back(c) {
     u = 0; w = 0
 
 /* A connection: its thread. */
-proctype Connection(byte c) {
+proctype Connection(byte c; byte asks) {
   SCRATCH;
   byte made, want, commits, owes, why, last, found;
   bool busy, may, stands_in, again, late, bare, tries, lacks;
@@ -1264,11 +1269,11 @@ proctype Monitor() {
     }
     assert(reserved[t] == rooms && keepers[t] == places);
     assert((mark[t] == Nobody) == (len(line[t]) == 0));
-    if :: len(line[t]) > 0 -> line[t] ? <first> :: else fi;
+    if :: len(line[t]) > 0 -> line[t] ? <first>; first = ASKS(first) :: else -> first = 1 fi;
     assert(len(line[t]) == 0 || !HAS_ROOM(t, first));
     assert(len(second[t]) == 0 || keepers[t] >= PLACES);
     /* Where all that is there was taken, only room that is kept may be waited for, and that is not more than half. */
-    assert(len(line[t]) == 0 || !READ(0, t) || !READ(1, t) || MOST + ASKS(first) > CAPACITY)
+    assert(len(line[t]) == 0 || !READ(0, t) || !READ(1, t) || MOST + first > CAPACITY)
   }
   for (i : 0 .. SUBS - 1) {
     if
@@ -1305,7 +1310,7 @@ init {
       reads[i] = (STOPS == 0);
 #endif
       if :: reads[i] -> skip :: else -> wire[i] = WIRE; blocked[i] = true fi;
-      run Connection(i);
+      run Connection(i, ASKS(i));
 #if STOPS > 0 || FRAMES > 0 || defined(NEVER)
       if :: TAKES(i) -> run Client(i) :: else fi
 #endif
