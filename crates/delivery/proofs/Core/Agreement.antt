@@ -15,7 +15,8 @@ use Rattle.delivery.specs.Core.Steps.{shows_reading}
 use Rattle.delivery.specs.Core.Account.{account_of, released_log}
 use Rattle.delivery.specs.Core.State.{Core}
 use Rattle.delivery.specs.Core.Reports.{report_of, span_of, log_in, each_number}
-use Rattle.delivery.specs.Core.Answered.{begun_in, reported_begun}
+use Rattle.delivery.specs.Core.Answered.{begun_in}
+use Rattle.delivery.specs.Core.Delivery.{reported_begun}
 use Rattle.delivery.proofs.Core.Acts.{Act, machine_account, played, topic}
 
 -- ---- plain numbers of each

@@ -2,7 +2,6 @@
 use Rattle.std.proofs.Common.{◌≡◌, ℕ, ◌+◌, ◌≤◌, true, false, List, [], ◌∷◌, ◌++◌, map, length, Some, refl, sym, ap, subst, ◌∙◌}
 use Rattle.std.proofs.lemmas.Bool.{true≢false}
 use Rattle.std.specs.Prelude.{take, slice_get}
-use Rattle.std.specs.List.{enumerate_from}
 use Rattle.mcast_txn.specs.declared.id.Topic.{Topic}
 use Rattle.mcast_txn.specs.declared.stamp.Stamp.{Stamp}
 use Rattle.mcast_txn.specs.Stamp.{zero_stamp, stamp_lt}
@@ -17,7 +16,7 @@ use Rattle.delivery.specs.Theorem.Settled.{SilentAfterClose}
 use Rattle.delivery.specs.Core.Account.{released_log, released_frontier}
 use Rattle.delivery.specs.Core.Reports.{QueueReport, Report, log_in, span_of}
 use Rattle.delivery.specs.Core.Told.{Told, committed, frontier_of, handed_count}
-use Rattle.delivery.specs.Core.Answered.{reported_begun, LagsAsAnswered, IsAsAnswered, DeliversAnswers}
+use Rattle.delivery.specs.Core.Answered.{LagsAsAnswered, IsAsAnswered, DeliversAnswers}
 use Rattle.delivery.specs.Core.Delivery.{EndsByLag, IsAsTold, Delivers}
 use Rattle.delivery.proofs.Core.Moments.{at_moment, from_moments, always_one, always_told}
 use Rattle.delivery.proofs.Core.Tells.{tells, tell, committed_told, log_told, frontier_told, handed_told, begun_told, tell_append}
@@ -113,11 +112,6 @@ queue_told capacity s account r q log asked h = record {
 
 -- ---- all of it
 
--- subscriptions with their numbers
-begun_reported : (i : ℕ) (qs : List QueueReport) → enumerate_from {X = Topic × Stamp} i (map (λ (q : QueueReport). (q.topic, q.from)) qs) ≡ reported_begun i qs
-begun_reported i [] = refl
-begun_reported i (q ∷ qs) = ap (λ (z : List (ℕ × Topic × Stamp)). (i, q.topic, q.from) ∷ z) (begun_reported (i + 1) qs)
-
 -- What is delivered by the answers is delivered by what they tell.
 pub delivered_told : (capacity : ℕ) (account : List Answer) (r : Report)
     → ((s : ℕ) (q : QueueReport) → slice_get r.subscriptions s ≡ Some q → q.cause ≡ Some Asked → EndsAt q.topic s account)
@@ -127,7 +121,7 @@ delivered_told capacity account r asked silent d = record {
   each_once = subst (λ (z : List CommitRow). EachOnce committed_id stamp_of (agreed z)) (sym (committed_told account)) d.each_once;
   fifo_order = subst (λ (z : List CommitRow). SenderOrder committed_id (agreed z)) (sym (committed_told account)) d.fifo_order;
   logs = λ t. d.logs t ∙ sym (log_told t account);
-  begins = begun_reported 0 r.subscriptions ∙ (d.begins ∙ sym (begun_told account));
+  begins = d.begins ∙ sym (begun_told account);
   queues = λ s q e. queue_told capacity s account r q (d.logs q.topic) (asked s q e) (d.queues s q e);
   total_order = d.total_order;
   validity = λ t row settled i named. d.validity t row (settled_from t account settled)

@@ -23,9 +23,9 @@ use Rattle.delivery.specs.Core.State.{Core, core_of}
 use Rattle.delivery.specs.Theorem.Settled.{SilentAfterClose}
 use Rattle.delivery.specs.Core.Outcomes.{IsCoreRun}
 use Rattle.delivery.specs.Core.Reports.{QueueReport, Report, report_of, queue_report, each_number, log_in}
-use Rattle.delivery.specs.Core.Delivery.{Delivers}
+use Rattle.delivery.specs.Core.Delivery.{reported_begun, Delivers}
 use Rattle.delivery.specs.Core.Told.{Told, told_of}
-use Rattle.delivery.specs.Core.Answered.{reported_begun, IsAsAnswered, DeliversAnswers}
+use Rattle.delivery.specs.Core.Answered.{IsAsAnswered, DeliversAnswers}
 use Rattle.delivery.proofs.Theorem.AcceptedIsDue.{reached, accepted_is_due, shared_in_one_order, agreed_once, agreed_in_sender_order}
 use Rattle.delivery.proofs.Theorem.LogIsOfAnswers.{log_is_of_outcomes}
 use Rattle.delivery.proofs.Theorem.SettledLeavesNoneOut.{settled_in_log}

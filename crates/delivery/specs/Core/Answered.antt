@@ -23,7 +23,7 @@ use Rattle.delivery.specs.Core.Account.{released_log, released_frontier, beginni
 use Rattle.delivery.specs.Core.State.{core_of}
 use Rattle.delivery.specs.Core.Outcomes.{IsCoreRun}
 use Rattle.delivery.specs.Core.Reports.{QueueReport, Report, report_of, log_in, span_of}
-use Rattle.delivery.specs.Core.Delivery.{last_queued}
+use Rattle.delivery.specs.Core.Delivery.{reported_begun, last_queued}
 
 -- ---- where spans begin and end
 
@@ -32,11 +32,6 @@ abbrev pub begun_in : List Answer → List (ℕ × Topic × Stamp)
 begun_in [] = []
 begun_in (Answer.Subscribed s c t from ∷ before) = begun_in before ++ (s, t, released_frontier t before) ∷ []
 begun_in (o ∷ before) = begun_in before
-
--- the same of a report, where the first has number i
-abbrev pub reported_begun : ℕ → List QueueReport → List (ℕ × Topic × Stamp)
-reported_begun i [] = []
-reported_begun i (q ∷ qs) = (i, q.topic, q.from) ∷ reported_begun (i + 1) qs
 
 -- The span of subscription s ended by lag: a row came to its topic's log for which its queue had no room. So
 -- where the queue holds 2 and rows 1, 2 and 3 come before a Take, it ends at row 2's stamp.

@@ -1,7 +1,6 @@
 -- What the core is to deliver: the statement over the steps of a run and its report alone, and that each run
 -- of the core's definitions meets it. It mentions no clock, no floor and no pending part.
 use Rattle.std.specs.Prelude.{◌≡◌, ℕ, ◌+◌, ◌<◌, ◌≤◌, true, false, List, [], ◌∷◌, ◌++◌, map, length, reverse, take, slice_get, Some, None}
-use Rattle.std.specs.List.{enumerate_from}
 use Rattle.mcast_txn.specs.declared.id.Topic.{Topic}
 use Rattle.mcast_txn.specs.declared.stamp.Stamp.{Stamp}
 use Rattle.mcast_txn.specs.Stamp.{stamp_lt}
@@ -30,6 +29,11 @@ abbrev pub begun_in : List Told → List (ℕ × Topic × Stamp)
 begun_in [] = []
 begun_in (Told.Subscribed s c t ∷ before) = begun_in before ++ (s, t, frontier_of t before) ∷ []
 begun_in (o ∷ before) = begun_in before
+
+-- the same of a report, where the first has number i
+abbrev pub reported_begun : ℕ → List QueueReport → List (ℕ × Topic × Stamp)
+reported_begun i [] = []
+reported_begun i (q ∷ qs) = (i, q.topic, q.from) ∷ reported_begun (i + 1) qs
 
 -- the stamp of the last of these items, or else this one
 abbrev pub last_queued : Stamp → List Item → Stamp
@@ -88,7 +92,7 @@ pub record Delivers (capacity : ℕ) (told : List Told) (r : Report) : Type 0 wh
   pub logs : (t : Topic) → log_in r t ≡ told_log t told
   -- each subscription begins where its topic's log ended then; its end, its queue and what was delivered of
   -- it are as told
-  pub begins : enumerate_from {X = Topic × Stamp} 0 (map (λ q. (q.topic, q.from)) r.subscriptions) ≡ begun_in told
+  pub begins : reported_begun 0 r.subscriptions ≡ begun_in told
   pub queues : (s : ℕ) (q : QueueReport) → slice_get r.subscriptions s ≡ Some q → IsAsTold capacity s told q
   -- two subscriptions have what they share in one order
   pub total_order : (p q : QueueReport) → In p r.subscriptions → In q r.subscriptions

@@ -1,6 +1,7 @@
-use Rattle.std.proofs.Common.{◌≡◌, ◌++◌, ◌<◌, ◌+◌, ℕ, List, Some, length, sym, ap, ◌∙◌, arith}
+use Rattle.std.proofs.Common.{◌≡◌, ◌++◌, ◌<◌, ◌≤◌, ◌+◌, ℕ, List, Some, length, sym, ap, ◌∙◌, arith}
 use Rattle.std.specs.Prelude.{slice_get}
 use Rattle.std.specs.List.{enumerate_from}
+use Rattle.std.proofs.lemmas.List.{take_all}
 use Rattle.std.proofs.lemmas.List.FromFn.{length-enumerate_from}
 use Rattle.stomp_frame.specs.ServerFrames.{message_id, part_message_frame}
 use Rattle.stomp_frame.specs.Writing.{spelling_of}
@@ -8,8 +9,18 @@ use Rattle.mcast_txn.specs.declared.parts.part.Part.{Part}
 use Rattle.mcast_txn.specs.declared.parts.part_message.PartMessage.{PartMessage}
 use Rattle.mcast_txn.specs.declared.stamp.Stamp.{Stamp}
 use Rattle.mcast_txn.specs.Span.{Item}
-use Rattle.delivery.proofs.Views.Lists.TextOfMessages.{placed_at, placed_of, text_put}
+use Rattle.delivery.proofs.Views.Lists.TextOfMessages.{placed_at, placed_of, text_of, text_put}
 use Rattle.delivery.proofs.messages.put_parts.Goals as goal
+
+pub returns-clause-ok : goal.returns-clause-ok
+returns-clause-ok c =
+    let item = c.args.item.now in
+    let sends : c.deref.result.now.sends ≡ item.sends = ap (λ (q : Part). q.sends) c.deref.ensures ∙ ap (λ (x : Item). x.sends) c.item.view_is in
+    let many : c.len-count.result ≡ length item.sends = c.len-count.ensures ∙ ap (λ (xs : List PartMessage). length xs) sends in
+    let all : length (enumerate_from 1 item.sends) ≤ c.loop-i.i = omega (arith, c.loop-i-test.false, many, length-enumerate_from 1 item.sends) in
+    c.loop-i.invariant.written
+    ∙ ap (λ (ps : List (ℕ × PartMessage)). c.args.out.now ++ text_of (placed_of (length item.sends) c.args.id.now item.stamp) ps)
+    (take_all c.loop-i.i (enumerate_from 1 item.sends) all)
 
 pub loop-i-preserved : goal.loop-i-preserved
 loop-i-preserved c =
