@@ -421,27 +421,6 @@ def named_topics(trial):
     return f"{len(names)} in {took:.1f} s; {memory / len(names):.1f} KiB of memory each, which stay"
 
 
-def learnt_names(trial):
-    """One connection makes as many topics as there may be, of the longest names. The others, which have sent before, learn all
-    of them by a SEND to the last. The names are there once, so that costs less than a tenth of what they do."""
-    others = trial.open(trial.part(255))
-    for it in others:
-        it.ask(send_frame(TOPICS[0], b"x"))
-    before = trial.server.memory()
-    names = [b"/%04d" % at + b"n" * (MOST_LINE - len(b"destination:") - 5) for at in range(trial.part(MOST_TOPICS - len(NAMES)))]
-    with Client(trial.address) as it:
-        it.connect()
-        for name in names:
-            it.ask(send_frame(name, b"x"))
-    made, begun = trial.server.memory(), time.monotonic()
-    for it in others:
-        it.ask(send_frame(names[-1], b"x"))
-    learnt, took = trial.server.memory() - made, time.monotonic() - begun
-    close_all(others)
-    trial.expect(10 * learnt < made - before, f"{learnt:,} KiB for names that have {made - before:,}")
-    return f"{len(names)} of them in {made - before:,} KiB; {learnt / len(others):.1f} KiB for each of {len(others)} that learnt them, in {took:.1f} s"
-
-
 def expect_no_more_topics(trial):
     """A new name is answered by 75, what can't be a name by 76, and to a topic that is there may be sent."""
     one_more = b"/topic/one-more"
@@ -458,4 +437,4 @@ def expect_no_more_topics(trial):
 # The rows that one server has, one after another, behind plain use; and those that have one of their own: how many descriptors it may
 # have, and whether what they leave stays.
 ROWS = [silent, small_writes, comes_and_goes, one_octet_a_second, bursts, never_read, slow_and_talking, opened_and_reset, begins, every_limit, half_closed]
-OF_THEIR_OWN = [(few_descriptors, 64, False), (named_topics, None, True), (learnt_names, None, True), (claimed_ids, None, True)]
+OF_THEIR_OWN = [(few_descriptors, 64, False), (named_topics, None, True), (claimed_ids, None, True)]

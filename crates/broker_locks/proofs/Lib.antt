@@ -22,3 +22,4 @@ pub mod RoomKept
 pub mod Reserving
 mod Examples
 mod ExamplesRoom
+pub mod Ends

@@ -7,7 +7,7 @@ use Rattle.std.proofs.lemmas.List.{get_or-drop, take-append-drop, take_all}
 use Rattle.std.proofs.lemmas.List.Elements.{filter-append, filter_more}
 use Rattle.std.proofs.lemmas.List.Filters.{FiltersInPlace}
 use Rattle.std.proofs.lemmas.List.Folds.{find-append}
-use Rattle.std.specs.List.{insert}
+use Rattle.std.specs.List.{insert, remove}
 use Rattle.std.specs.Option.{is_some, option_map_or, option_or}
 use Rattle.std.specs.Result.{is_ok}
 use Rattle.sub_queue.specs.Shown.{Shown}
@@ -92,6 +92,24 @@ none_waited (x ∷ xs) n all = let a = ne_eqb x n all.0 in let ih = none_waited 
 pub unwaited_at : (xs : List ℕ) (n i : ℕ) → IsGap waited_number xs n i → list_any (λ (m : ℕ). m == n) xs ≡ false
 unwaited_at xs n i gap = none_waited xs n (none_in_gap waited_number xs n i gap)
 
+-- taking out one that is found leaves the others
+pub out_found : (xs : List ℕ) (n i : ℕ) → RisesBy waited_number xs → IsAt waited_number xs n i → remove xs i ≡ filter (λ (m : ℕ). not (m == n)) xs
+out_found [] n i rises at = absurd (omega (arith, at.in_range))
+out_found (x ∷ xs) n zero rises at =
+    let same : (x == n) ≡ true = eq-eqb x n (at.has_key x) in
+    let others = filter_all (λ (m : ℕ). not (m == n)) xs (λ m k. ap not (ne_eqb m n (λ e. omega (arith, above xs m rises.0 k, e, at.has_key x)))) in
+    rw (same, others) refl
+  where
+    above : (ys : List ℕ) (m : ℕ) → AllByRecursion (λ (y : ℕ). x < y) ys → In m ys → x < m
+    above [] m all k = absurd k
+    above (y ∷ ys) m all (inl e) = subst (λ (z : ℕ). x < z) e all.0
+    above (y ∷ ys) m all (inr k) = above ys m all.1 k
+out_found (x ∷ xs) n (suc i) rises at =
+    let less = omega (arith, at.in_range) in
+    let differs : (x == n) ≡ false = ne_eqb x n (λ e. omega (arith, asked_below (x ∷ xs) (suc i) x x rises at.in_range (inl refl), e, at.has_key x)) in
+    let ih = out_found xs n i rises.1 (record { in_range = less; has_key = at.has_key }) in
+    rw (differs, sym ih) refl
+
 -- who is waited for is one of them
 pub waited_in : (xs : List ℕ) (n : ℕ) → list_any (λ (m : ℕ). m == n) xs ≡ true → In n xs
 waited_in xs n e =
@@ -101,6 +119,10 @@ waited_in xs n e =
 -- who isn't, isn't
 pub unwaited_other : (xs : List ℕ) (n m : ℕ) → list_any (λ (k : ℕ). k == n) xs ≡ false → In m xs → m ≢ n
 unwaited_other xs n m e i d = true≢false (sym (any_from (λ (k : ℕ). k == n) m xs i (eq-eqb m n d)) ∙ e)
+
+-- where one isn't there, nobody is taken out
+pub out_none : (xs : List ℕ) (n i : ℕ) → IsGap waited_number xs n i → xs ≡ filter (λ (m : ℕ). not (m == n)) xs
+out_none xs n i gap = sym (filter_all (λ (m : ℕ). not (m == n)) xs (λ m k. ap not (ne_eqb m n (unwaited_other xs n m (unwaited_at xs n i gap) k))))
 
 -- ---- each is asked in its turn
 

@@ -1,5 +1,5 @@
 -- Calls of the broker, one after the other.
-use Rattle.std.proofs.Common.{◌≡◌, ◌⊎◌, ◌<◌, ℕ, zero, suc, Bool, false, List, [], ◌∷◌, ◌++◌, take, Result, Ok, Err, OnOk, OnErr, refl, sym, subst, inl, inr, arith}
+use Rattle.std.proofs.Common.{◌≡◌, ◌⊎◌, ◌<◌, ℕ, zero, suc, Bool, false, List, [], ◌∷◌, ◌++◌, length, map, take, Result, Ok, Err, OnOk, OnErr, refl, sym, subst, inl, inr, arith}
 use Rattle.std.specs.Prelude.{get_or}
 use Rattle.std.specs.List.{list_any}
 use Rattle.stomp_session.specs.declared.action.Action.{Action}
@@ -52,3 +52,9 @@ none_before p [] (suc i) d none = refl
 none_before p (x ∷ xs) zero d none = refl
 none_before p (x ∷ xs) (suc i) d none =
     let first : p x ≡ false = none zero (omega arith) in rw first (none_before p xs i d (λ k less. none (suc k) (omega arith)))
+
+-- some calls of which nothing is said
+pub asks_some : {B X : Type 0} (row : X → BrokerRow) (xs : List X) (a b : B) → (length xs ≡ 0 → Prim.⊥) → AsksInOrder (λ old r new. Unit {0}) a (map row xs) b
+asks_some row [] a b some = absurd (some refl)
+asks_some row (x ∷ []) a b some = (b, tt, refl)
+asks_some row (x ∷ y ∷ xs) a b some = (b, tt, asks_some row (y ∷ xs) b b (λ e. absurd (omega (arith, e))))

@@ -1,5 +1,5 @@
 -- Entries, and the same with one thing of each value.
-use Rattle.std.proofs.Common.{◌≡◌, ℕ, Bool, true, false, cond, not, ◌||◌, List, [], ◌∷◌, ◌++◌, Some, refl, ap, nat_lt, length}
+use Rattle.std.proofs.Common.{◌≡◌, ℕ, suc, Bool, true, false, cond, not, ◌||◌, List, [], ◌∷◌, ◌++◌, Some, refl, ap, nat_lt, length}
 use Rattle.std.specs.Map.{lookup}
 use Rattle.std.specs.Option.{option_map}
 use Rattle.std.specs.Str.{bytes_eq}
@@ -15,7 +15,7 @@ module _ {X Y : Type 0} (f : X → Y) where
 
   length-with_each : (es : List (List ℕ × X)) → length (with_each f es) ≡ length es
   length-with_each [] = refl
-  length-with_each (e ∷ es) = ap (λ (n : ℕ). 1 + n) (length-with_each es)
+  length-with_each (e ∷ es) = ap suc (length-with_each es)
 
   -- as many are
   pub is_full-with_each : (es : List (List ℕ × X)) → is_full (with_each f es) ≡ is_full es

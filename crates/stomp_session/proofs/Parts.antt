@@ -1,11 +1,10 @@
 -- Whether a subscription asked for parts, by the frames that were accepted.
-use Rattle.std.proofs.Common.{◌≡◌, ◌≢◌, ℕ, Bool, true, false, cond, not, ◌&&◌, ◌||◌, List, [], ◌∷◌, ◌++◌, Some, None, refl, ap, ◌∙◌, if◌then◌else◌}
+use Rattle.std.proofs.Common.{◌≡◌, ℕ, Bool, true, false, cond, not, ◌&&◌, ◌||◌, List, [], ◌∷◌, ◌++◌, Some, None, refl, ap, ◌∙◌, if◌then◌else◌}
 use Rattle.std.specs.Cmp.Lexicographic.{nat_list_eq_equiv}
 use Rattle.std.specs.List.{list_any}
 use Rattle.std.specs.Map.{lookup}
 use Rattle.std.specs.Option.{unwrap_or}
 use Rattle.std.specs.Str.{bytes_eq}
-use Rattle.stomp_frame.specs.declared.command.Command.TheVariants as commands
 use Rattle.stomp_frame.specs.declared.raw_frame.RawFrame.{RawFrame}
 use Rattle.stomp_session.specs.declared.phase.Phase.TheVariants.{New, Connected, Closed}
 use Rattle.stomp_session.specs.Frames.{id_of, is_subscribe, is_unsubscribe, names_subscription, wants_parts}
@@ -59,9 +58,9 @@ held_asks names frames f opens going =
 
 -- so does a session that stands for it and isn't closed
 pub asks_as_wanted : AsksAsWanted
-asks_as_wanted s names frames f stands e open =
+asks_as_wanted s names frames f stands e unclosed =
     ap (asks_parts (id_of f)) stands.holds ∙ held_asks names frames f (ap is_subscribe e) (going (is_ended (frames ++ f ∷ [])) refl)
   where
     going : (b : Bool) → is_ended (frames ++ f ∷ []) ≡ b → is_ended (frames ++ f ∷ []) ≡ false
-    going true ended = absurd (open (ap (λ z. z.phase) stands.holds ∙ ap (λ b. if b then Closed else (if is_connected (frames ++ f ∷ []) then Connected else New)) ended))
+    going true ended = absurd (unclosed (ap (λ z. z.phase) stands.holds ∙ ap (λ b. if b then Closed else (if is_connected (frames ++ f ∷ []) then Connected else New)) ended))
     going false live = live

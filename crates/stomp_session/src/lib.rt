@@ -6,8 +6,6 @@ mod destination;
 mod fault;
 mod judged;
 pub mod law;
-mod name;
-mod name_set;
 mod names;
 mod opened;
 mod phase;

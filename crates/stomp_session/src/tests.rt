@@ -10,5 +10,4 @@ mod names;
 mod parts;
 mod plain;
 mod session;
-mod shared;
 mod transactions;

@@ -1,8 +1,7 @@
 -- What is delivered explains its trace.
 use Rattle.std.proofs.Common.{◌≡◌, ◌≢◌, ℕ, ◌<◌, ◌&&◌, Bool, true, false, not, ◌⊎◌, inl, inr, List, [], ◌∷◌, map, take, length, Option, Some, refl, sym, ap, subst, ◌∙◌}
 use Rattle.std.specs.List.{filter, list_any}
-use Rattle.std.proofs.lemmas.Bool.{and_parts, true≢false, cases_lt}
-use Rattle.std.proofs.lemmas.List.{get_or_past}
+use Rattle.std.proofs.lemmas.Bool.{and_parts, true≢false}
 use Rattle.mcast_txn.specs.declared.id.Topic.{Topic}
 use Rattle.mcast_txn.specs.declared.stamp.Stamp.{Stamp}
 use Rattle.mcast_txn.specs.Agreed.{CommitRow, committed_id, stamp_of, agreed}
@@ -52,19 +51,12 @@ pub record Fronted (account : List Answer) (t : Topic) (log : List LogRow) : Typ
   pub count : ℕ
   pub is : log ≡ take count (filter (at_topic t) (sequence account))
 
-none_taken : (xs : List LogRow) → ◌≡◌ {A = List LogRow} [] (take 0 xs)
-none_taken [] = refl
-none_taken (x ∷ xs) = refl
-
 -- so is each log of a report that is delivered
 pub fronted : {capacity : ℕ} (account : List Answer) (r : Report) → DeliversAnswers capacity account r → (t : Topic) → Fronted account t (log_in r t)
-fronted account r d t = elim (cases_lt t.0 (length r.logs)) [
-  | inl l ↦ record {
-    count = released_at t account;
-    is = d.logs t ∙ ap (take (released_at t account)) (sym (filter_mapped (at_topic t) log_row (agreed (commits_of account))));
-  }
-  | inr l ↦ record { count = 0; is = get_or_past r.logs t.0 [] l ∙ none_taken (filter (at_topic t) (sequence account)) }
-]
+fronted account r d t = record {
+  count = released_at t account;
+  is = d.logs t ∙ ap (take (released_at t account)) (sym (filter_mapped (at_topic t) log_row (agreed (commits_of account))));
+}
 
 -- a row of a log is one of the agreed sequence
 in_sequence : {capacity : ℕ} (account : List Answer) (r : Report) → DeliversAnswers capacity account r → (row : LogRow) → In row (rows_of (trace_of r).logs) → In row (sequence account)

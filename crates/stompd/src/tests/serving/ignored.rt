@@ -23,8 +23,7 @@ const ASKS_NOTHING: &str = "CONNECT\naccept-version:1.2\nhost:h\nheart-beat:0,0\
     DISCONNECT\nreceipt:bye\n\n\0";
 
 /// What each is told.
-const TOLD: &str =
-    "CONNECTED\nversion:1.2\nheart-beat:0,0\n\n\0\nRECEIPT\nreceipt-id:bye\n\n\0\n";
+const TOLD: &str = "CONNECTED\nversion:1.2\nheart-beat:0,0\n\n\0\nRECEIPT\nreceipt-id:bye\n\n\0\n";
 
 /// The front and the back of each line that there is of the first.
 const SAID: &[(&str, &str)] = &[

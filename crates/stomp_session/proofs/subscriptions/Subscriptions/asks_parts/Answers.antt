@@ -1,5 +1,3 @@
-use Rattle.std.proofs.Common.{◌≡◌, false, sym, ap, ◌∙◌}
-use Rattle.std.specs.Option.{option_map, unwrap_or}
 use Rattle.std.specs.Str.{bytes_eq}
 use Rattle.stomp_session.specs.declared.subscription.Subscription.{Subscription}
 use Rattle.stomp_session.proofs.Kept.{lookup-with_each}

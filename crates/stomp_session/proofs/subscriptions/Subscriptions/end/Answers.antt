@@ -1,8 +1,5 @@
-use Rattle.std.proofs.Common.{◌≡◌, sym, ap, ◌∙◌}
+use Rattle.std.proofs.Common.{sym}
 use Rattle.stomp_session.specs.declared.subscription.Subscription.{Subscription}
-use Rattle.stomp_session.specs.Inner.Effects.{entries_without}
-use Rattle.stomp_session.specs.Inner.Stored.{OpenSubscriptions, with_each}
-use Rattle.stomp_session.specs.Refusals.{is_open}
 use Rattle.stomp_session.proofs.Kept.{is_open-with_each, without-with_each}
 use Rattle.stomp_session.proofs.subscriptions.Subscriptions.end.Goals as goal
 
