@@ -114,7 +114,7 @@ queue_told capacity s account r q log asked h = record {
 -- ---- all of it
 
 -- subscriptions with their numbers
-begun_reported : (i : ℕ) (qs : List QueueReport) → enumerate_from i (map (λ (q : QueueReport). (q.topic, q.from)) qs) ≡ reported_begun i qs
+begun_reported : (i : ℕ) (qs : List QueueReport) → enumerate_from {X = Topic × Stamp} i (map (λ (q : QueueReport). (q.topic, q.from)) qs) ≡ reported_begun i qs
 begun_reported i [] = refl
 begun_reported i (q ∷ qs) = ap (λ (z : List (ℕ × Topic × Stamp)). (i, q.topic, q.from) ∷ z) (begun_reported (i + 1) qs)
 

@@ -47,7 +47,7 @@ none_is (sender ∷ senders) = none_is senders
 
 none_at : (senders : List (Option (List ℕ))) → position_or_len (is_one_client None) senders ≡ length senders
 none_at [] = refl
-none_at (sender ∷ senders) = ap (λ (n : ℕ). 1 + n) (none_at senders)
+none_at (sender ∷ senders) = ap (λ (n : ℕ). 1 + n) (none_at senders) ∙ omega arith
 
 -- ---- a client-id
 

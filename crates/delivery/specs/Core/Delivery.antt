@@ -88,7 +88,7 @@ pub record Delivers (capacity : ℕ) (told : List Told) (r : Report) : Type 0 wh
   pub logs : (t : Topic) → log_in r t ≡ told_log t told
   -- each subscription begins where its topic's log ended then; its end, its queue and what was delivered of
   -- it are as told
-  pub begins : enumerate_from 0 (map (λ q. (q.topic, q.from)) r.subscriptions) ≡ begun_in told
+  pub begins : enumerate_from {X = Topic × Stamp} 0 (map (λ q. (q.topic, q.from)) r.subscriptions) ≡ begun_in told
   pub queues : (s : ℕ) (q : QueueReport) → slice_get r.subscriptions s ≡ Some q → IsAsTold capacity s told q
   -- two subscriptions have what they share in one order
   pub total_order : (p q : QueueReport) → In p r.subscriptions → In q r.subscriptions
