@@ -90,6 +90,11 @@ SoFar waits messages next at wire now =
 pub none_so_far : (waits : Bool) (messages : List RawFrame) (next : ℕ) (wire : List ℕ) → SoFar waits messages next next wire wire
 none_so_far waits messages next wire = ([], refl, (refl, refl))
 
+nothing_there : (xs : List RawFrame) (i : ℕ) → i < length xs → slice_get xs i ≡ None → ⊥
+nothing_there [] i less e = absurd (omega arith)
+nothing_there (x ∷ xs) zero less e = cc
+nothing_there (x ∷ xs) (suc i) less e = nothing_there xs i (omega arith) e
+
 -- the one that is there, and those behind it
 here : (messages : List RawFrame) (at : ℕ) → at < length messages → (f : RawFrame) × (slice_get messages at ≡ Some f) × (drop at messages ≡ f ∷ drop (at + 1) messages)
 here messages at there = by (slice_get messages at) refl
@@ -97,11 +102,6 @@ here messages at there = by (slice_get messages at) refl
     by : (o : Option RawFrame) → slice_get messages at ≡ o → (f : RawFrame) × (slice_get messages at ≡ Some f) × (drop at messages ≡ f ∷ drop (at + 1) messages)
     by (Some f) is = (f, is, drop_more messages at f there ∙ ap (λ (g : RawFrame). g ∷ drop (at + 1) messages) (get_or_from_slice_get messages at f f is))
     by None is = absurd (nothing_there messages at there is)
-
-    nothing_there : (xs : List RawFrame) (i : ℕ) → i < length xs → slice_get xs i ≡ None → ⊥
-    nothing_there [] i less e = absurd (omega arith)
-    nothing_there (x ∷ xs) zero less e = cc
-    nothing_there (x ∷ xs) (suc i) less e = nothing_there xs i (omega arith) e
 
 -- it is written, too
 pub one_so_far : (waits : Bool) (messages : List RawFrame) (next at : ℕ) (wire now new : List ℕ) → at < length messages → has_room waits now ≡ true → IfSome (slice_get messages at) (λ f. new ≡ now ++ spelling_with_eol f) → SoFar waits messages next at wire now → SoFar waits messages next (at + 1) wire new
