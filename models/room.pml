@@ -418,7 +418,7 @@ inline sub_end(sub) {
 inline talk_close(c) {
   leaving[c] = true;
   do
-  :: d_step { e < TOPICS -> more[c] = false; n = 0; u = 0; EACH_OF(c, e, n++; u = s); u = (n == 1 -> Sub(u) : Any) };
+  :: d_step { e < TOPICS -> more[c] = false; n = 0; u = 0; EACH_OF(c, e, n++; u = s); u = (n == 1 -> Sub(u) : (n > 1 -> Any : 0)) };
      if
      :: n > 0 ->
 #ifdef M_RINGS_BEFORE_END

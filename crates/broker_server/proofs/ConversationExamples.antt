@@ -126,7 +126,7 @@ third_goes_on h wire room more =
 pub second_next_again : (h : RawFrame) (wire : List ℕ) → has_room false wire ≡ false → DrainsQueues false 2 1 [] (a ∷ record b { left = h ∷ [] } ∷ c ∷ []) wire Halfway (a ∷ record b { left = h ∷ [] } ∷ c ∷ []) wire 1
 second_next_again h wire full =
     let second = record b { left = h ∷ [] } in
-    let off : DrainsOn false 2 [] second wire Halfway second wire = inr (refl, inl (rw full refl, refl, rw full refl, rw full refl)) in
+    let off : DrainsOn false 2 [] second wire Halfway second wire = inr (refl, inl (refl, (rw full refl, rw full refl), refl, refl)) in
     let back : DrainsAll false 2 [] (second ∷ c ∷ []) wire Halfway (second ∷ c ∷ []) wire 2 =
     ([], [], refl, Halfway, second, c ∷ [], wire, off, refl, (refl, refl, refl, refl, refl)) in
     (a ∷ [], second ∷ c ∷ [], refl, refl, [], [], refl, Halfway, second ∷ c ∷ [], a ∷ [], wire, 2, 0, back, refl, (refl, refl, refl, refl, refl))

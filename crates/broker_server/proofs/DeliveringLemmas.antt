@@ -1,15 +1,19 @@
 -- What is taken of one queue, call by call.
-use Rattle.std.proofs.Common.{◌≡◌, ◌⊎◌, inl, inr, ℕ, zero, suc, ◌+◌, ◌-◌, ◌<◌, ◌≤◌, Bool, true, false, List, [], ◌∷◌, ◌++◌, length, Result, Ok, Err, OnOk, OnErr, IsTrue, is_err, Some, None, refl, sym, ap, subst, ◌∙◌, append_assoc, append-nil, arith}
-use Rattle.std.specs.Prelude.{◌||◌}
-use Rattle.std.proofs.lemmas.Bool.{cases_lt, false≢true, true≢false}
+use Rattle.std.proofs.Common.{◌≡◌, ◌⊎◌, inl, inr, ℕ, zero, suc, ◌+◌, ◌-◌, ◌<◌, ◌≤◌, nat_lt, drop, Option, IfSome, Bool, true, false, List, [], ◌∷◌, ◌++◌, length, Result, Ok, Err, OnOk, OnErr, IsTrue, is_err, Some, None, refl, sym, ap, subst, ◌∙◌, append_assoc, append-nil, arith}
+use Rattle.std.specs.Prelude.{◌||◌, slice_get, if◌then◌else◌}
+use Rattle.std.proofs.lemmas.Bool.{false≢true, true≢false}
+use Rattle.std.proofs.lemmas.Bool.Decides.{nat_tests}
+use Rattle.std.proofs.lemmas.List.{drop_all, drop_more}
+use Rattle.std.proofs.lemmas.Option.{get_or_from_slice_get}
 use Rattle.std.proofs.lemmas.List.Folds.{list_any-append}
 use Rattle.stomp_frame.specs.declared.raw_frame.RawFrame.{RawFrame}
 use Rattle.mcast_txn.specs.Span.{Item}
+use Rattle.delivery.specs.Core.Outcomes.{is_any}
 use Rattle.broker_server.specs.declared.conversation.drained.Taking.{Taking}
 use Rattle.broker_server.specs.declared.conversation.drained.Taking.TheVariants.{Emptied, Stopped, Halfway, Failed}
 use Rattle.broker_server.specs.BrokerRows.{AsksLag, BrokerRow, SubName, Takes}
 use Rattle.broker_server.specs.Conversations.{OpenSubState}
-use Rattle.broker_server.specs.Delivering.{BreaksOff, Drains, DrainsAll, DrainsOn, DrainsQueues, IfEmptied, WritesAll, nearer_lag, begins_at, full_wire, has_item, has_room, is_item, left_behind, left_from, messages_of, with_messages}
+use Rattle.broker_server.specs.Delivering.{BreaksOff, Drains, DrainsAll, DrainsOn, DrainsQueues, FailsIn, IfEmptied, StopsIn, WritesAll, nearer_lag, begins_at, full_wire, has_item, has_room, is_item, left_behind, left_from, messages_of, with_messages}
 use Rattle.broker_server.specs.Wires.{spelling_with_eol}
 
 -- what was asked, and then more
@@ -77,6 +81,62 @@ breaks_off waits out f fs wire now none all =
 pub drains_lag : (waits : Bool) (capacity calls : ℕ) (o next : OpenSubState) (wire : List ℕ) (sub lagging : SubName) → length wire < full_wire → sub ≡ o.sub → lagging ≡ o.sub → o.lagged ≡ false → o.until_lag ≡ 0 → next ≡ record o { lagged = true } → (rows : List BrokerRow) (end : Taking) (new : OpenSubState) (after : List ℕ) → Drains waits capacity (calls + 1) rows next wire end new after → Drains waits capacity calls (Takes sub None ∷ AsksLag lagging true ∷ rows) o wire end new after
 drains_lag waits capacity calls o next wire sub lagging room same asked unlagged due next_is rows end new after drains =
     (room, same, asked, unlagged, due, subst (λ (q : OpenSubState). Drains waits capacity (calls + 1) rows q wire end new after) next_is drains)
+
+-- those before the one at this index are written
+abbrev pub SoFar : Bool → List RawFrame → ℕ → ℕ → List ℕ → List ℕ → Type 0
+SoFar waits messages next at wire now =
+    (out : List RawFrame) × (drop next messages ≡ out ++ drop at messages) × WritesAll waits out wire now
+
+pub none_so_far : (waits : Bool) (messages : List RawFrame) (next : ℕ) (wire : List ℕ) → SoFar waits messages next next wire wire
+none_so_far waits messages next wire = ([], refl, (refl, refl))
+
+nothing_there : (xs : List RawFrame) (i : ℕ) → i < length xs → slice_get xs i ≡ None → ⊥
+nothing_there [] i less e = absurd (omega arith)
+nothing_there (x ∷ xs) zero less e = cc
+nothing_there (x ∷ xs) (suc i) less e = nothing_there xs i (omega arith) e
+
+-- the one that is there, and those behind it
+here : (messages : List RawFrame) (at : ℕ) → at < length messages → (f : RawFrame) × (slice_get messages at ≡ Some f) × (drop at messages ≡ f ∷ drop (at + 1) messages)
+here messages at there = by (slice_get messages at) refl
+  where
+    by : (o : Option RawFrame) → slice_get messages at ≡ o → (f : RawFrame) × (slice_get messages at ≡ Some f) × (drop at messages ≡ f ∷ drop (at + 1) messages)
+    by (Some f) is = (f, is, drop_more messages at f there ∙ ap (λ (g : RawFrame). g ∷ drop (at + 1) messages) (get_or_from_slice_get messages at f f is))
+    by None is = absurd (nothing_there messages at there is)
+
+-- it is written, too
+pub one_so_far : (waits : Bool) (messages : List RawFrame) (next at : ℕ) (wire now new : List ℕ) → at < length messages → has_room waits now ≡ true → IfSome (slice_get messages at) (λ f. new ≡ now ++ spelling_with_eol f) → SoFar waits messages next at wire now → SoFar waits messages next (at + 1) wire new
+one_so_far waits messages next at wire now new there room put (out, cut, all) =
+    let h = here messages at there in
+    let f = h.0 in
+    let is : new ≡ now ++ spelling_with_eol f = subst (λ (o : Option RawFrame). IfSome o (λ g. new ≡ now ++ spelling_with_eol g)) h.1 put in (
+      out ++ f ∷ [],
+      cut ∙ ap (λ (rest : List RawFrame). out ++ rest) h.2 ∙ sym (append_assoc out (f ∷ []) (drop (at + 1) messages)),
+      subst (λ (w : List ℕ). WritesAll waits (out ++ f ∷ []) wire w) (sym is) (writes_one waits out f wire now room all),
+    )
+
+-- there is no room for it
+pub stops_so_far : (waits : Bool) (messages : List RawFrame) (next at : ℕ) (wire now : List ℕ) → at < length messages → has_room waits now ≡ false → SoFar waits messages next at wire now → StopsIn waits (drop next messages) (drop at messages) wire now
+stops_so_far waits messages next at wire now there none (out, cut, all) =
+    let h = here messages at there in
+    let off = breaks_off waits out h.0 (drop (at + 1) messages) wire now none all in
+    let whole : drop next messages ≡ out ++ h.0 ∷ drop (at + 1) messages = cut ∙ ap (λ (rest : List RawFrame). out ++ rest) h.2 in
+    (ap (λ (ms : List RawFrame). left_behind waits ms wire) whole ∙ off.0 ∙ sym h.2, off.1 ∙ ap (λ (ms : List RawFrame). with_messages waits ms wire) (sym whole))
+
+-- none is left
+pub all_so_far : (waits : Bool) (messages : List RawFrame) (next at count : ℕ) (wire now : List ℕ) → length messages ≤ at → length messages ≤ count → SoFar waits messages next at wire now → StopsIn waits (drop next messages) (drop count messages) wire now
+all_so_far waits messages next at count wire now past over (out, cut, all) =
+    let whole : drop next messages ≡ out = cut ∙ ap (λ (rest : List RawFrame). out ++ rest) (drop_all at messages past) ∙ append-nil out in
+    (ap (λ (ms : List RawFrame). left_behind waits ms wire) whole ∙ all.0 ∙ sym (drop_all count messages over), all.1 ∙ ap (λ (ms : List RawFrame). with_messages waits ms wire) (sym whole))
+
+-- there is no memory for it
+pub fails_so_far : (waits : Bool) (messages : List RawFrame) (next at : ℕ) (wire now : List ℕ) → at < length messages → SoFar waits messages next at wire now → FailsIn waits (drop next messages) wire now
+fails_so_far waits messages next at wire now there (out, cut, all) =
+    let h = here messages at there in
+    (out, drop at messages, cut, ap is_any h.2, all)
+
+-- some are left
+pub some_left_at : (messages : List RawFrame) (at : ℕ) → at < length messages → is_any (drop at messages) ≡ true
+some_left_at messages at there = ap is_any (here messages at there).2
 
 -- ---- what a round comes to at one queue
 

@@ -31,8 +31,8 @@ use Rattle.broker_server.proofs.LikeLemmas.{Like, acts_like, all_like, hears_lik
 -- ---- what is delivered changes nothing else
 
 off_kept : (waits : Bool) (messages : List RawFrame) (o : OpenSubState) (wire : List ℕ) (end : Taking) (new : OpenSubState) (after : List ℕ) → BreaksOff waits messages o wire end new after → untaken new ≡ untaken o
-off_kept waits messages o wire end new after (inl (some, ends, same, out)) = ap untaken same
-off_kept waits messages o wire end new after (inr (out, rest, cut, some, all, ends, same)) = ap untaken same
+off_kept waits messages o wire end new after (inl (some, stops, ends, same)) = ap untaken same
+off_kept waits messages o wire end new after (inr (fails, ends, same)) = ap untaken same
 
 drains_kept : (waits : Bool) (capacity calls : ℕ) (asked : List BrokerRow) (o : OpenSubState) (wire : List ℕ) (end : Taking) (new : OpenSubState) (after : List ℕ) → Drains waits capacity calls asked o wire end new after → untaken new ≡ untaken o
 drains_kept waits capacity calls [] o wire end new after (stops, ends, same, left) = ap untaken same

@@ -47,11 +47,10 @@ none_any : (xs : List RawFrame) → xs ≡ [] → is_any xs ≡ true → ⊥
 none_any xs none some = let e = sym (ap (λ (ys : List RawFrame). is_any ys) none) ∙ some in cc
 
 off_whole : (waits : Bool) (messages : List RawFrame) (o : OpenSubState) (wire : List ℕ) (end : Taking) (new : OpenSubState) (after : List ℕ) → o.left ≡ [] → BreaksOff waits messages o wire end new after → IsWhole messages wire end new after
-off_whole waits messages o wire end new after none (inl (some, ends, same, is)) =
+off_whole waits messages o wire end new after none (inl (some, (left, is), ends, same)) =
     let w = written waits messages wire in
-    let left = sym (ap (λ (q : OpenSubState). q.left) same) in
     (w.0, left_behind waits messages wire, is ∙ w.1, w.2, inr left, (λ any. ends))
-off_whole waits messages o wire end new after none (inr (out, rest, cut, some, all, ends, same)) =
+off_whole waits messages o wire end new after none (inr ((out, rest, cut, some, all), ends, same)) =
     (out, rest, all_written waits out wire after all, cut, inl ends, (λ any. absurd (none_any new.left (ap (λ (q : OpenSubState). q.left) same ∙ none) any)))
 
 -- behind MESSAGEs that are out

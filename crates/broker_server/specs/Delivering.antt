@@ -47,10 +47,19 @@ with_messages waits [] wire = wire
 with_messages waits (f ∷ fs) wire =
     if has_room waits wire then with_messages waits fs (wire ++ spelling_with_eol f) else wire
 
--- They are all written, and this waits then.
+-- They are written up to these, which are left, and this waits then.
+abbrev pub StopsIn : Bool → List RawFrame → List RawFrame → List ℕ → List ℕ → Type 0
+StopsIn waits messages left wire after =
+    (left_behind waits messages wire ≡ left) × (after ≡ with_messages waits messages wire)
+
+-- They are all written.
 abbrev pub WritesAll : Bool → List RawFrame → List ℕ → List ℕ → Type 0
-WritesAll waits messages wire after =
-    (left_behind waits messages wire ≡ []) × (after ≡ with_messages waits messages wire)
+WritesAll waits messages wire after = StopsIn waits messages [] wire after
+
+-- There is no memory for one of them, behind those that are out, which stay out.
+abbrev pub FailsIn : Bool → List RawFrame → List ℕ → List ℕ → Type 0
+FailsIn waits messages wire after =
+    (out rest : List RawFrame) × (messages ≡ out ++ rest) × (is_any rest ≡ true) × WritesAll waits out wire after
 
 -- ---- one queue
 
@@ -72,13 +81,12 @@ abbrev pub messages_of : OpenSubState → Item → List RawFrame
 messages_of o item = messages_for o.parts o.id item
 
 -- These MESSAGEs of an item aren't all written: some are left for want of room, and stay left of the queue; or
--- there is no memory for one, behind those that are out, which stay out.
+-- there is no memory for one.
 abbrev pub BreaksOff : Bool → List RawFrame → OpenSubState → List ℕ → Taking → OpenSubState → List ℕ → Type 0
 BreaksOff waits messages o wire end new after =
-    ((is_any (left_behind waits messages wire) ≡ true) × (end ≡ Halfway)
-    × (new ≡ record o { left = left_behind waits messages wire }) × (after ≡ with_messages waits messages wire))
-    ⊎ ((out rest : List RawFrame) × (messages ≡ out ++ rest) × (is_any rest ≡ true)
-    × WritesAll waits out wire after × (end ≡ Failed fault.NoReply) × (new ≡ o))
+    ((is_any new.left ≡ true) × StopsIn waits messages new.left wire after × (end ≡ Halfway)
+    × (new ≡ record o { left = new.left }))
+    ⊎ (FailsIn waits messages wire after × (end ≡ Failed fault.NoReply) × (new ≡ o))
 
 -- it is a lag; its topic and its number go to the log alone
 abbrev pub IsLag : ConversationFault → Type 0

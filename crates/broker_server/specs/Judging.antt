@@ -4,7 +4,6 @@ use Rattle.stomp_frame.specs.declared.raw_frame.RawFrame.{RawFrame}
 use Rattle.stomp_session.specs.declared.action.Step.{Step}
 use Rattle.stomp_session.specs.Answers.{Accepts, Refuses}
 use Rattle.stomp_session.specs.Frames.{with_destination}
-use Rattle.stomp_session.specs.Names.{with_name}
 use Rattle.stomp_session.specs.Open.{SessionState, StandsFor, held_after}
 use Rattle.delivery.specs.declared.connection_fault.ConnectionFault.TheVariants.{Session}
 use Rattle.broker_server.specs.declared.conversation.conversation_fault.ConversationFault.{ConversationFault}
@@ -13,12 +12,6 @@ use Rattle.broker_server.specs.declared.conversation.conversation_fault.Conversa
 -- others stand behind these names, or none: A and B grow to A, B and C, and to A and B
 abbrev pub Grows : List (List ℕ) → List (List ℕ) → Type 0
 Grows names known = (more : List (List ℕ)) × (known ≡ names ++ more)
-
--- The names, with each of the others behind them that isn't there yet. So A and B with B and C are A, B and
--- C.
-abbrev pub with_names : List (List ℕ) → List (List ℕ) → List (List ℕ)
-with_names [] names = names
-with_names (name ∷ more) names = with_names more (with_name name names)
 
 -- By these names the session accepts the frame behind those that it accepted before, with this step; and the
 -- names are then with the frame's destination, if it has one.

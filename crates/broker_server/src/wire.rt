@@ -79,6 +79,7 @@ impl Wire {
 
     /// Puts the MESSAGE of an item's SEND, by its index, behind the octets that wait, with its EOL: for the subscription
     /// of this id, which asked for parts or didn't. After `NoMemory` nothing has changed.
+    #[inline(always)]
     pub fn put_message(
         &mut self,
         id: &[u8],

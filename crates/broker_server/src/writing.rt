@@ -20,6 +20,7 @@ fn put_with_eol(frame: &ServerFrame, out: &mut Octets) -> Result<(), NoMemory>
 }
 
 /// Appends the frame and its EOL. After `NoMemory` the octets are what they were.
+#[inline(always)]
 pub(crate) fn write_with_eol(frame: &ServerFrame, out: &mut Octets) -> Result<(), NoMemory>
     ensures ok { OnOk result (out.new ≡ out.old ++ spelling_with_eol (raw_of_server frame.now)) }
     ensures err { OnErr result (out.new ≡ out.old) }

@@ -6,10 +6,8 @@ use Rattle.std.specs.Option.{unwrap_or}
 use Rattle.std.specs.Map.{keys_of, lookup, remove_entry, values_of}
 use Rattle.std.specs.Str.{bytes_eq}
 use Rattle.indexmap.specs.IndexMap.{insert_entry, set_value_at}
-use Rattle.indexmap.specs.IndexSet.{insert_key}
 use Rattle.mcast_txn.specs.declared.draft.sent_message.SentMessage.{SentMessage}
-use Rattle.stomp_session.specs.Names.{is_known, index_of, with_name}
-use Rattle.stomp_session.specs.Inner.Stored.{octets_of, entries_of}
+use Rattle.stomp_session.specs.Inner.Stored.{entries_of}
 use Rattle.stomp_session.specs.Refusals.{is_open, sends_in}
 use Rattle.stomp_session.specs.Inner.Effects.{index_of_id, entries_without, with_send}
 
@@ -24,28 +22,6 @@ is_key id k = bytes_eq id k.items
 -- the keys have the same octets
 abbrev pub same_key : Key → Key → Bool
 same_key x y = bytes_eq x.items y.items
-
--- a name is known if and only if it is that of one of the keys
-pub is_known-octets_of : (name : List ℕ) (ks : List Key) → is_known name (octets_of ks) ≡ list_any (is_key name) ks
-is_known-octets_of name [] = refl
-is_known-octets_of name (k ∷ ks) = grind (arith, is_known-octets_of name ks)
-
-if_append : (b : Bool) (ks : List Key) (k : Key) → octets_of (if b then ks else ks ++ k ∷ []) ≡ (if b then octets_of ks else octets_of ks ++ k.items ∷ [])
-if_append true ks k = refl
-if_append false ks k = octets_of-append ks
-  where
-    octets_of-append : (xs : List Key) → octets_of (xs ++ k ∷ []) ≡ octets_of xs ++ k.items ∷ []
-    octets_of-append [] = refl
-    octets_of-append (x ∷ xs) = ap (λ ys. x.items ∷ ys) (octets_of-append xs)
-
--- inserting a key adds its name, unless it is there already
-pub octets_of-insert_key : (ks : List Key) (k : Key) → octets_of (insert_key same_key ks k) ≡ with_name k.items (octets_of ks)
-octets_of-insert_key ks k = if_append (list_any (same_key k) ks) ks k ∙ ap (λ b. if b then octets_of ks else octets_of ks ++ k.items ∷ []) (sym (is_known-octets_of k.items ks))
-
--- a name's index is that of its key
-pub index_of-octets_of : (name : List ℕ) (ks : List Key) → index_of name (octets_of ks) ≡ position_or_len (is_key name) ks
-index_of-octets_of name [] = refl
-index_of-octets_of name (k ∷ ks) = grind (arith, index_of-octets_of name ks)
 
 -- an id is open if and only if its key is found
 pub is_open-lookup : {X : Type 0} (id : List ℕ) (es : List (Key × X)) → is_open id (entries_of es) ≡ is_some (lookup (is_key id) es)

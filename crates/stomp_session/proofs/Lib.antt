@@ -1,5 +1,6 @@
 pub mod Asked
 pub mod Entries
+pub mod Firsts
 pub mod LeftOpen
 pub mod History
 pub mod Later

@@ -6,6 +6,8 @@ mod destination;
 mod fault;
 mod judged;
 pub mod law;
+mod name;
+mod name_set;
 mod names;
 mod opened;
 mod phase;

@@ -208,8 +208,7 @@ impl Session {
         if self.subscriptions.is_full() {
             return Err(SessionFault::TooManySubs);
         }
-        self.subscriptions
-            .open(id, topic, wants_parts(&frame.raw))?;
+        self.subscriptions.open(id, topic, wants_parts(&frame.raw))?;
         if is_new {
             names.add(frame.destination())?;
         }

@@ -10,4 +10,5 @@ mod names;
 mod parts;
 mod plain;
 mod session;
+mod shared;
 mod transactions;

@@ -1,9 +1,10 @@
 //! Taking what is there of the queues of a connection's subscriptions.
 
-ghost use Rattle.std.specs.Prelude.{◌≡◌, ◌≤◌, List, Some, IfErr, OnOk};
+ghost use Rattle.std.specs.Prelude.{◌≡◌, ◌≤◌, List, Some, drop, IfErr, IfOk, OnErr, OnOk};
+ghost use Rattle.delivery.specs.Core.Output.{messages_for};
 ghost use Rattle.broker_server.specs.BrokerRows.{AsksInOrder, BrokerRow};
 ghost use Rattle.broker_server.specs.Conversations.{unwritten};
-ghost use Rattle.broker_server.specs.Delivering.{BreaksOff, Drains, DrainsAll, DrainsOn, DrainsQueues, TellsLag, WritesAll, begins_at, has_item};
+ghost use Rattle.broker_server.specs.Delivering.{BreaksOff, Drains, DrainsAll, DrainsOn, DrainsQueues, FailsIn, StopsIn, TellsLag, WritesAll, begins_at, has_item};
 
 use crate::conversation::broker_calls::BrokerCalls;
 use crate::conversation::conversation_fault::ConversationFault;
@@ -11,7 +12,8 @@ use crate::conversation::drained::{Drained, Taking};
 use crate::conversation::item_rest::ItemRest;
 use crate::conversation::open_sub::OpenSub;
 use crate::wire::Wire;
-use mcast_txn::Topic;
+use mcast_txn::{Released, Topic};
+use stomp_frame::NoMemory;
 
 /// So many calls are made of one queue before another is taken, at most (our choice). An item writes an octet or
 /// more, so the wire is full before.
@@ -150,9 +152,8 @@ fn take_items<C: BrokerCalls>(
     Drained { any, end }
 }
 
-/// Writes the rest of an item, MESSAGE by MESSAGE, while few octets wait; or all of it while a transaction waits for
-/// room, which would have to wait for it, and others behind that. Refused by how it ended where some aren't written:
-/// those are left with the queue, or there was no memory for the next.
+/// Writes the rest of an item, as far as it is written now. Refused by how it ended where some MESSAGEs aren't: those are
+/// left with the queue, or there was no memory for the next.
 #[inline(always)]
 fn put_rest<C: BrokerCalls>(
     queue: &mut OpenSub<C>,
@@ -166,17 +167,39 @@ fn put_rest<C: BrokerCalls>(
         BreaksOff waits (unwritten queue.old.parts queue.old.id (Some rest)) queue.old wire.old end queue.new wire.new) }
 {
     let ItemRest { item, next } = rest;
-    for at in next..item.part.sends.len() {
-        if !waits && !wire.may_take() {
-            queue.rest = Some(ItemRest { item, next: at });
-            return Err(Taking::Halfway);
+    match put_messages(queue.id.as_slice(), queue.parts, &item, next, wire, waits) {
+        Ok(next) if next < item.part.sends.len() => {
+            queue.rest = Some(ItemRest { item, next });
+            Err(Taking::Halfway)
         }
-        let done = wire.put_message(queue.id.as_slice(), queue.parts, &item, at);
-        if done.is_err() {
-            return Err(Taking::Failed(ConversationFault::NoReply));
-        }
+        Ok(_) => Ok(()),
+        Err(NoMemory) => Err(Taking::Failed(ConversationFault::NoReply)),
     }
-    Ok(())
+}
+
+/// Writes an item's MESSAGEs from this one on, while few octets wait; or all of them while a transaction waits for room,
+/// which would have to wait for them, and others behind that. Which is the next that isn't written.
+#[inline(always)]
+fn put_messages(
+    id: &[u8],
+    parts: bool,
+    item: &Released,
+    next: usize,
+    wire: &mut Wire,
+    waits: bool,
+) -> Result<usize, NoMemory>
+    ensures ok { IfOk result (λ stopped. StopsIn waits (drop next (messages_for parts id.now item.now))
+        (drop stopped (messages_for parts id.now item.now)) wire.old wire.new) }
+    ensures err { OnErr result (FailsIn waits (drop next (messages_for parts id.now item.now)) wire.old wire.new) }
+{
+    let count = item.part.sends.len();
+    for at in next..count {
+        if !waits && !wire.may_take() {
+            return Ok(at);
+        }
+        wire.put_message(id, parts, item, at)?;
+    }
+    Ok(count)
 }
 
 /// What a queue at this topic comes to that has lagged, once it is empty and so many items were taken: a fault, but

@@ -1,30 +1,28 @@
 //! Topics that are made on first use.
 
-ghost use Rattle.std.specs.Prelude.{◌≡◌, ◌∷◌, ◌++◌, [], ◌<◌, ℕ, List, codes, drop, false, length, take, true, IfOk, IfErr, IfSome, OnOk, OnErr};
+ghost use Rattle.std.specs.Prelude.{◌≡◌, ◌∷◌, ◌++◌, [], ◌<◌, ℕ, List, codes, false, length, true, IfOk, IfErr, IfSome, OnOk, OnErr};
 ghost use Rattle.stomp_frame.specs.ClientFrames.{raw_of};
-ghost use Rattle.stomp_session.specs.Frames.{field, has_destination, with_destination};
+ghost use Rattle.stomp_session.specs.Frames.{field, has_destination};
 ghost use Rattle.stomp_session.specs.Names.{is_known, max_topics};
-ghost use Rattle.broker_server.specs.Judging.{Grows, IsFrameAccepted, IsFrameRefused, with_names};
+ghost use Rattle.broker_server.specs.Judging.{Grows, IsFrameAccepted, IsFrameRefused};
 
 use crate::conversation::ConversationFault;
-use delivery::{ConnectionFault, MAX_TOPICS};
-use mcast_txn::{NoMemory, Topic};
+use delivery::MAX_TOPICS;
+use mcast_txn::NoMemory;
 use stomp_frame::ClientFrame;
 use stomp_session::{Names, Session, Step, is_name};
 
-/// Puts the names of all topics that come after these, the first of them, behind these.
-fn catch_up(names: &mut Names, all: &Names) -> Result<(), NoMemory>
-    ensures front { OnOk result (names.new
-        ≡ with_names (drop (length names.old) (take max_topics all.now)) names.old) }
-    ensures grows { Grows names.old names.new }
+/// The names of all topics, which a connection shares that knows the first of them. That it does is looked at, though no
+/// topic is lost while the server runs: were it otherwise, it would be as where there is no memory.
+fn caught_up(names: &Names, all: &Names) -> Result<Names, NoMemory>
+    ensures known { IfOk result (λ known. known ≡ all.now) }
+    ensures grows { OnOk result (Grows names.now all.now) }
 {
-    for at in names.len()..all.len().min(MAX_TOPICS) {
-        let Some(name) = all.name(Topic(at as u32)) else {
-            unreachable!();
-        };
-        names.add(name)?;
+    if names.is_front_of(all) {
+        all.share()
+    } else {
+        Err(NoMemory)
     }
-    Ok(())
 }
 
 /// The destination of a SEND or a SUBSCRIBE.
@@ -53,6 +51,13 @@ fn new_name<'a>(all: &Names, frame: &'a ClientFrame) -> Option<&'a [u8]>
     }
 }
 
+/// Whether a frame may make a topic, where these are the names of all.
+pub(crate) fn may_make(all: &Names, frame: &ClientFrame) -> bool
+    ensures { result ≡ true → length all.now < max_topics }
+{
+    new_name(all, frame).is_some()
+}
+
 /// Puts the name of the topic that a frame may make behind those of all topics; whether there is one.
 fn add_new(all: &mut Names, frame: &ClientFrame) -> Result<bool, NoMemory>
     ensures made { IfOk result (λ made. made ≡ true
@@ -67,40 +72,60 @@ fn add_new(all: &mut Names, frame: &ClientFrame) -> Result<bool, NoMemory>
     Ok(true)
 }
 
-/// Has the session take a frame by the names of all topics, to which those of a connection catch up. Its destination is
-/// a new topic's name where the session accepts it; and whether it is.
+/// Has the session take a frame by the names of all topics, which the connection knows then where it is accepted.
+pub(crate) fn step_by(
+    all: &Names,
+    session: &mut Session,
+    frame: ClientFrame,
+    names: &mut Names,
+) -> Result<Step, (ClientFrame, ConversationFault)>
+    ensures accepted { IfOk result (λ step. Grows names.old all.now
+        × IsFrameAccepted (raw_of frame) step session.old all.now session.new names.new) }
+    ensures refused { IfErr result (λ e. (known : List (List ℕ)) × Grows names.old known
+        × IsFrameRefused (raw_of frame) e.1 session.old known) }
+    ensures back { IfErr result (λ e. e.0 ≡ frame) }
+{
+    let Ok(mut known) = caught_up(names, all) else {
+        return Err((frame, ConversationFault::NoMemory));
+    };
+    match session.step(frame, &mut known) {
+        Ok(step) => {
+            *names = known;
+            Ok(step)
+        }
+        Err((frame, fault)) => Err((frame, ConversationFault::from(fault))),
+    }
+}
+
+/// Has the session take a frame by the names of all topics, among which its destination is then, where it may be a new
+/// topic's: it stays where the session accepts the frame. Where it does, the connection knows them all; and whether a
+/// topic was made.
 pub(crate) fn step_by_all(
     all: &mut Names,
     session: &mut Session,
     frame: ClientFrame,
     names: &mut Names,
 ) -> (Result<Step, (ClientFrame, ConversationFault)>, bool)
-    ensures accepted { IfOk result.0 (λ step. (known : List (List ℕ)) × Grows names.old known
-        × IsFrameAccepted (raw_of frame) step session.old known session.new names.new) }
+    ensures accepted { IfOk result.0 (λ step. Grows names.old all.new
+        × IsFrameAccepted (raw_of frame) step session.old all.new session.new names.new) }
     ensures refused { IfErr result.0 (λ e. (known : List (List ℕ)) × Grows names.old known
         × IsFrameRefused (raw_of frame) e.1 session.old known) }
     ensures back { IfErr result.0 (λ e. e.0 ≡ frame) }
-    ensures front { OnOk result.0 (names.new ≡ with_destination (raw_of frame)
-        (with_names (drop (length names.old) (take max_topics all.old)) names.old)) }
     ensures made { result.1 ≡ true
         → all.new ≡ all.old ++ field (codes "destination") (raw_of frame) ∷ [] }
     ensures same { result.1 ≡ false → all.new ≡ all.old }
     ensures unmade { OnErr result.0 (result.1 ≡ false) }
 {
-    if catch_up(names, all).is_err() {
-        return (Err((frame, ConversationFault::NoMemory)), false);
-    }
     let Ok(made) = add_new(all, &frame) else {
         return (Err((frame, ConversationFault::NoMemory)), false);
     };
-    match session.step(frame, names) {
+    match step_by(all, session, frame, names) {
         Ok(step) => (Ok(step), made),
-        Err((frame, fault)) => {
+        Err(refused) => {
             if made {
                 all.take_back();
             }
-            let fault = ConversationFault::Connection(ConnectionFault::Session(fault));
-            (Err((frame, fault)), false)
+            (Err(refused), false)
         }
     }
 }

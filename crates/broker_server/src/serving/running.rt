@@ -9,7 +9,7 @@ ghost use Rattle.broker_server.specs.Judging.{Grows, IsFrameAccepted, IsFrameRef
 
 use crate::conversation::ConversationFault;
 use crate::serving::hub::MAX_CONNECTIONS;
-use crate::serving::naming::step_by_all;
+use crate::serving::naming::{may_make, step_by, step_by_all};
 use crate::serving::room_made::RoomMade;
 use broker_locks::{Broker, ServerFault, Side, Worker};
 use delivery::{MAX_TOPICS, Topics};
@@ -44,7 +44,8 @@ impl<R: Wait, W: Side, T: Side> Running<R, W, T> {
         })
     }
 
-    /// Has the session take a frame by the names of all topics, as `step_by_all` does.
+    /// Has the session take a frame by the names of all topics, as `step_by_all` does. The lock is held only while it may
+    /// make one; whoever learns their names has the list alone.
     pub(crate) fn step(
         &self,
         rt: &R,
@@ -58,9 +59,21 @@ impl<R: Wait, W: Side, T: Side> Running<R, W, T> {
             × IsFrameRefused (raw_of frame) e.1 session.old known) }
         ensures back { IfErr result.0 (λ e. e.0 ≡ frame) }
     {
+        let Ok(known) = self.all_names(rt) else {
+            return (Err((frame, ConversationFault::NoMemory)), false);
+        };
+        if !may_make(&known, &frame) {
+            return (step_by(&known, session, frame, names), false);
+        }
+        drop(known);
         let mut all = self.names.lock(rt);
         let all = &mut *all;
         step_by_all(all, session, frame, names)
+    }
+
+    /// The names of all topics, shared.
+    fn all_names(&self, rt: &R) -> Result<Names, NoMemory> {
+        self.names.lock(rt).share()
     }
 
     /// How many topics have a name.

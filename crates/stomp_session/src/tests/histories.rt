@@ -64,10 +64,7 @@ impl Seen {
 
     /// Whether each action came, and what is to come beside them.
     fn has_all_else(&self) -> bool {
-        self.actions.iter().all(|came| *came)
-            && self.at_three
-            && self.made_four
-            && self.asked
+        self.actions.iter().all(|came| *came) && self.at_three && self.made_four && self.asked
     }
 
     fn refusal(&mut self, number: u32) {
@@ -150,10 +147,12 @@ impl History {
         let made = next_frame(&mut self.draws, &self.past, index);
         let agrees = self.agrees_on(alloc, &made, seen)?;
         self.past.put(&made)?;
-        Ok(agrees
-            && self.names.len() == self.past.topics() as usize
-            && self.asks_alike(&made, b'a', seen)
-            && self.asks_alike(&made, b'b', seen))
+        Ok(
+            agrees
+                && self.names.len() == self.past.topics() as usize
+                && self.asks_alike(&made, b'a', seen)
+                && self.asks_alike(&made, b'b', seen),
+        )
     }
 
     /// Whether the session of a frame's connection says of the subscription of this id what the list says.

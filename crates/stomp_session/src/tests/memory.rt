@@ -317,3 +317,21 @@ fn names_without_memory(rt: HostRuntime) -> Result<(), Fail> {
     assert!(rt; are_added(&mut names, all)? && are_names(&names, all));
     Ok(())
 }
+
+/// Adds a name to names that others have, too. Where it isn't added, whether both are what they were.
+fn is_added_here(names: &mut Names, before: &[&[u8]], name: &[u8]) -> Result<bool, NoMemory> {
+    let others = names.share()?;
+    let is_added = is_added(names, before, name)?;
+    Ok(is_added && are_names(&others, before))
+}
+
+/// The same where others share the names, so that the list of them is copied.
+#[test]
+fn shared_names_without_memory(rt: HostRuntime) -> Result<(), Fail> {
+    let mut names = Names::new(rt.alloc());
+    assert!(rt; is_added_here(&mut names, &[], b"A")?);
+    assert!(rt; is_added_here(&mut names, &[b"A"], b"B")?);
+    assert!(rt; is_added_here(&mut names, &[b"A", b"B"], b"C")?);
+    assert!(rt; are_names(&names, &[b"A", b"B", b"C"]));
+    Ok(())
+}

@@ -1,14 +1,29 @@
-use Rattle.std.proofs.Common.{◌∙◌, sym}
-use Rattle.stomp_session.proofs.Entries.{is_known-octets_of, index_of-octets_of, position-Some, is_key}
+use Rattle.std.proofs.Common.{◌≡◌, ◌∙◌, Bool, nat_lt, true, false, sym, arith}
+use Rattle.stomp_session.specs.Inner.Stored.{names_in}
+use Rattle.stomp_session.proofs.Firsts.{index_in_front, known_in_front, unknown_in_front}
 use Rattle.stomp_session.proofs.names.Names.find.Goals as goal
 
 pub returns-in_err-index-clause-known : goal.returns-in_err-index-clause-known
-returns-in_err-index-clause-known c = rw (c.from_residual.ensures, ← c.self.view_is, is_known-octets_of, ← c.get_index_of.ensures.found, c.in_err-index.was)
+returns-in_err-index-clause-known c =
+    let names = names_in c.self.inside.shared in
+    rw (c.from_residual.ensures, ← c.self.view_is) (sym (unknown_in_front c.args.name.now names c.self.inside.count (sym c.index_in.ensures ∙ c.in_err-index.was) c.self.invariant.0))
 
-pub returns-clause-known : goal.returns-clause-known
-returns-clause-known c = rw (← c.self.view_is, is_known-octets_of, ← c.get_index_of.ensures.found, c.in_ok-index.was)
+pub returns-then-index-self-clause-known : goal.returns-then-index-self-clause-known
+returns-then-index-self-clause-known c =
+    let names = names_in c.self.inside.shared in
+    let at = c.in_ok-index.index in
+    let within : nat_lt at c.self.inside.count ≡ true = grind (arith, c.if-index-self.true) in
+    rw (← c.self.view_is) (sym (known_in_front c.args.name.now names c.self.inside.count at (sym c.index_in.ensures ∙ c.in_ok-index.was) c.self.invariant.0 ∙ within))
 
-pub returns-clause-index : goal.returns-clause-index
-returns-clause-index c =
-    let keys = c.self.inside.names.keys in
-    rw (← c.self.view_is, index_of-octets_of c.args.name.now keys) (position-Some (is_key c.args.name.now) keys c.in_ok-index.index (sym c.get_index_of.ensures.index ∙ c.in_ok-index.was))
+pub returns-then-index-self-clause-index : goal.returns-then-index-self-clause-index
+returns-then-index-self-clause-index c =
+    let names = names_in c.self.inside.shared in
+    let at = c.in_ok-index.index in
+    rw (← c.self.view_is) (sym (index_in_front c.args.name.now names c.self.inside.count at (sym c.index_in.ensures ∙ c.in_ok-index.was) c.if-index-self.true))
+
+pub returns-else-index-self-clause-known : goal.returns-else-index-self-clause-known
+returns-else-index-self-clause-known c =
+    let names = names_in c.self.inside.shared in
+    let at = c.in_ok-index.index in
+    let beyond : nat_lt at c.self.inside.count ≡ false = grind (arith, c.if-index-self.false) in
+    rw (← c.self.view_is) (sym (known_in_front c.args.name.now names c.self.inside.count at (sym c.index_in.ensures ∙ c.in_ok-index.was) c.self.invariant.0 ∙ beyond))
