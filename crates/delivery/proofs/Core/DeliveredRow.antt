@@ -2,8 +2,8 @@
 -- that it refuses: of a closed subscription that stays open, of lags that are none, of one that is left out, of Takes that had
 -- no item, and without logs or a queue's item.
 use Rattle.std.proofs.Common.{inl, inr, refl, sym, ap, subst, ◌∙◌, arith, cond}
-use Rattle.std.proofs.lemmas.Bool.{false≢true}
-use Rattle.std.specs.Prelude.{◌≡◌, ℕ, zero, suc, ◌+◌, ◌≤◌, ◌++◌, Bool, true, false, length, map, slice_get, List, [], ◌∷◌, codes, Option, Some, None}
+use Rattle.std.proofs.lemmas.Bool.{true≢false}
+use Rattle.std.specs.Prelude.{◌≡◌, ℕ, zero, suc, ◌==◌, ◌+◌, ◌≤◌, ◌++◌, Bool, true, false, ◌||◌, length, map, take, slice_get, List, [], ◌∷◌, codes, Option, Some, None}
 use Rattle.mcast_txn.specs.Agreed.{CommitRow, Transaction}
 use Rattle.mcast_txn.specs.Lists.{In}
 use Rattle.mcast_txn.specs.TopicSet.{names}
@@ -26,7 +26,7 @@ use Rattle.delivery.specs.Core.Delivery.{Delivers}
 use Rattle.delivery.specs.Core.Answered.{IsAsAnswered, DeliversAnswers}
 use Rattle.delivery.proofs.Core.Acts.{topic, stamp, id, made, part, log_row as row, A}
 use Rattle.delivery.proofs.Core.Rows.{ends}
-use Rattle.delivery.proofs.Core.ToldEnds.{in_ends, silent_at}
+use Rattle.delivery.proofs.Core.ToldEnds.{no_match, in_ends, silent_at}
 use Rattle.delivery.proofs.Core.DeliveredAsTold.{EndsAt, delivered_told}
 
 abbrev item : Item
@@ -56,10 +56,6 @@ report = record {
 ends_report : report_of ends ≡ report
 ends_report = refl
 
-logs : (n : ℕ) → log_in report (topic n) ≡ released_log (topic n) told
-logs zero = refl
-logs (suc n) = refl
-
 -- its one subscription
 abbrev ended : Option Stamp → Option Cause → QueueReport
 ended to cause = record { topic = topic 0; from = stamp 0 0; to = to; cause = cause; queued = item ∷ []; handed = [] }
@@ -67,6 +63,18 @@ ended to cause = record { topic = topic 0; from = stamp 0 0; to = to; cause = ca
 -- the one row that was committed
 abbrev only_row : CommitRow
 only_row = record { txn = record { id = id 0 1; sends = made 0 ((codes "destination", A) ∷ []) (codes "m") ∷ [] }; stamp = stamp 1 0 }
+
+-- no other topic has it
+elsewhere : (n : ℕ) → (0 == suc n) ≡ false
+elsewhere n = no_match 0 (suc n) (λ e. absurd (omega (arith, e)))
+
+not_there : (b : Bool) → b ≡ false → ◌≡◌ {A = List LogRow} [] (take (cond b 1 0) (map log_row (cond (b || false) (only_row ∷ []) [])))
+not_there true e = absurd (true≢false e)
+not_there false e = refl
+
+logs : (n : ℕ) → log_in report (topic n) ≡ released_log (topic n) told
+logs zero = refl
+logs (suc n) = not_there (0 == suc n) (elsewhere n)
 
 -- it alone may be due
 one_due : (b : Bool) (n : ℕ) → length (map (item_at (topic 0)) (cond b (only_row ∷ []) [])) ≤ n + 64
@@ -100,7 +108,8 @@ in_one_order p q (inr none) j = absurd none
 is_logged : (n : ℕ) (row : CommitRow) → In row (commits_of told) → names (topic n) (topics_of row.txn.sends) ≡ true → In (log_row row) (log_in report (topic n))
 is_logged zero row (inl e) named = subst (λ (r : CommitRow). In (log_row r) (log_in report (topic 0))) e (inl refl)
 is_logged zero row (inr none) named = absurd none
-is_logged (suc n) row (inl e) named = absurd (false≢true (ap (λ (r : CommitRow). names (topic (suc n)) (topics_of r.txn.sends)) e ∙ named))
+is_logged (suc n) row (inl e) named =
+    absurd (true≢false (sym (ap (λ (r : CommitRow). names (topic (suc n)) (topics_of r.txn.sends)) e ∙ named) ∙ ap (λ (b : Bool). b || false) (elsewhere n)))
 is_logged (suc n) row (inr none) named = absurd none
 
 -- topic 0 is settled: its one transaction was decided, and a turn came after

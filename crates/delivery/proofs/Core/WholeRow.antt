@@ -1,12 +1,12 @@
 -- One whole delivery: a connection subscribes to two topics, commits a transaction to both, is delivered an item of the first,
 -- and unsubscribes from it; its queue of the second, which takes one item, lags as a second transaction comes.
 use Rattle.std.proofs.Common.{inl, inr, refl, sym, ap, subst, ◌∙◌, arith, cond}
-use Rattle.std.specs.Prelude.{◌≡◌, ℕ, zero, suc, nat_lt, ◌==◌, ◌<◌, ◌≤◌, ◌+◌, ◌++◌, length, map, Bool, true, false, if◌then◌else◌, slice_get, List, [], ◌∷◌, codes, Ok, Some}
+use Rattle.std.specs.Prelude.{◌≡◌, ℕ, zero, suc, nat_lt, ◌==◌, ◌<◌, ◌≤◌, ◌+◌, ◌++◌, ◌||◌, length, map, take, Bool, true, false, if◌then◌else◌, slice_get, List, [], ◌∷◌, codes, Ok, Some}
 use Rattle.std.specs.Fmt.{digits}
 use Rattle.std.specs.Option.{option_to_list}
 use Rattle.std.specs.Str.{is_utf8, chars}
 use Rattle.std.specs.Char.{encode_utf8}
-use Rattle.std.proofs.lemmas.Bool.{false≢true}
+use Rattle.std.proofs.lemmas.Bool.{false≢true, true≢false}
 use Rattle.stomp_escape.specs.Inner.Unescaping.{unescaped_from}
 use Rattle.stomp_frame.specs.declared.raw_frame.RawFrame.{RawFrame}
 use Rattle.stomp_frame.specs.declared.command.Command.TheVariants as commands
@@ -17,7 +17,7 @@ use Rattle.mcast_txn.specs.declared.id.TxnId.{TxnId}
 use Rattle.mcast_txn.specs.declared.stamp.Stamp.{Stamp}
 use Rattle.mcast_txn.specs.Agreed.{CommitRow, Transaction, committed_id, stamp_of, agreed, EachOnce, SenderOrder}
 use Rattle.mcast_txn.specs.Lists.{In}
-use Rattle.mcast_txn.specs.Span.{Item}
+use Rattle.mcast_txn.specs.Span.{Item, LogRow}
 use Rattle.mcast_txn.specs.TopicSet.{names}
 use Rattle.mcast_txn.specs.Transaction.{topics_of}
 use Rattle.mcast_group.specs.declared.cause.Cause.TheVariants.{Asked, Lag}
@@ -40,7 +40,7 @@ use Rattle.delivery.specs.Core.Told.{Told, told_of}
 use Rattle.delivery.specs.Core.Delivery.{Delivery}
 use Rattle.delivery.specs.Core.Answered.{IsAsAnswered, DeliversAnswers}
 use Rattle.delivery.proofs.Core.Acts.{Act, topic_list, played, act, reads, frame, connect, subscribe, begin, send_in, send, commit, propose, turn, topic, stamp, id, made, part, x_to, shown_outcomes, log_row as row, A, B}
-use Rattle.delivery.proofs.Core.ToldEnds.{in_ends, not_silent, silent_at}
+use Rattle.delivery.proofs.Core.ToldEnds.{no_match, in_ends, not_silent, silent_at}
 use Rattle.delivery.proofs.Core.DeliveredAsTold.{EndsAt, delivered_told}
 
 -- ---- the run
@@ -283,10 +283,21 @@ once = (
 in_order : SenderOrder committed_id (agreed (commits_of told))
 in_order = ((λ y k same. elim k [ inl e ↦ subst (λ (z : CommitRow). nat_lt 1 z.txn.id.seq ≡ true) e refl | inr none ↦ absurd none ]), ((λ y k same. absurd k), tt))
 
+-- no other topic has a row
+elsewhere : (n : ℕ) → ((0 == suc (suc n)) ≡ false) × ((1 == suc (suc n)) ≡ false)
+elsewhere n = (no_match 0 (suc (suc n)) (λ e. absurd (omega (arith, e))), no_match 1 (suc (suc n)) (λ e. absurd (omega (arith, e))))
+
+not_there : (a b : Bool) → a ≡ false → b ≡ false
+    → ◌≡◌ {A = List LogRow} [] (take (cond b (cond b (cond a 1 0 + 1) (cond a 1 0) + 1) (cond b (cond a 1 0 + 1) (cond a 1 0)))
+    (map log_row (cond (a || (b || false)) (first_row ∷ cond (b || false) (second_row ∷ []) []) (cond (b || false) (second_row ∷ []) []))))
+not_there true b e d = absurd (true≢false e)
+not_there false true e d = absurd (true≢false d)
+not_there false false e d = refl
+
 logs : (n : ℕ) → log_in report (topic n) ≡ released_log (topic n) told
 logs zero = refl
 logs (suc zero) = refl
-logs (suc (suc n)) = refl
+logs (suc (suc n)) = not_there (0 == suc (suc n)) (1 == suc (suc n)) (elsewhere n).0 (elsewhere n).1
 
 -- where one row is due at most, a queue of one item is bounded
 one_due : (b : Bool) (row : CommitRow) (t : Topic) (n : ℕ) → length (map (item_at t) (cond b (row ∷ []) [])) ≤ n + 1
@@ -360,8 +371,11 @@ is_logged zero r (inr (inr none)) named = absurd none
 is_logged (suc zero) r (inl e) named = subst (λ (z : CommitRow). In (log_row z) (log_in report (topic 1))) e (inl refl)
 is_logged (suc zero) r (inr (inl e)) named = subst (λ (z : CommitRow). In (log_row z) (log_in report (topic 1))) e (inr (inl refl))
 is_logged (suc zero) r (inr (inr none)) named = absurd none
-is_logged (suc (suc n)) r (inl e) named = absurd (false≢true (ap (λ (z : CommitRow). names (topic (suc (suc n))) (topics_of z.txn.sends)) e ∙ named))
-is_logged (suc (suc n)) r (inr (inl e)) named = absurd (false≢true (ap (λ (z : CommitRow). names (topic (suc (suc n))) (topics_of z.txn.sends)) e ∙ named))
+is_logged (suc (suc n)) r (inl e) named =
+    absurd (true≢false (sym (ap (λ (z : CommitRow). names (topic (suc (suc n))) (topics_of z.txn.sends)) e ∙ named)
+    ∙ (ap (λ (b : Bool). b || ((1 == suc (suc n)) || false)) (elsewhere n).0 ∙ ap (λ (b : Bool). b || false) (elsewhere n).1)))
+is_logged (suc (suc n)) r (inr (inl e)) named =
+    absurd (true≢false (sym (ap (λ (z : CommitRow). names (topic (suc (suc n))) (topics_of z.txn.sends)) e ∙ named) ∙ ap (λ (b : Bool). b || false) (elsewhere n).1))
 is_logged (suc (suc n)) r (inr (inr none)) named = absurd none
 
 -- no item came after a close
