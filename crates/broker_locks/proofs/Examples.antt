@@ -139,7 +139,7 @@ subscribed = place_after_subscribe 5 queue_of_four place
 ended_twice : EndsInOrder (λ (s : Shown). s) (5 ∷ 5 ∷ []) (Ok (record { to = zero_stamp; outlet = record { accepted = []; gauge = queue_of_four }; cause = cause.Asked }) ∷ Err (record {}) ∷ [])
     subscribed (place_after_unsubscribe 5 subscribed)
 ended_twice =
-    let left = record { entry = record { number = 5; from = zero_stamp; to = None; accepted = [] }; gauge = queue_of_four; found = refl; gauged = refl; shows_it = refl; end = refl; why = refl } in
+    let left : HasLeft 5 subscribed.cells.group (record { accepted = []; gauge = queue_of_four }) zero_stamp cause.Asked = record { entry = record { number = 5; from = zero_stamp; to = None; accepted = [] }; gauge = queue_of_four; found = refl; gauged = refl; shows_it = refl; end = refl; why = refl } in
     (place_after_unsubscribe 5 subscribed, (left, refl), (place_after_unsubscribe 5 subscribed, (refl, refl), refl))
 
 -- ---- a kept trace
