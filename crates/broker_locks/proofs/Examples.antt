@@ -16,6 +16,7 @@ use Rattle.mcast_txn.specs.Lists.{In}
 use Rattle.mcast_txn.specs.Stamp.{zero_stamp}
 use Rattle.sub_queue.specs.Shown.{Gauge, Shown}
 use Rattle.mcast_group.specs.declared.cause.Cause.TheVariants as cause
+use Rattle.mcast_group.specs.Group.{HasLeft}
 use Rattle.mcast_group.specs.CellGroup.{CellGroupState, IsRead, ReadsOwn, Waiting}
 use Rattle.mcast_group.specs.Machine.{Pending, TopicState, after_turn, new_topic}
 use Rattle.mcast_txn.specs.declared.mark.Mark.{Mark}
