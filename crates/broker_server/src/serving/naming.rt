@@ -74,6 +74,7 @@ fn add_new(all: &mut Names, frame: &ClientFrame) -> Result<bool, NoMemory>
 }
 
 /// Has the session take a frame by the names of all topics, which the connection knows then where it is accepted.
+#[inline(always)]
 pub(crate) fn step_by(
     all: &Names,
     session: &mut Session,
