@@ -16,6 +16,7 @@ use Rattle.mcast_txn.specs.Lists.{In}
 use Rattle.mcast_txn.specs.Stamp.{zero_stamp}
 use Rattle.sub_queue.specs.Shown.{Gauge, Shown}
 use Rattle.mcast_group.specs.declared.cause.Cause.TheVariants as cause
+use Rattle.mcast_group.specs.Group.{HasLeft}
 use Rattle.mcast_group.specs.CellGroup.{CellGroupState, IsRead, ReadsOwn, Waiting}
 use Rattle.mcast_group.specs.Machine.{Pending, TopicState, after_turn, new_topic}
 use Rattle.mcast_txn.specs.declared.mark.Mark.{Mark}
@@ -139,7 +140,7 @@ subscribed = place_after_subscribe 5 queue_of_four place
 ended_twice : EndsInOrder (λ (s : Shown). s) (5 ∷ 5 ∷ []) (Ok (record { to = zero_stamp; outlet = record { accepted = []; gauge = queue_of_four }; cause = cause.Asked }) ∷ Err (record {}) ∷ [])
     subscribed (place_after_unsubscribe 5 subscribed)
 ended_twice =
-    let left = record { entry = record { number = 5; from = zero_stamp; to = None; accepted = [] }; gauge = queue_of_four; found = refl; gauged = refl; shows_it = refl; end = refl; why = refl } in
+    let left : HasLeft 5 subscribed.cells.group (record { accepted = []; gauge = queue_of_four }) zero_stamp cause.Asked = record { entry = record { number = 5; from = zero_stamp; to = None; accepted = [] }; gauge = queue_of_four; found = refl; gauged = refl; shows_it = refl; end = refl; why = refl } in
     (place_after_unsubscribe 5 subscribed, (left, refl), (place_after_unsubscribe 5 subscribed, (refl, refl), refl))
 
 -- ---- a kept trace
