@@ -162,20 +162,14 @@ const WITHOUT_HOST: &Run = &Run {
     topics: &[(b"A", 0)],
     rows: &[
         (Open, "conn 0"),
-        (
-            Frame(0, b"CONNECT\naccept-version:1.2\n\n\0"),
-            "error 22",
-        ),
+        (Frame(0, b"CONNECT\naccept-version:1.2\n\n\0"), "error 22"),
         (Open, "conn 1"),
         (
             Frame(1, b"STOMP\naccept-version:1.0, 1.2 \n\n\0"),
             "error 22",
         ),
         (Open, "conn 2"),
-        (
-            Frame(2, b"CONNECT\naccept-version:1.1\n\n\0"),
-            "error 22",
-        ),
+        (Frame(2, b"CONNECT\naccept-version:1.1\n\n\0"), "error 22"),
         (Open, "conn 3"),
         (Frame(3, b"CONNECT\n\n\0"), "error 22"),
         (Open, "conn 4"),
