@@ -80,7 +80,7 @@ all_places : places_for 64 (9 * mebi) ≡ 64
 all_places = refl
 
 have_ranks : HaveRanks 64 1 (6 * mebi ∷ 8 * mebi ∷ mebi ∷ [])
-have_ranks = (omega arith, omega arith, omega arith, tt)
+have_ranks = (omega arith, (omega arith, (omega arith, tt)))
 
 have_none : HaveRanks 64 1 (6 * mebi ∷ mebi ∷ 8 * mebi ∷ []) → Prim.⊥
 have_none h = (let third = h.1.1.0 in omega (arith, third))

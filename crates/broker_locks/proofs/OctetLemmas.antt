@@ -102,11 +102,10 @@ most_from k (suc n) = most_octets / k + most_from (k + 1) n
 sum_bounds : (capacity k n : ℕ) (parts : List ℕ) → capacity ≤ 64 → 2 ≤ k → k + n ≡ 65 → HaveRanks capacity k parts → sum parts ≤ most_from k n
 sum_bounds capacity k n [] few two is h = omega arith
 sum_bounds capacity k zero (p ∷ parts) few two is h =
-    let within = rank_within capacity p in
-    absurd (too_high k (highest_rank capacity p) h.0 within)
+    absurd (too_high k capacity (highest_rank capacity p) is few h.0 (rank_within capacity p))
   where
-    too_high : (a r : ℕ) → a ≤ r → r ≤ capacity → Prim.⊥
-    too_high a r l m = omega (arith, l, m, is, few)
+    too_high : (a c r : ℕ) → a + 0 ≡ 65 → c ≤ 64 → a ≤ r → r ≤ c → Prim.⊥
+    too_high a c r e f l m = omega (arith, e, f, l, m)
 sum_bounds capacity k (suc n) (p ∷ parts) few two is h =
     let rest = sum_bounds capacity (k + 1) n parts few (omega (arith, two)) (omega (arith, is)) h.1 in
     let product : p * k ≤ most_octets = (let b = rank_bounds capacity p k two h.0 in let turned : p * k ≡ k * p = omega arith in omega (arith, b, turned)) in
@@ -116,7 +115,7 @@ sum_bounds capacity k (suc n) (p ∷ parts) few two is h =
 
 -- those from the second to the 64th rank have at most 64 MiB
 most_behind : most_from 2 63 ≤ 64 * 1048576
-most_behind = omega arith
+most_behind = (let is : most_from 2 63 ≡ 66737794 = refl in omega (arith, is))
 
 largest_first : (p : ℕ) (parts : List ℕ) → p ≤ largest (p ∷ parts)
 largest_first p parts = omega arith

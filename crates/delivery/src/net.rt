@@ -121,7 +121,7 @@ impl Net {
 
     /// What came of all events so far. The first three clauses say what was delivered: the kept run is that of the
     /// steps; what was read of each connection are the first frames of its octets; and the report is what the steps
-    /// tell to deliver. A reader may stop after them, having read 492 lines of definitions (docs/ORDERING.md, "An
+    /// tell to deliver. A reader may stop after them, having read 495 lines of definitions (docs/ORDERING.md, "An
     /// expert's hour"). Then: what was written to each connection; and that the steps are a run of the core, whose
     /// report this is. It takes no memory, and nothing is copied.
     pub fn report(&self) -> Report<'_>

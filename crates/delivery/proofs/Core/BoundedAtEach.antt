@@ -1,6 +1,6 @@
 -- At no moment of a run did a queue have more than its capacity that wasn't delivered: what its subscription is due up to its
 -- topic's frontier then.
-use Rattle.std.proofs.Common.{◌≡◌, ℕ, zero, suc, ◌+◌, ◌<◌, ◌≤◌, Bool, true, false, cond, not, ◌&&◌, ◌⊎◌, inl, inr, List, [], ◌∷◌, ◌++◌, map, length, Option, Some, None, refl, sym, ap, subst, ◌∙◌, arith, append-nil}
+use Rattle.std.proofs.Common.{◌≡◌, ℕ, ◌+◌, ◌<◌, ◌≤◌, Bool, true, false, cond, not, ◌&&◌, ◌⊎◌, inl, inr, List, [], ◌∷◌, ◌++◌, map, length, Option, Some, None, refl, sym, ap, subst, ◌∙◌, arith, append-nil}
 use Rattle.std.specs.List.{filter}
 use Rattle.std.proofs.lemmas.Bool.{true≢false, and_parts, and_from, cases_lt}
 use Rattle.std.proofs.lemmas.List.Elements.{filter-append}
@@ -15,10 +15,9 @@ use Rattle.mcast_txn.specs.Transaction.{topics_of}
 use Rattle.mcast_txn.proofs.Members.{In-append_right, filter_same, filter_none, filter_twice}
 use Rattle.mcast_txn.proofs.Orders.{lt_irrefl, le_lt, le_trans, zero_least}
 use Rattle.mcast_group.specs.Sound.{IsQueueOf}
-use Rattle.mcast_group.specs.Machine.{TopicState}
 use Rattle.delivery.specs.Theorem.Due.{item_at, is_due, due}
 use Rattle.delivery.specs.Machine.World.{World, start, topic_at, subscription_at}
-use Rattle.delivery.specs.Machine.Observed.{accepted_at, end_at, span_at, log_at, frontier_at}
+use Rattle.delivery.specs.Machine.Observed.{accepted_at, end_at, span_at, frontier_at}
 use Rattle.delivery.specs.Machine.Moves.{Move, Answer, world_after, answer_to}
 use Rattle.delivery.specs.Machine.Runs.{commits_of, delivered_items}
 use Rattle.delivery.specs.Theorem.Laws.{Run, answers_of, final_world}

@@ -5,7 +5,7 @@ use Rattle.std.specs.Prelude.{take, slice_get}
 use Rattle.mcast_txn.specs.declared.id.Topic.{Topic}
 use Rattle.mcast_txn.specs.declared.stamp.Stamp.{Stamp}
 use Rattle.mcast_txn.specs.Stamp.{zero_stamp, stamp_lt}
-use Rattle.mcast_txn.specs.Agreed.{CommitRow, Transaction, committed_id, stamp_of, agreed, EachOnce, SenderOrder}
+use Rattle.mcast_txn.specs.Agreed.{CommitRow, committed_id, stamp_of, agreed, EachOnce, SenderOrder}
 use Rattle.mcast_txn.specs.Lists.{In}
 use Rattle.mcast_txn.specs.Span.{Item, LogRow, last_stamp}
 use Rattle.mcast_group.specs.declared.cause.Cause.TheVariants.{Asked}

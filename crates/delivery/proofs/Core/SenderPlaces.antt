@@ -3,7 +3,7 @@ use Rattle.std.proofs.Common.{◌≡◌, ℕ, suc, ◌+◌, Bool, true, false, c
 use Rattle.std.specs.List.{list_any, position_or_len}
 use Rattle.std.specs.Str.{bytes_eq}
 use Rattle.sender_gate.proofs.KeptLemmas.{same_octets}
-use Rattle.delivery.specs.Core.Claims.{Claim, has_client, is_kept, begins, begun_count, kept_sender, is_one_client, senders_of}
+use Rattle.delivery.specs.Core.Claims.{Claim, is_kept, begun_count, kept_sender, is_one_client, senders_of}
 
 -- ---- lists
 

@@ -2,7 +2,6 @@ use Rattle.std.proofs.Common.{◌≡◌, ◌∙◌, ◌<◌, ◌++◌, ◌∷◌
 use Rattle.std.proofs.lemmas.List.{take_more}
 use Rattle.std.proofs.lemmas.Option.{get_or_from_slice_get, slice_get-get_or}
 use Rattle.std.specs.Arc.{arc_value}
-use Rattle.stomp_session.specs.Inner.Stored.{names_of}
 use Rattle.stomp_session.proofs.Firsts.{length-names_of, name_at}
 use Rattle.stomp_session.proofs.name_set.NameSet.copy.Goals as goal
 

@@ -1,7 +1,6 @@
 use Rattle.std.proofs.Common.{◌≡◌, ◌∙◌, ℕ, List, None, Some, ap, refl, sym, nat_eq, slice_get}
 use Rattle.std.specs.Cmp.Lexicographic.{nat_list_eq_equiv}
 use Rattle.std.specs.Map.{lookup}
-use Rattle.std.specs.Str.{bytes_eq}
 use Rattle.stomp_session.specs.Inner.Stored.{fingerprint, names_of}
 use Rattle.stomp_session.proofs.Firsts.{first_found, none_found, position-names_of}
 use Rattle.stomp_session.proofs.name_set.NameSet.find.Goals as goal

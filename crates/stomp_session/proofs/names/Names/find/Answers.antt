@@ -1,4 +1,4 @@
-use Rattle.std.proofs.Common.{◌≡◌, ◌∙◌, Bool, nat_lt, true, false, sym, arith}
+use Rattle.std.proofs.Common.{◌≡◌, ◌∙◌, nat_lt, true, false, sym, arith}
 use Rattle.stomp_session.specs.Inner.Stored.{names_in}
 use Rattle.stomp_session.proofs.Firsts.{index_in_front, known_in_front, unknown_in_front}
 use Rattle.stomp_session.proofs.names.Names.find.Goals as goal
