@@ -1,5 +1,5 @@
 -- Several subscriptions end, one after the other.
-use Rattle.std.proofs.Common.{◌≡◌, ℕ, List, [], ◌∷◌, ◌++◌, length, suc, Some, Result, Ok, Err, IfOk, IfErr, OnOk, OnErr, refl, sym, ap, subst, ◌∙◌}
+use Rattle.std.proofs.Common.{◌≡◌, ◌<◌, ◌+◌, ℕ, zero, List, take, get_or, arith, [], ◌∷◌, ◌++◌, length, suc, Some, Result, Ok, Err, IfOk, IfErr, OnOk, OnErr, refl, sym, ap, subst, ◌∙◌}
 use Rattle.sub_queue.specs.Shown.{Shown}
 use Rattle.mcast_group.specs.declared.ended.Ended.{Ended}
 use Rattle.mcast_group.specs.declared.fault.NoSub.{NoSub}
@@ -35,3 +35,14 @@ module _ {Q : Type 0} (shown : Q → Shown) where
 pub without_more : (numbers : List ℕ) (number : ℕ) (state : RoomState) → waiting_without_each (numbers ++ number ∷ []) state ≡ waiting_without number (waiting_without_each numbers state)
 without_more [] number state = refl
 without_more (n ∷ numbers) number state = without_more numbers number (waiting_without n state)
+
+-- the first so many numbers, and the next one
+take_suc : (xs : List ℕ) (i d : ℕ) → i < length xs → take (suc i) xs ≡ take i xs ++ get_or xs i d ∷ []
+take_suc [] i d l = absurd (omega (arith, l))
+take_suc (x ∷ xs) zero d l = refl
+take_suc (x ∷ xs) (suc i) d l =
+    let less : i < length xs = omega (arith, l) in ap (λ (ys : List ℕ). x ∷ ys) (take_suc xs i d less)
+
+pub take_next : (xs : List ℕ) (i d : ℕ) → i < length xs → take (i + 1) xs ≡ take i xs ++ get_or xs i d ∷ []
+take_next xs i d l =
+    let e : i + 1 ≡ suc i = omega arith in ap (λ k. take k xs) e ∙ take_suc xs i d l

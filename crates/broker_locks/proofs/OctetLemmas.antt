@@ -94,7 +94,7 @@ leave_ranks capacity k (p ∷ before) octets behind h = (h.0, leave_ranks capaci
 -- ---- how many octets they have
 
 -- as many as so many parts from this rank on may have
-most_from : ℕ → ℕ → ℕ
+abbrev most_from : ℕ → ℕ → ℕ
 most_from k zero = 0
 most_from k (suc n) = most_octets / k + most_from (k + 1) n
 
@@ -133,12 +133,12 @@ few_octets capacity (p ∷ parts) few h =
 -- who isn't found doesn't pass
 not_found : (p : ℕ → Bool) (xs : List ℕ) (n : ℕ) → find p xs ≡ None → In n xs → p n ≡ false
 not_found p [] n none i = absurd i
-not_found p (x ∷ xs) n none i = go (p x) refl none i
+not_found p (x ∷ xs) n none i = go (p x) refl none i (λ f j. not_found p xs n f j)
   where
-    go : (b : Bool) → p x ≡ b → cond b (Some x) (find p xs) ≡ None → In n (x ∷ xs) → p n ≡ false
-    go true e f j = absurd (true≢false (ap is_some f))
-    go false e f (inl is) = subst (λ (m : ℕ). p m ≡ false) is e
-    go false e f (inr j) = not_found p xs n f j
+    go : (b : Bool) → p x ≡ b → cond b (Some x) (find p xs) ≡ None → In n (x ∷ xs) → (find p xs ≡ None → In n xs → p n ≡ false) → p n ≡ false
+    go true e f j rest = absurd (true≢false (ap is_some f))
+    go false e f (inl is) rest = subst (λ (m : ℕ). p m ≡ false) is e
+    go false e f (inr j) rest = rest f j
 
 -- whoever is waited for is asked
 waited_asked : (start : ℕ) (xs : List ℕ) (n : ℕ) → In n xs → In n (asked_from start xs)
@@ -161,7 +161,7 @@ was_reserved capacity places start state g = go (nat_lt capacity places) refl (f
     passes false e = sym e
 
     go : (b : Bool) → nat_lt capacity places ≡ b → (o : Option ℕ) → find (λ n. not (fits places g n)) (asked_from start state.waited) ≡ o
-        → cond b (Err None) (elim o [ None ↦ Ok tt | Some number ↦ Err (Some number) ]) ≡ Ok tt → IsReserved capacity places state g
+        → cond {A = Result Unit (Option ℕ)} b (Err None) (elim o [ None ↦ Ok tt | Some number ↦ Err (Some number) ]) ≡ Ok tt → IsReserved capacity places state g
     go true e o f is = absurd (true≢false (sym (ap is_ok is)))
     go false e (Some n) f is = absurd (true≢false (sym (ap is_ok is)))
     go false e None f is = record {

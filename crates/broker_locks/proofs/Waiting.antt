@@ -105,7 +105,7 @@ out_found (x ∷ xs) n zero rises at =
     above (y ∷ ys) m all (inl e) = subst (λ (z : ℕ). x < z) e all.0
     above (y ∷ ys) m all (inr k) = above ys m all.1 k
 out_found (x ∷ xs) n (suc i) rises at =
-    let less = omega (arith, at.in_range) in
+    let less : i < length xs = omega (arith, at.in_range) in
     let differs : (x == n) ≡ false = ne_eqb x n (λ e. omega (arith, asked_below (x ∷ xs) (suc i) x x rises at.in_range (inl refl), e, at.has_key x)) in
     let ih = out_found xs n i rises.1 (record { in_range = less; has_key = at.has_key }) in
     rw (differs, sym ih) refl

@@ -684,7 +684,7 @@ fn refuse_all<T>(count: usize, answers: &mut Vec<Result<T, NoSub>>)
     ensures each { length answers.new.items ≡ count }
     ensures nobody { AllByRecursion (λ answer. IsErr answer) answers.new.items }
 {
-    for _ in 0..count {
+    for _number in 0..count {
         answers.push_reserved(Err(NoSub));
     }
 }

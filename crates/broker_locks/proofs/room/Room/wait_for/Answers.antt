@@ -11,6 +11,10 @@ pub returns-in_default-clause-has : goal.returns-in_default-clause-has
 returns-in_default-clause-has g c is e =
     absurd (true≢false (sym (waited_at c.args.self.now.waited c.args.number c.in_default.field-0 c.in_default.ensures.found) ∙ e))
 
+pub returns-in_default-clause-empty : goal.returns-in_default-clause-empty
+returns-in_default-clause-empty g c is e =
+    absurd (true≢false (sym (waited_at c.args.self.now.waited c.args.number c.in_default.field-0 c.in_default.ensures.found) ∙ e))
+
 pub returns-in_default-ready_spare-clause-was : goal.returns-in_default-ready_spare-clause-was
 returns-in_default-ready_spare-clause-was g c is = unwaited_at c.args.self.now.waited c.args.number c.in-Err.index c.in-Err.ensures.absent
 
