@@ -8,7 +8,7 @@ use super::flights::{Quiet, stamp};
 use super::jobs::{Job, Opening, with_broker};
 use super::topics::{Left, left};
 use super::tracing::has_text;
-use broker_locks::{Broker, NoRoom, Side, Subscribed};
+use broker_locks::{Broker, NoRoom, PartOctets, Side, Subscribed};
 use mcast_group::{Cause, Ended, NoSub};
 use mcast_txn::{NoMemory, Topic};
 use std::alloc::Global;
@@ -214,7 +214,7 @@ struct Waited;
 /// Whether there is room for one part more at topic 0, which is given back; or whom that waits for.
 fn room<R: Wait, W: Side, T: Side>(rt: &R, broker: &Broker<R, W, T>) -> Result<(), NoRoom> {
     let mut reserved = broker.no_room();
-    let answer = broker.reserve_at(rt, Topic(0), 0, &mut reserved);
+    let answer = broker.reserve_at(rt, Topic(0), PartOctets(1), 0, &mut reserved);
     broker.release_room(rt, reserved);
     answer
 }
@@ -231,7 +231,7 @@ fn rooms<R: Wait, W: Side, T: Side>(
         return None;
     }
     let before = room(rt, broker);
-    ended_at_once(rt, broker, 0)?;
+    let _ = ended_at_once(rt, broker, 0)?;
     Some([before, room(rt, broker)])
 }
 
