@@ -1,5 +1,5 @@
 -- Worked examples of the definitions that public contracts name, computed.
-use Rattle.std.proofs.Common.{◌≡◌, ◌++◌, ℕ, true, false, List, [], ◌∷◌, Some, None, Ok, refl, sym, ap, ◌∙◌, inl, inr}
+use Rattle.std.proofs.Common.{◌≡◌, ◌++◌, ℕ, true, false, List, [], ◌∷◌, Some, None, Ok, Err, refl, sym, ap, ◌∙◌, inl, inr}
 use Rattle.mcast_txn.specs.declared.id.Topic.{Topic}
 use Rattle.mcast_txn.specs.declared.id.TxnId.{TxnId}
 use Rattle.mcast_txn.specs.declared.stamp.Stamp.{Stamp}
@@ -13,6 +13,10 @@ use Rattle.mcast_txn.specs.Span.{LogRow}
 use Rattle.mcast_txn.specs.Ballot.{Decision}
 use Rattle.mcast_txn.specs.Flight.{Sight}
 use Rattle.mcast_txn.specs.Lists.{In}
+use Rattle.mcast_txn.specs.Stamp.{zero_stamp}
+use Rattle.sub_queue.specs.Shown.{Gauge, Shown}
+use Rattle.mcast_group.specs.declared.cause.Cause.TheVariants as cause
+use Rattle.mcast_group.specs.Group.{HasLeft}
 use Rattle.mcast_group.specs.CellGroup.{CellGroupState, IsRead, ReadsOwn, Waiting}
 use Rattle.mcast_group.specs.Machine.{Pending, TopicState, after_turn, new_topic}
 use Rattle.mcast_txn.specs.declared.mark.Mark.{Mark}
@@ -22,7 +26,7 @@ use Rattle.trace_audit.specs.declared.fault.AddFault.TheVariants.{Misfit, NoMemo
 use Rattle.trace_audit.specs.Trace.{TraceData, no_trace_data}
 use Rattle.broker_locks.specs.Gathering.{IsTraceLeft}
 use Rattle.broker_locks.specs.KeptTrace.{AddsFirst, KeptSub, KeptTrace, kept_after_subscribe, kept_after_unsubscribe, marks_between, rows_kept, was_used}
-use Rattle.broker_locks.specs.Place.{HasTurned, PlaceState, new_place, place_after_drain, place_after_propose, place_after_turn, place_fault, rows_given}
+use Rattle.broker_locks.specs.Place.{EndsInOrder, HasTurned, PlaceState, new_place, place_after_drain, place_after_propose, place_after_subscribe, place_after_turn, place_after_unsubscribe, place_fault, rows_given}
 use Rattle.broker_locks.specs.TopicTraces.{with_rows}
 use Rattle.broker_locks.proofs.Balance.{balanced_new}
 use Rattle.broker_locks.specs.Rows.{PlaceRow, Entered, Cancelled, is_uncancelled}
@@ -124,6 +128,20 @@ of_its_topic = refl
 
 pending_there : place_fault floor (part 2) (place_after_propose floor (record { part = part 2; cell = 7 }) place) ≡ Some Twice
 pending_there = refl
+
+-- subscription 5 began there, with a queue of 4
+abbrev queue_of_four : Gauge
+queue_of_four = record { capacity = 4; taken = Some 0 }
+
+abbrev subscribed : PlaceState
+subscribed = place_after_subscribe 5 queue_of_four place
+
+-- where 5 is asked to end twice, it leaves its outlet, and then there is none
+ended_twice : EndsInOrder (λ (s : Shown). s) (5 ∷ 5 ∷ []) (Ok (record { to = zero_stamp; outlet = record { accepted = []; gauge = queue_of_four }; cause = cause.Asked }) ∷ Err (record {}) ∷ [])
+    subscribed (place_after_unsubscribe 5 subscribed)
+ended_twice =
+    let left : HasLeft 5 subscribed.cells.group (record { accepted = []; gauge = queue_of_four }) zero_stamp cause.Asked = record { entry = record { number = 5; from = zero_stamp; to = None; accepted = [] }; gauge = queue_of_four; found = refl; gauged = refl; shows_it = refl; end = refl; why = refl } in
+    (place_after_unsubscribe 5 subscribed, (left, refl), (place_after_unsubscribe 5 subscribed, (refl, refl), refl))
 
 -- ---- a kept trace
 

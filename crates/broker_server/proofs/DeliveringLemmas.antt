@@ -53,15 +53,15 @@ some_none f fs e = cc
 -- Where these are all written, it goes on with more behind them.
 pub writes_more : (waits : Bool) (out more : List RawFrame) (wire now : List ℕ) → WritesAll waits out wire now → (left_behind waits (out ++ more) wire ≡ left_behind waits more now) × (with_messages waits (out ++ more) wire ≡ with_messages waits more now)
 writes_more waits [] more wire now (whole, is) = (ap (left_behind waits more) (sym is), ap (with_messages waits more) (sym is))
-writes_more waits (f ∷ fs) more wire now (whole, is) = by (has_room waits wire) refl
+writes_more waits (f ∷ fs) more wire now (whole, is) = by (has_room waits wire) refl (λ w all. writes_more waits fs more w now all)
   where
-    by : (b : Bool) → has_room waits wire ≡ b → (left_behind waits (f ∷ (fs ++ more)) wire ≡ left_behind waits more now) × (with_messages waits (f ∷ (fs ++ more)) wire ≡ with_messages waits more now)
-    by true room =
+    by : (b : Bool) → has_room waits wire ≡ b → ((w : List ℕ) → WritesAll waits fs w now → (left_behind waits (fs ++ more) w ≡ left_behind waits more now) × (with_messages waits (fs ++ more) w ≡ with_messages waits more now)) → (left_behind waits (f ∷ (fs ++ more)) wire ≡ left_behind waits more now) × (with_messages waits (f ∷ (fs ++ more)) wire ≡ with_messages waits more now)
+    by true room on =
         let here = room_for waits f fs wire room in
         let there = room_for waits f (fs ++ more) wire room in
-        let rest = writes_more waits fs more (wire ++ spelling_with_eol f) now (sym here.0 ∙ whole, is ∙ here.1) in
+        let rest = on (wire ++ spelling_with_eol f) (sym here.0 ∙ whole, is ∙ here.1) in
         (there.0 ∙ rest.0, there.1 ∙ rest.1)
-    by false none = absurd (some_none f fs (sym (no_room_for waits f fs wire none).0 ∙ whole))
+    by false none on = absurd (some_none f fs (sym (no_room_for waits f fs wire none).0 ∙ whole))
 
 -- Where these are all written, and there is room, one more is.
 pub writes_one : (waits : Bool) (out : List RawFrame) (f : RawFrame) (wire now : List ℕ) → has_room waits now ≡ true → WritesAll waits out wire now → WritesAll waits (out ++ f ∷ []) wire (now ++ spelling_with_eol f)
@@ -205,10 +205,10 @@ GoesOn waits capacity asked queues done rest before wire =
 
 -- the next one is emptied, too
 pub goes_on : (waits : Bool) (capacity : ℕ) (asked more : List BrokerRow) (queues done rest : List OpenSubState) (o new : OpenSubState) (before wire between : List ℕ) (one : Taking) → one ≡ Emptied → DrainsOn waits capacity more o wire one new between → GoesOn waits capacity asked queues done (o ∷ rest) before wire → GoesOn waits capacity (asked ++ more) queues (done ++ new ∷ []) rest before between
-goes_on waits capacity asked more queues done rest o new before wire between one emptied drains so_far rows end others after left then =
+goes_on waits capacity asked more queues done rest o new before wire between one emptied drains so_far rows end others after left follow =
     subst (λ (all : List BrokerRow). DrainsAll waits capacity all queues before end ((done ++ new ∷ []) ++ others) after left) (sym (append_assoc asked more rows))
     (subst (λ (all : List OpenSubState). DrainsAll waits capacity (asked ++ (more ++ rows)) queues before end all after left) (sym (append_assoc done (new ∷ []) others))
-    (so_far (more ++ rows) end (new ∷ others) after left (more, rows, refl, one, new, others, between, drains, refl, if_emptied one _ _ emptied then)))
+    (so_far (more ++ rows) end (new ∷ others) after left (more, rows, refl, one, new, others, between, drains, refl, if_emptied one _ _ emptied follow)))
 
 -- the next one isn't, and the rest stay
 pub goes_no_further : (waits : Bool) (capacity : ℕ) (asked more : List BrokerRow) (queues done rest : List OpenSubState) (o new : OpenSubState) (before wire between : List ℕ) (one : Taking) → (one ≡ Emptied → ⊥) → DrainsOn waits capacity more o wire one new between → GoesOn waits capacity asked queues done (o ∷ rest) before wire → DrainsAll waits capacity (asked ++ more) queues before one (done ++ new ∷ rest) between (left_from one rest)
@@ -217,8 +217,8 @@ goes_no_further waits capacity asked more queues done rest o new before wire bet
 
 -- the back ones are emptied, and then the front ones are taken
 pub drains_both : (waits : Bool) (capacity next : ℕ) (queues front back : List OpenSubState) → queues ≡ front ++ back → length front ≡ begins_at next (length queues) → (first rest : List BrokerRow) (wire : List ℕ) (one end : Taking) (changed others : List OpenSubState) (between after : List ℕ) (left unseen later : ℕ) → one ≡ Emptied → DrainsAll waits capacity first back wire one changed between left → DrainsAll waits capacity rest front between end others after unseen → later ≡ length front - unseen → DrainsQueues waits capacity next (first ++ rest) queues wire end (others ++ changed) after later
-drains_both waits capacity next queues front back cut begins first rest wire one end changed others between after left unseen later emptied did then goes =
-    (front, back, cut, begins, first, rest, refl, one, changed, others, between, left, unseen, did, refl, if_emptied one _ _ emptied (then, goes))
+drains_both waits capacity next queues front back cut begins first rest wire one end changed others between after left unseen later emptied did follow goes =
+    (front, back, cut, begins, first, rest, refl, one, changed, others, between, left, unseen, did, refl, if_emptied one _ _ emptied (follow, goes))
 
 -- the back ones aren't all emptied, and the front ones stay
 pub drains_back : (waits : Bool) (capacity next : ℕ) (queues front back : List OpenSubState) → queues ≡ front ++ back → length front ≡ begins_at next (length queues) → (asked : List BrokerRow) (wire : List ℕ) (end : Taking) (changed : List OpenSubState) (after : List ℕ) (left later : ℕ) → (end ≡ Emptied → ⊥) → DrainsAll waits capacity asked back wire end changed after left → later ≡ length queues - left → DrainsQueues waits capacity next asked queues wire end (front ++ changed) after later

@@ -1,7 +1,11 @@
 -- Names that stand behind others.
-use Rattle.std.proofs.Common.{◌≡◌, ◌++◌, ℕ, List, drop, length, take, sym, ap, ◌∙◌}
+use Rattle.std.proofs.Common.{◌≡◌, ◌++◌, ℕ, List, [], append-nil, drop, length, take, sym, ap, ◌∙◌}
 use Rattle.std.proofs.lemmas.List.{take-append-drop}
 use Rattle.broker_server.specs.Judging.{Grows}
+
+-- none
+pub grows_none : (names : List (List ℕ)) → Grows names names
+grows_none names = ([], sym (append-nil names))
 
 -- those of which these are the first
 pub grows_front : (names all : List (List ℕ)) → take (length names) all ≡ names → Grows names all

@@ -16,17 +16,18 @@ use Rattle.broker_server.proofs.DeliveringLemmas.{no_room_for, room_for}
 -- what was written of these MESSAGEs
 written : (waits : Bool) (messages : List RawFrame) (wire : List ℕ) → (out : List RawFrame) × (with_messages waits messages wire ≡ wire ++ flat_map spelling_with_eol out) × (messages ≡ out ++ left_behind waits messages wire)
 written waits [] wire = ([], sym (append-nil wire), refl)
-written waits (f ∷ fs) wire = by (has_room waits wire) refl
+written waits (f ∷ fs) wire = by (has_room waits wire) refl (written waits fs (wire ++ spelling_with_eol f))
   where
-    by : (b : Bool) → has_room waits wire ≡ b → (out : List RawFrame) × (with_messages waits (f ∷ fs) wire ≡ wire ++ flat_map spelling_with_eol out) × (f ∷ fs ≡ out ++ left_behind waits (f ∷ fs) wire)
-    by true room =
-        let rest = written waits fs (wire ++ spelling_with_eol f) in
+    by : (b : Bool) → has_room waits wire ≡ b
+        → (out : List RawFrame) × (with_messages waits fs (wire ++ spelling_with_eol f) ≡ (wire ++ spelling_with_eol f) ++ flat_map spelling_with_eol out) × (fs ≡ out ++ left_behind waits fs (wire ++ spelling_with_eol f))
+        → (out : List RawFrame) × (with_messages waits (f ∷ fs) wire ≡ wire ++ flat_map spelling_with_eol out) × (f ∷ fs ≡ out ++ left_behind waits (f ∷ fs) wire)
+    by true room rest =
         let here = room_for waits f fs wire room in (
           f ∷ rest.0,
           here.1 ∙ rest.1 ∙ append_assoc wire (spelling_with_eol f) (flat_map spelling_with_eol rest.0),
           ap (λ (all : List RawFrame). f ∷ all) rest.2 ∙ ap (λ (left : List RawFrame). f ∷ (rest.0 ++ left)) (sym here.0),
         )
-    by false none =
+    by false none rest =
         let here = no_room_for waits f fs wire none in
         ([], here.1 ∙ sym (append-nil wire), sym here.0)
 

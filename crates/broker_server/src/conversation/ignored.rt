@@ -1,6 +1,7 @@
 //! What a client asks for that the server ignores.
 
 ghost use Rattle.std.specs.Prelude.{◌≡◌, ◌≢◌, ◌↔◌, ◌||◌, ◌==◌, IsTrue, is_some};
+ghost use Rattle.std.specs.List.{list_any};
 ghost use Rattle.std.specs.Str.{bytes_eq};
 ghost use Rattle.stomp_frame.specs.Cases.{is_connect};
 ghost use Rattle.stomp_session.specs.Frames.{is_send, is_subscribe};
@@ -124,9 +125,16 @@ fn names_wildcard(frame: &RawFrame) -> bool
     ensures { result ≡ names_wildcard frame.now }
 {
     match frame.headers.first(b"destination") {
-        Some(name) => name.iter().any(|b| is_wildcard(*b)),
+        Some(name) => has_wildcard(name),
         None => false,
     }
+}
+
+/// Whether one of these octets is `*`, `>` or `#`.
+fn has_wildcard(text: &[u8]) -> bool
+    ensures { result ≡ list_any is_wildcard text.now }
+{
+    text.iter().any(|b| is_wildcard(*b))
 }
 
 /// Whether an octet is `*`, `>` or `#`.

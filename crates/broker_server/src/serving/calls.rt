@@ -1,7 +1,8 @@
 //! What one connection asks of the broker.
 
-ghost use Rattle.std.specs.Prelude.{◌≡◌, ◌<◌, ◌⊎◌, ◌==◌, [], true, IfSome, None, Some};
+ghost use Rattle.std.specs.Prelude.{◌≡◌, ◌<◌, ◌⊎◌, ◌==◌, [], map, true, IfSome, None, Some};
 ghost use Rattle.mcast_txn.specs.Transaction.{topics_of};
+ghost use Rattle.broker_server.specs.BrokerRows.{AsksInOrder, Unsubscribes};
 ghost use Rattle.broker_server.specs.Lines.{IsRoomAt};
 ghost use Rattle.broker_server.specs.UnturnedTopics.{none_unturned};
 
@@ -599,7 +600,10 @@ impl<'a, R: Wait + Log + Clock, W: Side, T: Side> BrokerCalls for Calls<'a, R, W
     }
 
     /// Those of one topic end there together.
-    fn end_all(&mut self, subs: Vec<SeatedSub>) {
+    fn end_all(&mut self, subs: Vec<SeatedSub>)
+        ensures { AsksInOrder (λ old row new. Unit {0}) self.old
+            (map (λ sub. Unsubscribes (record { topic = sub.topic; number = sub.begun.sub })) subs.items) self.new }
+    {
         if subs.is_empty() {
             return;
         }

@@ -14,15 +14,16 @@ use stomp_session::{Names, Session, Step, is_name};
 
 /// The names of all topics, which a connection shares that knows the first of them. That it does is looked at, though no
 /// topic is lost while the server runs: were it otherwise, it would be as where there is no memory.
+#[tactic(auto, using(crate::proofs::NamingLemmas::grows_front))]
 fn caught_up(names: &Names, all: &Names) -> Result<Names, NoMemory>
     ensures known { IfOk result (λ known. known ≡ all.now) }
     ensures grows { OnOk result (Grows names.now all.now) }
 {
-    if names.is_front_of(all) {
-        all.share()
-    } else {
-        Err(NoMemory)
+    if !names.is_front_of(all) {
+        return Err(NoMemory);
     }
+    let known = all.share()?;
+    Ok(known)
 }
 
 /// The destination of a SEND or a SUBSCRIBE.
@@ -73,6 +74,7 @@ fn add_new(all: &mut Names, frame: &ClientFrame) -> Result<bool, NoMemory>
 }
 
 /// Has the session take a frame by the names of all topics, which the connection knows then where it is accepted.
+#[inline(always)]
 pub(crate) fn step_by(
     all: &Names,
     session: &mut Session,

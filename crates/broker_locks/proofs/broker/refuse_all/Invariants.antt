@@ -5,8 +5,8 @@ use Rattle.broker_locks.proofs.broker.refuse_all.Given as goal
 -- so many answers so far, each a refusal
 abbrev pub invariant-loop-number : goal.invariant-loop-number
 invariant-loop-number g l = record {
-  many : vec_len l.answers ≡ l.number;
+  many : vec_len l.answers ≡ l._number;
   space : l.fn.count ≤ vec_capacity l.answers;
-  each : length l.answers.items ≡ l.number;
+  each : length l.answers.items ≡ l._number;
   nobody : AllByRecursion (λ answer. IsErr answer) l.answers.items;
 }

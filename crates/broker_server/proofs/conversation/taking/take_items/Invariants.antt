@@ -8,17 +8,10 @@ use Rattle.broker_server.proofs.conversation.taking.take_items.Given as goal
 -- the calls so far are a beginning: whatever is taken from here on is taken behind them
 abbrev pub invariant-loop-call : goal.invariant-loop-call
 invariant-loop-call g l =
-    let held = l.queue-inside in
-    let queue : OpenSubState = record {
-      id = held.id;
-      sub = g.C.BrokerCalls.name held.sub;
-      until_lag = held.until_lag;
-      lagged = held.lagged;
-    } in
     record {
       taken : (asked : List BrokerRow) × AsksInOrder g.C.BrokerCalls.called l.fn.calls asked l.calls
           × ((rows : List BrokerRow) (end : Taking) (new : OpenSubState) (after : List ℕ)
-          → Drains l.fn.waits l.capacity l._call rows queue l.wire end new after
+          → Drains l.fn.waits l.capacity l._call rows l.queue l.wire end new after
           → Drains l.fn.waits l.capacity 0 (asked ++ rows) l.fn.queue l.fn.wire end new after)
           × (l.any ≡ has_item asked);
     }
