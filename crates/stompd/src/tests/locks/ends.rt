@@ -190,9 +190,9 @@ fn all_left() -> [Left; 5] {
 
 /// The rows of the three transactions, and of each subscription what it accepted.
 const TEXT: &[u8] =
-    b"log 0 0 1 1.0 0\nlog 0 1 1 2.0 0\nlog 0 2 1 3.0 0\nspan 0 0 0.0 1.0\nqueue 0 0 1 1.0\n\
+    b"log 0 0 1 1.0 0\nlog 0 1 1 2.0 0\nlog 0 2 1 3.0 0\nspan 0 0 0.0 1.0\nqueue 0 0 1 1.0\nspan 1 1 0.0 -\n\
     span 1024 0 0.0 2.0\nqueue 1024 0 1 1.0\nqueue 1024 1 1 2.0\nspan 2048 0 0.0 1.0\nqueue 2048 0 1 1.0\n\
-    span 3072 0 2.0 2.0\nspan 1 1 0.0 -\n";
+    span 3072 0 2.0 2.0\n";
 
 #[test]
 fn several_end_as_one_by_one(rt: HostRuntime) -> Result<(), Fail> {
