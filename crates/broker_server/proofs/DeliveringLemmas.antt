@@ -96,7 +96,7 @@ nothing_there (x ∷ xs) zero less e = cc
 nothing_there (x ∷ xs) (suc i) less e = nothing_there xs i (omega arith) e
 
 -- the one that is there, and those behind it
-here : (messages : List RawFrame) (at : ℕ) → at < length messages → (f : RawFrame) × (slice_get messages at ≡ Some f) × (drop at messages ≡ f ∷ drop (at + 1) messages)
+pub here : (messages : List RawFrame) (at : ℕ) → at < length messages → (f : RawFrame) × (slice_get messages at ≡ Some f) × (drop at messages ≡ f ∷ drop (at + 1) messages)
 here messages at there = by (slice_get messages at) refl
   where
     by : (o : Option RawFrame) → slice_get messages at ≡ o → (f : RawFrame) × (slice_get messages at ≡ Some f) × (drop at messages ≡ f ∷ drop (at + 1) messages)
@@ -184,6 +184,18 @@ either_item asked later any more first second =
     ap (λ (b : Bool). b || more) first ∙ ap (λ (b : Bool). has_item asked || b) second ∙ sym (list_any-append is_item asked later)
 
 -- ---- queue after queue
+
+-- a queue is left behind only where an item of it is half out
+pub left_else : (t : Taking) (os : List OpenSubState) → (t ≡ Halfway → ⊥) → left_from t os ≡ length os
+left_else Emptied os never = refl
+left_else Stopped os never = refl
+left_else Halfway os never = absurd (never refl)
+left_else (Failed why) os never = refl
+
+-- either of two is so
+pub or_so : (a b : Bool) → b ≡ true → (a || b) ≡ true
+or_so true b is = refl
+or_so false b is = is
 
 -- a queue that isn't emptied stops the others
 pub if_stopped : (t : Taking) (A B : Type 0) → (t ≡ Emptied → ⊥) → B → IfEmptied t A B

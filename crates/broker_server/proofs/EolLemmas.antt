@@ -1,10 +1,10 @@
 -- Which MESSAGE stands at an index of an item's.
-use Rattle.std.proofs.Common.{◌≡◌, ℕ, zero, suc, ◌+◌, Bool, true, false, List, [], ◌∷◌, length, map, Option, Some, IfSome, refl, sym, ap, subst, ◌∙◌, arith}
+use Rattle.std.proofs.Common.{◌≡◌, ℕ, zero, suc, ◌+◌, Bool, true, false, ◌<◌, ◌≤◌, List, [], ◌∷◌, ◌++◌, length, map, Option, Some, IfSome, Result, Ok, Err, OnOk, OnErr, refl, sym, ap, subst, ◌∙◌, arith}
 use Rattle.std.specs.Prelude.{slice_get}
 use Rattle.std.specs.List.{enumerate_from}
 use Rattle.std.specs.Option.{option_map}
 use Rattle.std.proofs.lemmas.Option.{slice_get-map}
-use Rattle.std.proofs.lemmas.List.{length-map}
+use Rattle.std.proofs.lemmas.List.{length-append, length-map}
 use Rattle.std.proofs.lemmas.List.FromFn.{length-enumerate_from}
 use Rattle.stomp_frame.specs.declared.raw_frame.RawFrame.{RawFrame}
 use Rattle.stomp_frame.specs.ServerFrames.{message_frame, message_id, part_message_frame}
@@ -12,6 +12,8 @@ use Rattle.mcast_txn.specs.declared.parts.part_message.PartMessage.{PartMessage}
 use Rattle.mcast_txn.specs.declared.stamp.Stamp.{Stamp}
 use Rattle.mcast_txn.specs.Span.{Item}
 use Rattle.delivery.specs.Core.Output.{item_messages, messages_for, part_messages}
+use Rattle.broker_server.specs.Wires.{spelling_with_eol}
+use Rattle.broker_server.proofs.DeliveringLemmas.{here}
 
 -- the MESSAGE of a SEND
 abbrev pub message_of : List ℕ → Stamp → PartMessage → RawFrame
@@ -40,6 +42,24 @@ part_at id item i p is =
 -- what is so of the one that stands there
 pub so_there : (frames : List RawFrame) (i : ℕ) (f : RawFrame) (P : RawFrame → Type 0) → slice_get frames i ≡ Some f → P f → IfSome (slice_get frames i) P
 so_there frames i f P is so = subst (λ (o : Option RawFrame). IfSome o P) (sym is) so
+
+-- what follows of what is so where a call went well
+pub map_ok : {T E : Type 0} (r : Result T E) (A B : Type 0) → (A → B) → OnOk r A → OnOk r B
+map_ok (Ok x) A B f a = f a
+map_ok (Err e) A B f a = a
+
+-- what is so is so where a call failed
+pub err_of : {T E : Type 0} (r : Result T E) (A : Type 0) → A → OnErr r A
+err_of (Ok x) A a = tt
+err_of (Err e) A a = a
+
+-- what was written of octets is as much as before, behind one more MESSAGE or none
+pub longer : {T E : Type 0} (r : Result T E) (frames : List RawFrame) (i : ℕ) (old new : List ℕ) (n : ℕ) → i < length frames → n ≤ length old → OnOk r (IfSome (slice_get frames i) (λ f. new ≡ old ++ spelling_with_eol f)) → OnErr r (new ≡ old) → n ≤ length new
+longer (Ok x) frames i old new n there less put same =
+    let h = here frames i there in
+    let is : new ≡ old ++ spelling_with_eol h.0 = subst (λ (o : Option RawFrame). IfSome o (λ f. new ≡ old ++ spelling_with_eol f)) h.1 put in
+    omega (arith, less, ap (λ (xs : List ℕ). length xs) is, length-append old (spelling_with_eol h.0))
+longer (Err e) frames i old new n there less put same = omega (arith, less, ap (λ (xs : List ℕ). length xs) same)
 
 -- there is one for each SEND
 pub as_many : (parts : Bool) (id : List ℕ) (item : Item) → length (messages_for parts id item) ≡ length item.sends

@@ -9,7 +9,7 @@ ghost use Rattle.stomp_frame.specs.ClientFrames.{raw_of};
 ghost use Rattle.broker_server.specs.BrokerRows.{AsksInOrder, BrokerRow};
 ghost use Rattle.broker_server.specs.Conversations.{PutsFrames, EndsByError, EndsSaying, Connects, Begins, EndsSub, CommitsSends, CommitsBy, Acts, Answers, Concludes, IsLost};
 ghost use Rattle.broker_server.specs.ConversationFaults.{tells_version};
-ghost use Rattle.broker_server.specs.Delivering.{DeliversRound, may_read};
+ghost use Rattle.broker_server.specs.Delivering.{DeliversRound, may_read, writes_on};
 ghost use Rattle.delivery.specs.Core.Outcomes.{is_any};
 ghost use Rattle.stomp_session.specs.Open.{IsKnownTo};
 ghost use Rattle.broker_server.specs.Hearing.{AcceptsFrame, DeniesFrame, GoesOn, HearsOrKeeps, IsNewTo, Rests, TakesAll, TakesFrame, TakesFrames};
@@ -649,6 +649,13 @@ impl<C: BrokerCalls> Conversation<C> {
         self.fail(calls, fault, slice_in(receipt));
     }
 
+    /// Whether MESSAGEs of an item that is half out are written now.
+    fn writes_on(&self) -> bool
+        ensures { result ≡ writes_on self.now }
+    {
+        self.half && self.wire.may_take()
+    }
+
     /// Takes what is there of each queue and sends it, while few octets wait; whether something came of it. It begins
     /// with the rest of an item that is half out, and else behind the subscription where it stopped last, so that none
     /// waits for another for ever. A subscription that has lagged ends the connection once all that it had accepted was
@@ -661,7 +668,7 @@ impl<C: BrokerCalls> Conversation<C> {
             return false;
         }
         let waits = self.held.is_some();
-        let writes_on = self.half && self.wire.may_take();
+        let writes_on = self.writes_on();
         let queues = self.subs.as_mut_slice();
         let (drained, next) = drain_queues(
             calls,

@@ -73,6 +73,7 @@ fn write_part(id: &[u8], item: &Released, at: usize, out: &mut Octets) -> Result
     ensures err { OnErr result (out.new ≡ out.old) }
 {
     let sends = &item.part.sends;
+    let count = sends.len();
     let send = sends.get(at);
     let message = PartMessage {
         subscription: id,
@@ -82,7 +83,7 @@ fn write_part(id: &[u8], item: &Released, at: usize, out: &mut Octets) -> Result
         headers: &send.headers,
         body: send.body.as_slice(),
         at: at as u64 + 1,
-        count: sends.len() as u64,
+        count: count as u64,
     };
     let before = out.len();
     let done = put_part_with_eol(&message, out);
