@@ -16,6 +16,9 @@ WIRE, QUEUED = 65536, 64 * MIB
 # A MESSAGE's command and headers, at most, of the SENDs here.
 HEAD = 200
 
+# How many octets a second a subscriber reads, so fast that to wait for it costs nothing.
+PACE = 12 * MIB
+
 # By how much more memory may be: what the C library rounds up to, and what the connections take besides.
 FIFTH, TENTH = 1.2, 1.1
 
@@ -84,9 +87,9 @@ def one_large_transaction(trial, readers=60, sends=64, size=256 * KIB):
     return f"{len(readers)} that don't read and a transaction of {sends * size // MIB} MiB: {held:,} KiB of {most:,.0f}"
 
 
-def large_transactions(trial, senders=2, count=25, sends=8, seconds=6):
-    """Two senders commit 25 transactions of 8 MiB each to one that reads 5 MiB a second, for six seconds, and then without a rest: they wait
-    for it, so little of that is in the server. All of it comes."""
+def large_transactions(trial, senders=2, count=25, sends=8, seconds=4):
+    """Two senders commit 25 transactions of 8 MiB each to one that reads 12 MiB a second, for four seconds, and then without a rest: they
+    wait for it, so little of that is in the server. All of it comes."""
     _, topic = trial.topic_alone()
     bodies, count = [b"%04d" % at * (MIB // 4) for at in range(sends)], trial.part(count)
     item = sends * (MOST_BODY + HEAD)
@@ -108,7 +111,7 @@ def large_transactions(trial, senders=2, count=25, sends=8, seconds=6):
     close_all([reader, *others])
     trial.expect(whole == senders * count, f"{whole} of {senders * count} transactions came whole")
     trial.expect(held <= most, f"it held {held:,} KiB, and {most:,.0f} are what it may")
-    return f"{whole} transactions of {item // MIB} MiB came to one that reads slowly: {held:,} KiB of {most:,.0f}"
+    return f"{whole} transactions of {item // MIB} MiB came to one that reads {PACE // MIB} MiB a second: {held:,} KiB of {most:,.0f}"
 
 
 def send_times(client, text, times):
@@ -119,7 +122,7 @@ def send_times(client, text, times):
 
 
 class Paced:
-    """A file that is read at 5 MiB a second at most, until this moment."""
+    """A file that is read at a pace, until this moment."""
 
     def __init__(self, file, until):
         self.file, self.until = file, until
@@ -129,7 +132,7 @@ class Paced:
 
     def read(self, size):
         if size > 2 and time.monotonic() < self.until:
-            time.sleep(size / (5 * MIB))
+            time.sleep(size / PACE)
         return self.file.read(size)
 
 

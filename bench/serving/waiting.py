@@ -9,7 +9,7 @@ import threading
 import time
 
 from client import error_of, send_frame, subscribe
-from hostility import MOST_OPEN, TOPICS, bursts, close_all
+from hostility import MOST_BODY, MOST_OPEN, TOPICS, bursts, close_all
 from slow import PACES, Pace, Slow
 from steady import Steady, load
 
@@ -114,13 +114,23 @@ def slow_for_a_minute(trial):
 
 def fast_enough(trial, count=6000):
     """6,000 SENDs of 10,000 octets that come at once, to one that reads 2 MB a second without a rest, alone at its topic."""
-    count, (_, topic) = trial.part(count), trial.topic_alone()
+    return comes_whole(trial, trial.part(count), 10_000, 2_000_000)
+
+
+def fast_enough_for_large_sends(trial, count=120):
+    """120 SENDs of 1 MiB that come at once, of which few may wait, to one that reads 7 MB a second."""
+    return comes_whole(trial, trial.part(count), MOST_BODY, 7_000_000)
+
+
+def comes_whole(trial, count, size, rate):
+    """So many SENDs at once, to one that reads so many octets a second."""
+    _, topic = trial.topic_alone()
     (reader, sender), begun = trial.open(2), time.monotonic()
     reader.ask(subscribe(topic))
-    sending = threading.Thread(target=sender.send, args=(count * send_frame(topic, b"x" * 10000),), daemon=True)
+    sending = threading.Thread(target=sender.send, args=(count * send_frame(topic, b"x" * size),), daemon=True)
     sender.socket.settimeout(None)
     sending.start()
-    came, number = read_frames(reader, count, 2_000_000, 120)
+    came, number = read_frames(reader, count, rate, 120)
     close_all([reader, sender])
     sending.join()
     trial.expect(number is None and came == count, f"{came:,} of {count:,} came, then {number}")
@@ -248,6 +258,7 @@ ROWS = [
     slow_subscribers_that_subscribe_again,
     slow_for_a_minute,
     fast_enough,
+    fast_enough_for_large_sends,
     read_after_the_last,
     waiting_for_receipts,
     sharing_a_slow_topic,

@@ -1,6 +1,6 @@
 //! What one connection asks of the broker.
 
-ghost use Rattle.std.specs.Prelude.{◌≡◌, ◌<◌, ◌⊎◌, ◌==◌, [], map, true, IfSome, None, Some};
+ghost use Rattle.std.specs.Prelude.{◌≡◌, ◌≤◌, ◌<◌, ◌⊎◌, ◌==◌, [], map, true, IfSome, None, Some};
 ghost use Rattle.mcast_txn.specs.Transaction.{topics_of};
 ghost use Rattle.broker_server.specs.BrokerRows.{AsksInOrder, Unsubscribes};
 ghost use Rattle.broker_server.specs.Lines.{IsRoomAt};
@@ -36,6 +36,9 @@ use stomp_session::{Names, Session, Step};
 /// Behind so many commits that weren't turned it stands in for those who sleep, where it heard little and they are few
 /// (our choice).
 const AT_ONCE: u64 = 16;
+
+/// An item counts as one more for each so many octets, where it is told how many were taken (our choice).
+const OCTETS_AS_ONE: u64 = 131_072;
 
 /// The most octets of a topic's name: as many as a line has.
 const MOST_NAMED: usize = 4_096;
@@ -472,12 +475,12 @@ impl<'a, R: Wait + Log + Clock, W: Side, T: Side> Calls<'a, R, W, T> {
         self.room_made(sub);
     }
 
-    /// An item of this subscription was taken: that is told once half of what a queue holds was.
-    fn count_taken(&self, sub: &mut SeatedSub)
+    /// An item of this subscription was taken that counts as so many: that is told once half of what a queue holds was.
+    fn count_taken(&self, sub: &mut SeatedSub, count: u64)
         ensures same { sub.new ≡ record sub.old { untold = sub.new.untold } }
         ensures few { (sub.new.untold ≡ 0) ⊎ (sub.new.untold < self.now.most) }
     {
-        sub.untold = sub.untold.saturating_add(1);
+        sub.untold = sub.untold.saturating_add(count);
         if sub.untold >= self.most {
             self.tell_taken(sub);
         }
@@ -510,6 +513,19 @@ impl<'a, R: Wait + Log + Clock, W: Side, T: Side> Calls<'a, R, W, T> {
             self.turn_topics();
         }
     }
+}
+
+/// As how many items an item counts that was taken: one, and one more for each 128 KiB of its bodies. So 4 MiB are half of
+/// what a queue of 64 holds: those who wait with large parts have room before it is empty.
+fn counts_as(item: &Released) -> u64
+    ensures { 1 ≤ result }
+{
+    let sends = &item.part.sends;
+    let mut octets = 0u64;
+    for index in 0..sends.len() {
+        octets = octets.saturating_add(sends.get(index).body.len() as u64);
+    }
+    octets / OCTETS_AS_ONE + 1
 }
 
 /// By what room may have been made where these subscriptions ended.
@@ -635,13 +651,13 @@ impl<'a, R: Wait + Log + Clock, W: Side, T: Side> BrokerCalls for Calls<'a, R, W
         has_lagged
     }
 
-    /// Those who wait for room are told once nothing is there, or half of what a queue holds was taken.
+    /// Those who wait for room are told once nothing is there, or half of what a queue holds was taken, of large items fewer.
     fn take(&mut self, sub: &mut SeatedSub) -> Option<Released> {
         let item = sub.begun.taker.take(self.rt);
         match &item {
             Some(item) => {
                 self.activity.takes(item.part.sends.len() as u64);
-                self.count_taken(sub);
+                self.count_taken(sub, counts_as(item));
             }
             None => self.find_empty(sub),
         }

@@ -15,7 +15,7 @@ pub(crate) struct SeatedSub {
     pub(crate) topic: Topic,
     pub(crate) begun: Subscribed,
     pub(crate) seat: Arc<Seat>,
-    /// How many items were taken since the topic was told how many were.
+    /// As how many items count that were taken since the topic was told how many were.
     pub(crate) untold: u64,
     /// Whether it has ended at its topic.
     over: AtomicBool,

@@ -54,14 +54,9 @@ const ROWS: &[Row] = &[
     ),
 ];
 
-/// Appends the MESSAGE of a SEND for the subscription `s`.
-fn put(
-    place: (u64, u64),
-    headers: &Headers,
-    body: &[u8],
-    out: &mut Octets,
-) -> Result<(), NoMemory> {
-    let message = PartMessage {
+/// The MESSAGE of a SEND for the subscription `s`.
+fn message<'a>(place: (u64, u64), headers: &'a Headers, body: &'a [u8]) -> PartMessage<'a> {
+    PartMessage {
         subscription: b"s",
         n: 7,
         topic: 2,
@@ -70,15 +65,14 @@ fn put(
         body,
         at: place.0,
         count: place.1,
-    };
-    write_part_message(&message, out)
+    }
 }
 
 /// What is written of a row's MESSAGE.
 fn written(alloc: Global, row: &Row) -> Result<Octets, NoMemory> {
     let headers = headers(alloc, row.1)?;
     let mut out = Octets::new(alloc);
-    put(row.0, &headers, row.2, &mut out)?;
+    write_part_message(&message(row.0, &headers, row.2), &mut out)?;
     Ok(out)
 }
 
@@ -111,9 +105,9 @@ const SHORT: &[u8] =
     b"MESSAGE\nsubscription:s\nmessage-id:7.2.5\ndestination:A\ncontent-length:2\npart:2/3\nx:\\c\n\nhi\0";
 
 /// Appends that MESSAGE; whether it is there whole, or not at all.
-fn is_sent_or_nothing(headers: &Headers, out: &mut Octets) -> bool {
+fn is_sent_or_nothing(message: &PartMessage, out: &mut Octets) -> bool {
     let before = out.len();
-    let want = if put((2, 3), headers, b"hi", out).is_ok() {
+    let want = if write_part_message(message, out).is_ok() {
         SHORT
     } else {
         b""
@@ -123,9 +117,10 @@ fn is_sent_or_nothing(headers: &Headers, out: &mut Octets) -> bool {
 
 /// Whether that is so of twenty, one after the other, and at most one isn't there.
 fn are_sent_or_nothing(alloc: Global, headers: &Headers) -> bool {
+    let message = message((2, 3), headers, b"hi");
     let mut out = Octets::new(alloc);
     for _ in 0..20u8 {
-        if !is_sent_or_nothing(headers, &mut out) {
+        if !is_sent_or_nothing(&message, &mut out) {
             return false;
         }
     }

@@ -78,10 +78,21 @@ fn header(letter: u8) -> (&'static [u8], &'static [u8]) {
     }
 }
 
-/// A SUBSCRIBE of this id to `A` with such a header.
+/// A SUBSCRIBE of this id to `A` with this header.
+fn subscribe_with<'a>(
+    client: &mut Client,
+    id: &'a [u8],
+    name: &'a [u8],
+    value: &'a [u8],
+) -> Result<u32, NoMemory> {
+    let pairs: Pairs = &[(b"id", id), (b"destination", b"A"), (name, value)];
+    client.tell(Command::Subscribe, pairs)
+}
+
+/// A SUBSCRIBE of this id to `A` with the header of a letter.
 fn subscribe(client: &mut Client, id: u8, letter: u8) -> Result<u32, NoMemory> {
-    let pairs: [(&[u8], &[u8]); 3] = [(b"id", &[id]), (b"destination", b"A"), header(letter)];
-    client.tell(Command::Subscribe, &pairs)
+    let (name, value) = header(letter);
+    subscribe_with(client, &[id], name, value)
 }
 
 /// A frame in three letters, as `Client::letters` has it, but for a SUBSCRIBE, whose third letter is that of its header;

@@ -8,7 +8,7 @@ use super::flights::{Quiet, stamp};
 use super::jobs::{Job, Opening, with_broker};
 use super::topics::{Left, left};
 use super::tracing::has_text;
-use broker_locks::{Broker, NoRoom, Side, Subscribed};
+use broker_locks::{Broker, NoRoom, PartOctets, Side, Subscribed};
 use mcast_group::{Cause, Ended, NoSub};
 use mcast_txn::{NoMemory, Topic};
 use std::alloc::Global;
@@ -190,9 +190,9 @@ fn all_left() -> [Left; 5] {
 
 /// The rows of the three transactions, and of each subscription what it accepted.
 const TEXT: &[u8] =
-    b"log 0 0 1 1.0 0\nlog 0 1 1 2.0 0\nlog 0 2 1 3.0 0\nspan 0 0 0.0 1.0\nqueue 0 0 1 1.0\n\
+    b"log 0 0 1 1.0 0\nlog 0 1 1 2.0 0\nlog 0 2 1 3.0 0\nspan 0 0 0.0 1.0\nqueue 0 0 1 1.0\nspan 1 1 0.0 -\n\
     span 1024 0 0.0 2.0\nqueue 1024 0 1 1.0\nqueue 1024 1 1 2.0\nspan 2048 0 0.0 1.0\nqueue 2048 0 1 1.0\n\
-    span 3072 0 2.0 2.0\nspan 1 1 0.0 -\n";
+    span 3072 0 2.0 2.0\n";
 
 #[test]
 fn several_end_as_one_by_one(rt: HostRuntime) -> Result<(), Fail> {
@@ -214,7 +214,7 @@ struct Waited;
 /// Whether there is room for one part more at topic 0, which is given back; or whom that waits for.
 fn room<R: Wait, W: Side, T: Side>(rt: &R, broker: &Broker<R, W, T>) -> Result<(), NoRoom> {
     let mut reserved = broker.no_room();
-    let answer = broker.reserve_at(rt, Topic(0), 0, &mut reserved);
+    let answer = broker.reserve_at(rt, Topic(0), PartOctets(1), 0, &mut reserved);
     broker.release_room(rt, reserved);
     answer
 }
@@ -231,7 +231,7 @@ fn rooms<R: Wait, W: Side, T: Side>(
         return None;
     }
     let before = room(rt, broker);
-    ended_at_once(rt, broker, 0)?;
+    let _ = ended_at_once(rt, broker, 0)?;
     Some([before, room(rt, broker)])
 }
 

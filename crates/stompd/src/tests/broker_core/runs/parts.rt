@@ -76,7 +76,7 @@ const ALTERNATING: &Run = &Run {
         (Take(0), "handed 3"),
         (Take(1), "handed 2"),
     ],
-    report: "commit 0 1 at 1 1, 0 1\nlog 0\n 0 1 at 1 1, 0 1\nlog 1\n 0 1 at 1 1, 0 1\nspan 0 from 0 0 handed 1\n queue 0 1 at 1 1, 0 2 4\nspan 1 from 0 0 handed 1\n queue 0 1 at 1 1, 1 3\n",
+    report: "commit 0 1 at 1 1, 0, 1\nlog 0\n 0 1 at 1 1, 0, 1\nlog 1\n 0 1 at 1 1, 0, 1\nspan 0 from 0 0 handed 1\n queue 0 1 at 1 1, 0, 2, 4\nspan 1 from 0 0 handed 1\n queue 0 1 at 1 1, 1, 3\n",
     outs: &[
         b"CONNECTED\nversion:1.2\nheart-beat:0,0\n\n\0MESSAGE\nsubscription:s\nmessage-id:1.1.0\ndestination:A\ncontent-length:1\npart:1/3\n\na\0MESSAGE\nsubscription:s\nmessage-id:1.1.2\ndestination:A\ncontent-length:1\npart:2/3\n\nc\0MESSAGE\nsubscription:s\nmessage-id:1.1.4\ndestination:A\ncontent-length:1\npart:3/3\n\ne\0MESSAGE\nsubscription:t\nmessage-id:1.1.1\ndestination:B\ncontent-length:1\npart:1/2\n\nb\0MESSAGE\nsubscription:t\nmessage-id:1.1.3\ndestination:B\ncontent-length:1\npart:2/2\n\nd\0",
     ],
@@ -145,7 +145,7 @@ const LAGGING: &Run = &Run {
         (Take(0), "error 74"),
         (Take(0), "refused 87"),
     ],
-    report: "commit 1 1 at 1 0, 0\ncommit 1 2 at 2 0, 0\nlog 0\n 1 1 at 1 0, 0\n 1 2 at 2 0, 0\nspan 0 from 0 0 to 1 0 lag handed 1\n queue 1 1 at 1 0, 0 1\n",
+    report: "commit 1 1 at 1 0, 0\ncommit 1 2 at 2 0, 0\nlog 0\n 1 1 at 1 0, 0\n 1 2 at 2 0, 0\nspan 0 from 0 0 to 1 0 lag handed 1\n queue 1 1 at 1 0, 0, 1\n",
     outs: &[
         b"CONNECTED\nversion:1.2\nheart-beat:0,0\n\n\0MESSAGE\nsubscription:s\nmessage-id:1.0.0\ndestination:A\ncontent-length:1\npart:1/2\n\na\0MESSAGE\nsubscription:s\nmessage-id:1.0.1\ndestination:A\ncontent-length:1\npart:2/2\n\nb\0ERROR\nmessage:74 Lagged\ncontent-length:0\n\n\0",
         CONNECTED,
@@ -162,20 +162,14 @@ const WITHOUT_HOST: &Run = &Run {
     topics: &[(b"A", 0)],
     rows: &[
         (Open, "conn 0"),
-        (
-            Frame(0, b"CONNECT\naccept-version:1.2\n\n\0"),
-            "error 22",
-        ),
+        (Frame(0, b"CONNECT\naccept-version:1.2\n\n\0"), "error 22"),
         (Open, "conn 1"),
         (
             Frame(1, b"STOMP\naccept-version:1.0, 1.2 \n\n\0"),
             "error 22",
         ),
         (Open, "conn 2"),
-        (
-            Frame(2, b"CONNECT\naccept-version:1.1\n\n\0"),
-            "error 22",
-        ),
+        (Frame(2, b"CONNECT\naccept-version:1.1\n\n\0"), "error 22"),
         (Open, "conn 3"),
         (Frame(3, b"CONNECT\n\n\0"), "error 22"),
         (Open, "conn 4"),
