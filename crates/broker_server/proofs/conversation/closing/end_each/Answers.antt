@@ -6,8 +6,8 @@ use Rattle.broker_server.specs.Conversations.{OpenSubState}
 use Rattle.broker_server.proofs.ConversationLemmas.{asks_on, asks_one}
 use Rattle.broker_server.proofs.conversation.closing.end_each.Goals as goal
 
-pub loop-open-preserved : goal.loop-open-preserved
-loop-open-preserved g c =
+pub loop-open-preserved-in-Some : goal.loop-open-preserved-in-Some
+loop-open-preserved-in-Some g c =
     let called = g.C.BrokerCalls.called in
     let was = c.loop-open.yielded in
     let it = c.in-Some.open in
