@@ -9,11 +9,12 @@ use Rattle.std.proofs.lemmas.List.Folds.{list_any-append}
 use Rattle.stomp_frame.specs.declared.raw_frame.RawFrame.{RawFrame}
 use Rattle.mcast_txn.specs.Span.{Item}
 use Rattle.delivery.specs.Core.Outcomes.{is_any}
+use Rattle.broker_server.specs.declared.conversation.conversation_fault.ConversationFault.{ConversationFault}
 use Rattle.broker_server.specs.declared.conversation.drained.Taking.{Taking}
 use Rattle.broker_server.specs.declared.conversation.drained.Taking.TheVariants.{Emptied, Stopped, Halfway, Failed}
 use Rattle.broker_server.specs.BrokerRows.{AsksLag, BrokerRow, SubName, Takes}
-use Rattle.broker_server.specs.Conversations.{OpenSubState}
-use Rattle.broker_server.specs.Delivering.{BreaksOff, Drains, DrainsAll, DrainsOn, DrainsQueues, FailsIn, IfEmptied, StopsIn, WritesAll, nearer_lag, begins_at, full_wire, has_item, has_room, is_item, left_behind, left_from, messages_of, with_messages}
+use Rattle.broker_server.specs.Conversations.{ConversationState, OpenSubState}
+use Rattle.broker_server.specs.Delivering.{BreaksOff, Drains, DrainsAll, DrainsOn, DrainsQueues, FailsIn, IfEmptied, Settles, StopsIn, WritesAll, nearer_lag, begins_at, full_wire, has_item, has_room, is_halfway, is_item, is_stopped, left_behind, left_from, messages_of, with_messages}
 use Rattle.broker_server.specs.Wires.{spelling_with_eol}
 
 -- what was asked, and then more
@@ -241,3 +242,12 @@ drains_back waits capacity next queues front back cut begins asked wire end chan
 pub drains_whole : (still waits : Bool) (held capacity first next : ℕ) (asked : List BrokerRow) (lent queues : List OpenSubState) (before wire : List ℕ) (end : Taking) (new : List OpenSubState) (after : List ℕ) (later : ℕ) → still ≡ waits → held ≡ capacity → first ≡ next → lent ≡ queues → before ≡ wire → DrainsQueues still held first asked lent before end new after later → DrainsQueues waits capacity next asked queues wire end new after later
 drains_whole still waits held capacity first next asked lent queues before wire end new after later h c t q w drains =
     subst (λ (b : Bool). DrainsQueues b capacity next asked queues wire end new after later) h (subst (λ (n : ℕ). DrainsQueues still n next asked queues wire end new after later) c (subst (λ (n : ℕ). DrainsQueues still held n asked queues wire end new after later) t (subst (λ (os : List OpenSubState). DrainsQueues still held first asked os wire end new after later) q (subst (λ (s : List ℕ). DrainsQueues still held first asked lent s end new after later) w drains))))
+
+-- ---- a round
+
+-- what follows where nothing failed
+pub settles_else : (end : Taking) (any : Bool) (old : ConversationState) (result : Bool) (new : ConversationState) → ((why : ConversationFault) → end ≡ Failed why → ⊥) → result ≡ any → new ≡ record old { more = is_stopped end; half = is_halfway end } → Settles end any old [] result new
+settles_else Emptied any old result new never came same = (refl, came, same)
+settles_else Stopped any old result new never came same = (refl, came, same)
+settles_else Halfway any old result new never came same = (refl, came, same)
+settles_else (Failed why) any old result new never came same = absurd (never why refl)

@@ -29,7 +29,8 @@ plain_at id item i p is = slice_get-map (message_of id item.stamp) item.sends i 
 -- f of each number and its value, at an index
 at_number : {X Y : Type 0} (f : ℕ × X → Y) (n : ℕ) (xs : List X) (i : ℕ) → slice_get (map f (enumerate_from n xs)) i ≡ option_map (λ (x : X). f (i + n, x)) (slice_get xs i)
 at_number f n [] i = refl
-at_number {X = X} f n (x ∷ xs) zero = refl
+at_number {X = X} f n (x ∷ xs) zero =
+    let first : n ≡ 0 + n = omega arith in ap (λ (m : ℕ). Some (f (m, x))) first
 at_number {X = X} {Y = Y} f n (x ∷ xs) (suc i) =
     let next : i + (n + 1) ≡ suc i + n = omega arith in
     at_number f (n + 1) xs i ∙ ap (λ (m : ℕ). option_map (λ (y : X). f (m, y)) (slice_get xs i)) next
