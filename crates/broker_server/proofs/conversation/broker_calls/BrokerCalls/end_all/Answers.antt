@@ -5,8 +5,8 @@ use Rattle.broker_server.specs.BrokerRows.{AsksInOrder, BrokerRow, Unsubscribes}
 use Rattle.broker_server.proofs.ConversationLemmas.{asks_on, asks_one}
 use Rattle.broker_server.proofs.conversation.broker_calls.BrokerCalls.end_all.Goals as goal
 
-pub loop-sub-preserved-in-Some : goal.loop-sub-preserved-in-Some
-loop-sub-preserved-in-Some g c =
+pub loop-sub-preserved : goal.loop-sub-preserved
+loop-sub-preserved g c =
     let called = g.Self.BrokerCalls.called in
     let row = λ sub. Unsubscribes (g.Self.BrokerCalls.name sub) in
     let was = c.loop-sub.yielded in
