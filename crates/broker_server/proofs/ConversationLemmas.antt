@@ -1,6 +1,7 @@
 -- Calls of the broker, one after the other.
 use Rattle.std.proofs.Common.{◌≡◌, ◌⊎◌, ◌<◌, ℕ, zero, suc, Bool, false, List, [], ◌∷◌, ◌++◌, length, map, take, Result, Ok, Err, OnOk, OnErr, refl, sym, ap, subst, ◌∙◌, inl, inr, arith}
 use Rattle.std.specs.Prelude.{get_or}
+use Rattle.std.proofs.lemmas.List.{map-append}
 use Rattle.std.specs.List.{list_any}
 use Rattle.stomp_session.specs.declared.action.Action.{Action}
 use Rattle.stomp_session.specs.declared.action.Step.{Step}
@@ -68,3 +69,10 @@ pub asks_named : {B X Y : Type 0} (called : B → BrokerRow → B → Type 0) (n
     → AsksInOrder called a (map (λ x. Unsubscribes (name x)) xs) b → AsksInOrder called a (map (λ y. Unsubscribes (other y)) ys) b
 asks_named called name other xs ys a b same asks =
     subst (λ (rows : List BrokerRow). AsksInOrder called a rows b) (rows_named name xs ∙ (ap (map (λ (n : SubName). Unsubscribes n)) same ∙ sym (rows_named other ys))) asks
+
+-- one more end
+pub asks_next : {B X : Type 0} (called : B → BrokerRow → B → Type 0) (name : X → SubName) (was : List X) (it : X) (a b c : B) → AsksInOrder called a (map (λ x. Unsubscribes (name x)) was) b → called b (Unsubscribes (name it)) c
+    → AsksInOrder called a (map (λ x. Unsubscribes (name x)) (was ++ it ∷ [])) c
+asks_next {X = X} called name was it a b c asked one =
+    let row = λ (x : X). Unsubscribes (name x) in
+    subst (λ (rows : List BrokerRow). AsksInOrder called a rows c) (sym (map-append row was (it ∷ []))) (asks_on called a b c (map row was) (row it ∷ []) asked (asks_one called b c (row it) one))
