@@ -61,12 +61,12 @@ returns-in-Err g c =
     let kind = c.in-Err.fault in
     let why = fault.Connection (connection.Frame kind) in
     let same = c.in-Err.ensures.refused.0 in
+    let told = c.from-fault.result in
     let version = c.says_version-version.result in
-    let says : version ≡ tells_version (Some f) why =
-    c.says_version-version.ensures
-    ∙ ap (λ (h : RawFrame). tells_version (Some h) c.from-fault.result) same
-    ∙ ap (λ (w : ConversationFault). tells_version (Some f) w) c.from-fault.ensures in
-    let fails = subst (λ (w : ConversationFault). EndsSaying version w _ old new.self) c.from-fault.ensures c.fail_saying.ensures.fails in
-    let refuses : RefusesFrame why f old (closing_rows old) new.self = (refl, refused_as f c.in-Err.frame same _ c.receipt.ensures.value version why says old new.self fails) in
+    let says : version ≡ tells_version (Some f) told =
+    c.says_version-version.ensures ∙ ap (λ (h : RawFrame). tells_version (Some h) told) same in
+    let ends = refused_as f c.in-Err.frame same _ c.receipt.ensures.value version told says old new.self c.fail_saying.ensures.fails in
+    let refuses : RefusesFrame why f old (closing_rows old) new.self =
+    (refl, subst (λ (w : ConversationFault). EndsSaying (tells_version (Some f) w) w (receipt_of f) old new.self) c.from-fault.ensures ends) in
     let takes = takes_refused f old (closing_rows old) new.self kind c.in-Err.ensures.refused.1 refuses in
     (closing_rows old, c.fail_saying.ensures.rows, subst (λ (s : ConversationState). TakesFrame f s (closing_rows old) new.self) c.note_ignored.ensures takes)
