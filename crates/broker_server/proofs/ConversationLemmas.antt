@@ -1,10 +1,11 @@
 -- Calls of the broker, one after the other.
-use Rattle.std.proofs.Common.{◌≡◌, ◌⊎◌, ◌<◌, ℕ, zero, suc, Bool, false, List, [], ◌∷◌, ◌++◌, length, map, take, Result, Ok, Err, OnOk, OnErr, refl, sym, subst, inl, inr, arith}
+use Rattle.std.proofs.Common.{◌≡◌, ◌⊎◌, ◌<◌, ℕ, zero, suc, Bool, false, List, [], ◌∷◌, ◌++◌, length, map, take, Result, Ok, Err, OnOk, OnErr, refl, sym, ap, subst, ◌∙◌, inl, inr, arith}
 use Rattle.std.specs.Prelude.{get_or}
+use Rattle.std.proofs.lemmas.List.{map-append}
 use Rattle.std.specs.List.{list_any}
 use Rattle.stomp_session.specs.declared.action.Action.{Action}
 use Rattle.stomp_session.specs.declared.action.Step.{Step}
-use Rattle.broker_server.specs.BrokerRows.{AsksInOrder, BrokerRow}
+use Rattle.broker_server.specs.BrokerRows.{AsksInOrder, BrokerRow, SubName, Unsubscribes}
 use Rattle.broker_server.specs.Conversations.{Acts, Concludes, ConversationState, Done, Performs, is_connect_action, replies}
 
 -- these calls, and then those
@@ -58,3 +59,20 @@ pub asks_some : {B X : Type 0} (row : X → BrokerRow) (xs : List X) (a b : B) �
 asks_some row [] a b some = absurd (some refl)
 asks_some row (x ∷ []) a b some = (b, tt, refl)
 asks_some row (x ∷ y ∷ xs) a b some = (b, tt, asks_some row (y ∷ xs) b b (λ e. absurd (omega (arith, e))))
+
+rows_named : {X : Type 0} (name : X → SubName) (xs : List X) → map (λ x. Unsubscribes (name x)) xs ≡ map (λ (n : SubName). Unsubscribes n) (map name xs)
+rows_named name [] = refl
+rows_named name (x ∷ xs) = ap (λ (rows : List BrokerRow). Unsubscribes (name x) ∷ rows) (rows_named name xs)
+
+-- ends of the same subscriptions, however these are named
+pub asks_named : {B X Y : Type 0} (called : B → BrokerRow → B → Type 0) (name : X → SubName) (other : Y → SubName) (xs : List X) (ys : List Y) (a b : B) → map name xs ≡ map other ys
+    → AsksInOrder called a (map (λ x. Unsubscribes (name x)) xs) b → AsksInOrder called a (map (λ y. Unsubscribes (other y)) ys) b
+asks_named called name other xs ys a b same asks =
+    subst (λ (rows : List BrokerRow). AsksInOrder called a rows b) (rows_named name xs ∙ (ap (map (λ (n : SubName). Unsubscribes n)) same ∙ sym (rows_named other ys))) asks
+
+-- one more end
+pub asks_next : {B X : Type 0} (called : B → BrokerRow → B → Type 0) (name : X → SubName) (was : List X) (it : X) (a b c : B) → AsksInOrder called a (map (λ x. Unsubscribes (name x)) was) b → called b (Unsubscribes (name it)) c
+    → AsksInOrder called a (map (λ x. Unsubscribes (name x)) (was ++ it ∷ [])) c
+asks_next {X = X} called name was it a b c asked one =
+    let row = λ (x : X). Unsubscribes (name x) in
+    subst (λ (rows : List BrokerRow). AsksInOrder called a rows c) (sym (map-append row was (it ∷ []))) (asks_on called a b c (map row was) (row it ∷ []) asked (asks_one called b c (row it) one))

@@ -107,6 +107,11 @@ pub takes_judged : (f : RawFrame) (old : ConversationState) (asked : List Broker
 takes_judged f old asked new none judges =
     subst (λ (o : Option CaseFault). MatchOption o (JudgesFrame f old asked new) (λ why. RefusesFrame (fault.Connection (connection.Frame why)) f old asked new)) (sym none) judges
 
+-- another one is refused
+pub takes_refused : (f : RawFrame) (old : ConversationState) (asked : List BrokerRow) (new : ConversationState) (why : CaseFault) → case_fault f ≡ Some why → RefusesFrame (fault.Connection (connection.Frame why)) f old asked new → TakesFrame f old asked new
+takes_refused f old asked new why is refuses =
+    subst (λ (o : Option CaseFault). MatchOption o (JudgesFrame f old asked new) (λ k. RefusesFrame (fault.Connection (connection.Frame k)) f old asked new)) (sym is) refuses
+
 -- what is left of a reader that failed
 pub reading_fails : (why : FrameFault) (old left : Unread) → (why ≢ FrameFault.NoMemory → NextReturns old (Err why) left) → (why ≡ FrameFault.NoMemory → (left ≡ old) × (is_any old.text ≡ true)) → ReadingFails why old left
 reading_fails FrameFault.NoMemory old left answer same = same refl

@@ -186,6 +186,18 @@ impl<'a, R: Wait + Log + Clock, W: Side, T: Side> Calls<'a, R, W, T> {
         self.hub.room_made(self.rt, topic, made_by_ends(subs));
     }
 
+    /// Ends those of these subscriptions that haven't ended, topic by topic.
+    fn end_each_topic(&self, subs: Vec<SeatedSub>) {
+        let mut subs = subs;
+        subs.retain(|sub| sub.end());
+        subs.sort_unstable_by_key(|sub| sub.topic.0);
+        for at_one in subs.chunk_by(|sub, other| sub.topic.0 == other.topic.0) {
+            if let Some(sub) = at_one.first() {
+                self.end_at(sub.topic, at_one);
+            }
+        }
+    }
+
     /// Takes the seats of these subscriptions out of this topic: where their client is behind, each pays what it was
     /// spared.
     fn take_seats(&self, topic: Topic, subs: &[SeatedSub]) {
@@ -616,6 +628,7 @@ impl<'a, R: Wait + Log + Clock, W: Side, T: Side> BrokerCalls for Calls<'a, R, W
     }
 
     /// Those of one topic end there together.
+    #[tactic(auto, using(crate::proofs::ConversationLemmas::asks_some))]
     fn end_all(&mut self, subs: Vec<SeatedSub>)
         ensures { AsksInOrder (λ old row new. Unit {0}) self.old
             (map (λ sub. Unsubscribes (record { topic = sub.topic; number = sub.begun.sub })) subs.items) self.new }
@@ -624,15 +637,7 @@ impl<'a, R: Wait + Log + Clock, W: Side, T: Side> BrokerCalls for Calls<'a, R, W
             return;
         }
         self.subs = self.subs.saturating_sub(subs.len() as u64);
-        let mut subs = subs;
-        subs.retain(|sub| sub.end());
-        subs.sort_unstable_by_key(|sub| sub.topic.0);
-        for at_one in subs.chunk_by(|sub, other| sub.topic.0 == other.topic.0) {
-            if let Some(sub) = at_one.first() {
-                self.end_at(sub.topic, at_one);
-            }
-        }
-        drop(subs);
+        self.end_each_topic(subs);
     }
 
     fn has_lagged(&mut self, sub: &SeatedSub) -> bool {

@@ -4,7 +4,7 @@ ghost use Rattle.std.specs.Prelude.{◌≡◌, ◌≤◌, Bool, List, take, true
 ghost use Rattle.std.specs.Option.{is_some};
 ghost use Rattle.broker_server.specs.BrokerRows.{BrokerRow};
 ghost use Rattle.broker_server.specs.Delivering.{DeliversRound};
-ghost use Rattle.broker_server.specs.Hearing.{Hears};
+ghost use Rattle.broker_server.specs.Hearing.{HearsOrKeeps};
 ghost use Rattle.broker_server.specs.declared.serving.connection.Round.TheVariants.{Idle};
 
 use crate::conversation::{Conversation, ConversationFault, Exit, Ignored};
@@ -194,7 +194,7 @@ impl<'a, 'b, R: Wait + Log + Clock, W: Side, T: Side> Connection<'a, 'b, R, W, T
     /// Does what the first so many octets of the room ask for, up to a transaction that finds no room.
     fn hear_read(&mut self, desk: &mut Desk<'a, R, W, T>, n: usize)
         ensures heard { n ≤ vec_len self.old.outfit.room → (asked : List BrokerRow)
-            × Hears (take n self.old.outfit.room.items) desk.old.talk asked desk.new.talk }
+            × HearsOrKeeps (take n self.old.outfit.room.items) desk.old.talk asked desk.new.talk }
         ensures same { self.new ≡ record self.old { heard = self.new.heard } }
     {
         self.heard = self.heard.saturating_add(n);

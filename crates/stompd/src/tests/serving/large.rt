@@ -6,10 +6,10 @@ use super::served::{Peers, quiet, serves};
 use std::alloc::Global;
 
 /// How many senders there are, each of which sends one transaction.
-const SENDERS: u64 = 5;
+const SENDERS: u64 = 3;
 
 /// How many SENDs each has: it has more than half of 17 MiB then, so that no other comes beside it.
-const SENDS: usize = 10;
+const SENDS: usize = 9;
 
 /// How many octets each has in its body: as many as a frame may have.
 const BODY: usize = 1_048_576;
