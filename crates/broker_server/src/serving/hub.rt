@@ -212,12 +212,7 @@ impl<R: Wait, W: Side, T: Side> Hub<R, W, T> {
 
     /// Room at each topic of this transaction, where nobody waits for it: at all of them, or at the first of them.
     #[tactic(auto, using(crate::proofs::LineLemmas::put_none, crate::proofs::LineLemmas::put_next, crate::proofs::LineLemmas::put_at, crate::proofs::LineLemmas::put_all))]
-    pub(crate) fn reserve(
-        &self,
-        rt: &R,
-        txn: &Txn,
-        room: &mut Reserved,
-    ) -> Result<(), NoRoom>
+    pub(crate) fn reserve(&self, rt: &R, txn: &Txn, room: &mut Reserved) -> Result<(), NoRoom>
         ensures all { OnOk result (room.new ≡ room.old ++ topics_of txn.now) }
         ensures first { OnErr result (IsRoomFrom room.old (topics_of txn.now) room.new) }
     {
@@ -230,9 +225,7 @@ impl<R: Wait, W: Side, T: Side> Hub<R, W, T> {
                 });
             }
             let octets = PartOctets(txn.octets_at(*topic));
-            self.running
-                .broker
-                .reserve_at(rt, *topic, octets, 0, room)?;
+            self.running.broker.reserve_at(rt, *topic, octets, 0, room)?;
         }
         Ok(())
     }

@@ -144,7 +144,10 @@ fn ends_of<R: Wait, W: Side, T: Side>(
         return None;
     }
     let found = if ends.at_once {
-        [ended_at_once(rt, broker, 0)?, ended_at_once(rt, broker, 1_024)?]
+        [
+            ended_at_once(rt, broker, 0)?,
+            ended_at_once(rt, broker, 1_024)?,
+        ]
     } else {
         [ended_each(rt, broker, 0)?, ended_each(rt, broker, 1_024)?]
     };

@@ -54,8 +54,9 @@ fn subscribes(alloc: Global, is_one_topic: bool) -> Option<String> {
         } else {
             ""
         };
-        let frame =
-            format!(in alloc; "SUBSCRIBE\nid:{number}\ndestination:{name}\n{receipt}\n\0").ok()?;
+        let frame = format!(in alloc;
+            "SUBSCRIBE\nid:{number}\ndestination:{name}\n{receipt}\n\0"
+        ).ok()?;
         text.push_str(frame.as_str()).ok()?;
     }
     Some(text)
@@ -88,8 +89,7 @@ fn one_sends(alloc: Global, lines: &mut Lines, listener: &mut Client, number: u6
     let mut client = Client::connected(alloc, lines)?;
     let message = format!(in alloc;
         "MESSAGE\nsubscription:s\nmessage-id:{number}.0.0\ndestination:A\ncontent-length:2\n\nhi\0\n"
-    )
-    .ok()?;
+    ).ok()?;
     Some(client.asks(SENDS.0, SENT) && listener.hears(message.as_str()))
 }
 
