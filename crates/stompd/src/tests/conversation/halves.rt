@@ -128,7 +128,10 @@ fn push_message(
     number: u32,
 ) -> Result<(), AllocError> {
     let Told {
-        id, topic, stamp, ..
+        id,
+        topic,
+        stamp,
+        ..
     } = told;
     let index = told.first.saturating_add(told.step.saturating_mul(number));
     let head = format!(in alloc;
@@ -201,7 +204,10 @@ fn comes(alloc: Global, topics: &[&str], all: &[Told], at_once: usize) -> Option
 #[test]
 fn an_item_goes_on_where_it_stopped(rt: HostRuntime) {
     for at_once in [1_000, 7_777, 65_536, usize::MAX] {
-        assert!(rt; comes(rt.alloc(), &["A"], &[AT_A], at_once) == Some(true), "{at_once} at once");
+        assert!(rt;
+            comes(rt.alloc(), &["A"], &[AT_A], at_once) == Some(true),
+            "{at_once} at once"
+        );
     }
 }
 
@@ -258,7 +264,11 @@ fn is_lost(alloc: Global, calls: u32) -> Option<bool> {
     let waits = talk.talk.wire().len();
     talk.lose();
     let ended = talk.leaves_by(Exit::Lost)
-        && talk.fake.rows.as_slice().ends_with(&[Unsubscribes(0), GivesBack])
+        && talk
+            .fake
+            .rows
+            .as_slice()
+            .ends_with(&[Unsubscribes(0), GivesBack])
         && !talk.deliver()
         && !talk.talk.has_more()
         && talk.talk.wire().len() == waits;
@@ -305,7 +315,7 @@ fn ends_behind_a_frame(octets: &[u8], whole: &[u8], end: &[u8]) -> bool {
 fn is_told(alloc: Global) -> Option<bool> {
     let whole = expected(alloc, &[AT_A]).ok()?;
     let mut peer = Peer {
-        came: Vec::with_capacity(alloc, 2 * whole.len()).ok()?,
+        came: Vec::with_capacity(alloc, whole.len().saturating_mul(2)).ok()?,
         room: 0,
     };
     let mut talk = committed(alloc, &["A"])?;

@@ -6,7 +6,9 @@ use std::alloc::Global;
 
 /// Two subscriptions that ask for parts, and one to A that doesn't.
 const S: &str = "SUBSCRIBE\nid:s\ndestination:A\npart:yes\n\n\0";
+
 const T: &str = "SUBSCRIBE\nid:t\ndestination:B\npart:yes\n\n\0";
+
 const PLAIN: &str = "SUBSCRIBE\nid:p\ndestination:A\npart:no\n\n\0";
 
 /// Whether this is written, once CONNECTED was, as a connection sends these texts and takes what is there.
@@ -24,7 +26,8 @@ fn writes(alloc: Global, plan: Plan, texts: &[&str], wanted: &str) -> bool {
 
 #[test]
 fn one_is_the_first_of_one(rt: HostRuntime) {
-    let wanted = "MESSAGE\nsubscription:s\nmessage-id:1.0.0\ndestination:A\ncontent-length:2\npart:1/1\n\nhi\0\n";
+    let wanted =
+        "MESSAGE\nsubscription:s\nmessage-id:1.0.0\ndestination:A\ncontent-length:2\npart:1/1\n\nhi\0\n";
     assert!(rt; writes(rt.alloc(), WILLING, &[S, SEND], wanted));
 }
 
@@ -34,7 +37,8 @@ const THREE: &str = "BEGIN\ntransaction:x\n\n\0\
     SEND\ndestination:A\ntransaction:x\n\nthree\0COMMIT\ntransaction:x\n\n\0";
 
 /// What the two subscriptions get of it.
-const OF_THREE: &str = "MESSAGE\nsubscription:s\nmessage-id:2.1.0\ndestination:A\ncontent-length:3\npart:1/2\n\none\0\n\
+const OF_THREE: &str =
+    "MESSAGE\nsubscription:s\nmessage-id:2.1.0\ndestination:A\ncontent-length:3\npart:1/2\n\none\0\n\
     MESSAGE\nsubscription:s\nmessage-id:2.1.2\ndestination:A\ncontent-length:5\npart:2/2\n\nthree\0\n\
     MESSAGE\nsubscription:t\nmessage-id:2.1.1\ndestination:B\ncontent-length:3\npart:1/1\n\ntwo\0\n";
 
@@ -47,7 +51,8 @@ fn each_topic_counts_its_own(rt: HostRuntime) {
 const OWN: &str = "SEND\ndestination:A\npart:9/9\nk:v\n\nhi\0";
 
 /// What a subscription that asks for parts gets of it, and one that doesn't.
-const OF_OWN: &str = "MESSAGE\nsubscription:s\nmessage-id:1.0.0\ndestination:A\ncontent-length:2\npart:1/1\nk:v\n\nhi\0\n\
+const OF_OWN: &str =
+    "MESSAGE\nsubscription:s\nmessage-id:1.0.0\ndestination:A\ncontent-length:2\npart:1/1\nk:v\n\nhi\0\n\
     MESSAGE\nsubscription:p\nmessage-id:1.0.0\ndestination:A\ncontent-length:2\npart:9/9\nk:v\n\nhi\0\n";
 
 #[test]
@@ -63,7 +68,8 @@ const LAGGING: Plan = Plan {
 };
 
 /// Three items, and the lag behind them.
-const OF_LAG: &str = "MESSAGE\nsubscription:s\nmessage-id:1.0.0\ndestination:A\ncontent-length:2\npart:1/1\n\nhi\0\n\
+const OF_LAG: &str =
+    "MESSAGE\nsubscription:s\nmessage-id:1.0.0\ndestination:A\ncontent-length:2\npart:1/1\n\nhi\0\n\
     MESSAGE\nsubscription:s\nmessage-id:2.0.0\ndestination:A\ncontent-length:2\npart:1/1\n\nhi\0\n\
     MESSAGE\nsubscription:s\nmessage-id:3.0.0\ndestination:A\ncontent-length:2\npart:1/1\n\nhi\0\n\
     ERROR\nmessage:74 Lagged\ncontent-length:0\n\n\0\n";
