@@ -2,6 +2,7 @@
 
 import contextlib
 import os
+import statistics
 import subprocess
 import sys
 import threading
@@ -11,36 +12,35 @@ from hostility import TOPICS
 from servers import HERE
 from steady import load
 
-# How many come at once, over and over, and for how long, in seconds; what part of its rate a stream has beside them. Until they come the
-# stream has a second, and then they have two until it is measured.
-COMERS, SECONDS, LEAST_RATE = 2, 10, 0.5
+# How many come at once, over and over; for how long each of so many runs is measured, in seconds; what part of its rate beside those who
+# come to another topic a stream has beside those who come to its own, by the medians. Until they come the stream has a second, and then they
+# have two until it is measured.
+COMERS, SECONDS, RUNS, LEAST_RATE = 2, 3, 5, 0.2
 ALONE, COME = 1, 2
 
 
 def subscribed_and_reset(trial):
-    """Two processes connect, subscribe 64 times to one topic and reset, over and over, beside a sender and a subscriber of that topic. So
-    they do without a wait, and once they have subscribed; and to 64 topics, of which one is that topic."""
+    """Two processes connect, subscribe 64 times to one topic and reset, over and over, beside a sender and a subscriber of that topic, or of
+    another. So they do without a wait, and once they have subscribed."""
     prefix, topic = trial.topic_alone()
-    seconds = max(2, trial.part(SECONDS))
-    before = rate(trial, prefix, seconds)
-    said = [f"{before:,.0f}/s alone"]
-    for what, waits, topics in (
-        ("at once", "no", [topic]),
-        ("once subscribed", "yes", [topic]),
-        ("at 64 topics", "no", [topic, *TOPICS[1:]]),
-    ):
-        comers = Comers(trial, waits, topics)
-        during = rate(trial, prefix, seconds, comers)
-        trial.expect(during >= LEAST_RATE * before, f"{what}: a stream had {during:,.0f}/s, and {before:,.0f} before")
-        said.append(f"{during:,.0f} beside {comers.came / comers.took:,.0f} a second {what}")
+    said = []
+    for what, waits in (("at once", "no"), ("once subscribed", "yes")):
+        elsewhere, _ = rates(trial, prefix, waits, TOPICS[0])
+        here, worst = rates(trial, prefix, waits, topic)
+        trial.expect(here >= LEAST_RATE * elsewhere, f"{what}: a stream had {here:,.0f}/s, and {elsewhere:,.0f} beside others")
+        said.append(f"a stream had {here:,.0f}/s ({worst:,.0f} at worst) beside those who reset {what}, {elsewhere:,.0f} beside others")
     return "; ".join(said)
 
 
-def rate(trial, prefix, seconds, comers=None):
+def rates(trial, prefix, waits, topic):
+    """What the stream has a second, the median and the least, beside those who come to this topic."""
+    found = [rate(trial, prefix, SECONDS, Comers(trial, waits, [topic])) for _ in range(trial.part(RUNS))]
+    return statistics.median(found), min(found)
+
+
+def rate(trial, prefix, seconds, comers):
     """What a sender and a subscriber have a second, 32 on their way, beside these."""
-    with contextlib.ExitStack() as block:
-        if comers is not None:
-            block.enter_context(comers)
+    with comers:
         report = load(trial, prefix, f"measured={1000 * seconds}", f"warm={1000 * (ALONE + COME)}")
     return report["came"] / report["time"] * 1e9 if report["time"] else 0.0
 
