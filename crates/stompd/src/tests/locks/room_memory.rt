@@ -127,7 +127,8 @@ fn lacking_at_last<R: Wait, W: Side, T: Side>(
         let mut list = Vec::new(alloc);
         if broker
             .lacking(rt, Topic(0), PartOctets(1), &mut list)
-            .is_ok() {
+            .is_ok()
+        {
             return Some([list.first().copied(), list.get(1).copied()]);
         }
     }

@@ -54,13 +54,7 @@ fn senders(alloc: Global, lines: &mut Lines, send: &str) -> Option<Vec<Client>> 
 }
 
 /// Whether the MESSAGE of this index of the transaction of this number comes next, with this body and its NULL.
-fn hears_one(
-    reader: &mut Client,
-    alloc: Global,
-    number: u64,
-    index: usize,
-    body: &[u8],
-) -> bool {
+fn hears_one(reader: &mut Client, alloc: Global, number: u64, index: usize, body: &[u8]) -> bool {
     let head = format!(in alloc;
         "MESSAGE\nsubscription:s\nmessage-id:{number}.0.{index}\ndestination:A\ncontent-length:{BODY}\n\n"
     );
