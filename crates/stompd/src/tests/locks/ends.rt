@@ -175,7 +175,10 @@ impl<R: Wait> Job<R> for Ends {
         let Some(found) = ends_of(rt, alloc, &broker, self) else {
             return Ok(None);
         };
-        Ok(broker.into_trace().ok().map(|trace| (found, trace)))
+        match broker.into_trace() {
+            Ok(trace) => Ok(Some((found, trace))),
+            Err(_) => Ok(None),
+        }
     }
 }
 
