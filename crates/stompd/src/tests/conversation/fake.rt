@@ -1,6 +1,7 @@
 //! A broker of one thread, which keeps what it is asked.
 
-ghost use Rattle.std.specs.Prelude.{◌≡◌};
+ghost use Rattle.std.specs.Prelude.{◌≡◌, map};
+ghost use Rattle.broker_server.specs.BrokerRows.{AsksInOrder, Unsubscribes};
 
 use broker_locks::CommitFault;
 use broker_server::{BrokerCalls, ConversationFault};
@@ -174,6 +175,15 @@ impl Fake {
     }
 }
 
+impl Fake {
+    /// Ends these subscriptions, in order.
+    fn end_each(&mut self, subs: Vec<FakeSub>) {
+        for sub in subs {
+            self.unsubscribe(sub);
+        }
+    }
+}
+
 impl BrokerCalls for Fake {
     ghost use Rattle.broker_server.specs.BrokerRows.{SubName};
 
@@ -232,6 +242,18 @@ impl BrokerCalls for Fake {
     fn unsubscribe(&mut self, sub: FakeSub) {
         self.note(Row::Unsubscribes(sub.number));
         self.close(sub.number);
+    }
+
+    /// In order.
+    #[tactic(auto, using(crate::proofs::EndLemmas::asks_some))]
+    fn end_all(&mut self, subs: Vec<FakeSub>)
+        ensures { AsksInOrder (λ old row new. Unit {0}) self.old
+            (map (λ sub. Unsubscribes (record { topic = sub.topic; number = sub.number })) subs.items) self.new }
+    {
+        if subs.is_empty() {
+            return;
+        }
+        self.end_each(subs);
     }
 
     fn has_lagged(&mut self, sub: &FakeSub) -> bool {

@@ -1,6 +1,7 @@
 //! A connection that is lost while its COMMIT is held between two proposals: the commit goes through, and its sender goes on.
 
-ghost use Rattle.std.specs.Prelude.{◌≡◌};
+ghost use Rattle.std.specs.Prelude.{◌≡◌, map};
+ghost use Rattle.broker_server.specs.BrokerRows.{AsksInOrder, Unsubscribes};
 
 use super::broker::heads;
 use super::flights::{next_stamp, stamp};
@@ -52,6 +53,15 @@ struct Calls<'a, R: Wait, W: Side, T: Side> {
     stamp: Option<Stamp>,
 }
 
+impl<'a, R: Wait, W: Side, T: Side> Calls<'a, R, W, T> {
+    /// Ends these subscriptions, in order.
+    fn end_each(&mut self, subs: Vec<Sub>) {
+        for sub in subs {
+            self.unsubscribe(sub);
+        }
+    }
+}
+
 impl<'a, R: Wait, W: Side, T: Side> BrokerCalls for Calls<'a, R, W, T> {
     ghost use Rattle.broker_server.specs.BrokerRows.{SubName};
 
@@ -97,6 +107,18 @@ impl<'a, R: Wait, W: Side, T: Side> BrokerCalls for Calls<'a, R, W, T> {
         let Sub { topic, begun } = sub;
         let _ = self.broker.unsubscribe(self.rt, topic, begun.sub);
         drop(begun);
+    }
+
+    /// In order.
+    #[tactic(auto, using(crate::proofs::EndLemmas::asks_some))]
+    fn end_all(&mut self, subs: Vec<Sub>)
+        ensures { AsksInOrder (λ old row new. Unit {0}) self.old
+            (map (λ sub. Unsubscribes (record { topic = sub.topic; number = sub.begun.sub })) subs.items) self.new }
+    {
+        if subs.is_empty() {
+            return;
+        }
+        self.end_each(subs);
     }
 
     fn has_lagged(&mut self, sub: &Sub) -> bool {
