@@ -6,10 +6,10 @@ use super::served::{Peers, quiet, serves};
 use std::alloc::{AllocError, Global};
 
 /// How many subscribers there are.
-const SUBSCRIBERS: u32 = 8;
+const SUBSCRIBERS: u32 = 2;
 
 /// How many SENDs the transaction has.
-const SENDS: u32 = 16;
+const SENDS: u32 = 8;
 
 /// How many octets each has in its body.
 const BODY: usize = 1_048_576;
@@ -99,7 +99,7 @@ fn subscribers(alloc: Global, lines: &mut Lines) -> Option<Vec<Client>> {
     Some(clients)
 }
 
-/// Eight subscribe, and read nothing before a transaction of 16 MiB was committed.
+/// Two subscribe, and read nothing before a transaction of 8 MiB was committed.
 #[derive(Drop)]
 struct Unread;
 
