@@ -105,7 +105,7 @@ struct Unread;
 
 impl Peers for Unread {
     fn count(&self) -> u64 {
-        9
+        3
     }
 
     fn meet(&self, alloc: Global, lines: &mut Lines) -> bool {
