@@ -88,7 +88,6 @@ have_none h = (let third = h.1.1.0 in omega (arith, third))
 largest_is : largest (6 * mebi ∷ 8 * mebi ∷ mebi ∷ []) ≡ 8 * mebi
 largest_is = refl
 
-
 -- ---- room
 
 -- one is pending and one reserved

@@ -283,8 +283,14 @@ impl<R: Wait, T: Side> LockedTopic<R, T> {
         ensures ok { OnOk result (self.new.room ≡ one_reserved self.old.room) }
         ensures err { OnErr result (self.new.room ≡ self.old.room) }
     {
-        self.room
-            .reserve(rt, capacity, octets, start, &mut self.place, &mut self.spare)
+        self.room.reserve(
+            rt,
+            capacity,
+            octets,
+            start,
+            &mut self.place,
+            &mut self.spare,
+        )
     }
 
     /// Gives back what was reserved for one part, where it is reserved.

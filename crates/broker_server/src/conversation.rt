@@ -47,11 +47,11 @@ use std::alloc::Global;
 use std::io::Write;
 use std::marker::Model;
 use std::mem;
-use taking::drain_queues;
 use stomp_frame::{
     ClientFrame, FrameFault, FrameReader, Limits, NoMemory, Octets, RawFrame, ServerFrame, classify,
 };
 use stomp_session::{Action, Names, Session, Step};
+use taking::drain_queues;
 
 /// From as many octets that wait on, nothing more is read (our choice).
 const MOST: usize = 1_048_576;

@@ -75,10 +75,7 @@ impl RoomWait {
             ⊎ (self.new.counted_at ≡ Some topic) }
     {
         let mut lacking = Vec::new(alloc);
-        let _ = hub
-            .running
-            .broker
-            .lacking(rt, topic, octets, &mut lacking);
+        let _ = hub.running.broker.lacking(rt, topic, octets, &mut lacking);
         if lacking.is_empty() && self.counted_at.is_none() {
             return 0;
         }
@@ -129,15 +126,7 @@ fn pass_over_those<R: Wait, W: Side, T: Side>(
     now: Moment,
     look: &Look,
 ) -> u64 {
-    let mut count = pass_over(
-        rt,
-        hub,
-        seats,
-        topic,
-        octets,
-        now,
-        look.given_up.as_slice(),
-    );
+    let mut count = pass_over(rt, hub, seats, topic, octets, now, look.given_up.as_slice());
     if !look.may_wait {
         let dear = pass_over(rt, hub, seats, topic, octets, now, look.dear.as_slice());
         count = count.saturating_add(dear);

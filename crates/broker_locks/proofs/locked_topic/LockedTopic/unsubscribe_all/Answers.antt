@@ -19,7 +19,7 @@ loop-number-preserved g c =
     let more = ends_more shown_of_source first c.loop-number.answers.items n c.unsubscribe.result was.place c.loop-number.self.place now.place c.loop-number.invariant.ends c.unsubscribe.ensures.ends in
     record {
       ends = subst (λ (ns : List ℕ). EndsInOrder shown_of_source ns c.push_reserved.new.self.items was.place now.place) (sym next)
-        (subst (λ (xs : List (Result (Ended End) NoSub)). EndsInOrder shown_of_source (first ++ n ∷ []) xs was.place now.place) (sym c.push_reserved.ensures.items) more);
+          (subst (λ (xs : List (Result (Ended End) NoSub)). EndsInOrder shown_of_source (first ++ n ∷ []) xs was.place now.place) (sym c.push_reserved.ensures.items) more);
       room = c.unsubscribe.ensures.room ∙ (ap (waiting_without n) c.loop-number.invariant.room ∙ (sym (without_more first n was.room) ∙ ap (λ (ns : List ℕ). waiting_without_each ns was.room) (sym next)));
       many = c.push_reserved.ensures.len ∙ ap (λ k. k + 1) c.loop-number.invariant.many;
       space = subst (λ k. length numbers ≤ k) (sym c.push_reserved.ensures.capacity) c.loop-number.invariant.space;

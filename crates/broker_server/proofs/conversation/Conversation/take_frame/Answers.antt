@@ -26,7 +26,7 @@ returns-in-Ok-judge g c =
     let step = c.in-Ok-judge.step in
     let accepts = subst (λ (h : RawFrame). AcceptsFrame h step old judged.0 between) same judged.2 in
     let takes = takes_judged f old (judged.0 ++ did.0) c.act.new.self c.in-Ok.ensures.accepted.1
-        (judged.0, did.0, refl, between, inl (step, accepts, did.2)) in (
+    (judged.0, did.0, refl, between, inl (step, accepts, did.2)) in (
       judged.0 ++ did.0,
       asks_on called c.args.calls.now c.judge.new.calls c.act.new.calls judged.0 did.0 judged.1 did.1,
       subst (λ (s : ConversationState). TakesFrame f s (judged.0 ++ did.0) c.act.new.self) c.note_ignored.ensures takes,
@@ -47,7 +47,7 @@ returns-in-Err-judge g c =
     let asks = c.receipt-in-Err-judge.ensures.value ∙ ap (λ (frame : ClientFrame). receipt_of (raw_of frame)) e.ensures.back in
     let denies = subst (λ (h : RawFrame). DeniesFrame h e.fault old judged.0 between) same judged.2 in
     let takes = takes_judged f old (judged.0 ++ rest) new.self c.in-Ok.ensures.accepted.1
-        (judged.0, rest, refl, between, inr (e.fault, denies, (refl, refused_as f (raw_of came) same _ asks (tells_version None e.fault) e.fault (tells_alike f e.fault old.session denies.known denies.refused) between new.self c.fail.ensures.fails))) in (
+    (judged.0, rest, refl, between, inr (e.fault, denies, (refl, refused_as f (raw_of came) same _ asks (tells_version None e.fault) e.fault (tells_alike f e.fault old.session denies.known denies.refused) between new.self c.fail.ensures.fails))) in (
       judged.0 ++ rest,
       asks_on called c.args.calls.now c.judge.new.calls new.calls judged.0 rest judged.1 c.fail.ensures.rows,
       subst (λ (s : ConversationState). TakesFrame f s (judged.0 ++ rest) new.self) c.note_ignored.ensures takes,

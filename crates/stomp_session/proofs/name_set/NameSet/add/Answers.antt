@@ -13,6 +13,6 @@ invariant_of-self-2 c f =
     let at : c.len-at.result ≡ length (names_of items) = c.len-at.ensures ∙ ap (λ (xs : List (List ℕ)). length xs) (sym c.self.view_is) in
     let mark : c.fingerprint.result ≡ fingerprint name = c.fingerprint.ensures ∙ ap fingerprint c.deref.ensures in
     let all : names_of c.push_reserved.new.self.items ≡ names_of items ++ name ∷ [] =
-        ap names_of (c.push_reserved.ensures.items ∙ ap (λ (xs : List (Arc (List ℕ) Global)). xs ++ c.args.name ∷ []) c.reserve.ensures.items)
-        ∙ names_of-push items c.args.name in
+    ap names_of (c.push_reserved.ensures.items ∙ ap (λ (xs : List (Arc (List ℕ) Global)). xs ++ c.args.name ∷ []) c.reserve.ensures.items)
+    ∙ names_of-push items c.args.name in
     rw all (finds_one_more c.self.inside.firsts.entries c.note_first.new.firsts.entries (names_of items) name c.self.invariant (λ g. rw (← mark, ← at) (c.in_ok-note_first.ensures.ok g)) f)
