@@ -11,28 +11,28 @@ find_stompd() {
     fi
 }
 
-# Compiles bench/NAME.rs into bench/out/NAME for each NAME, where a source is newer.
+# Compiles bench/plain/NAME.rs into bench/out/NAME for each NAME, where a source is newer.
 build() {
     mkdir -p bench/out
     local name source
     for name in "$@"; do
-        for source in bench/*.rs; do
+        for source in bench/plain/*.rs; do
             if [ "$source" -nt "bench/out/$name" ]; then
-                rustc --edition 2021 -O -o "bench/out/$name" "bench/$name.rs"
+                rustc --edition 2021 -O -o "bench/out/$name" "bench/plain/$name.rs"
                 break
             fi
         done
     done
 }
 
-# Proves and builds bench/NAME_main.txt into bench/out/NAME, where a source is newer: for NAME, the
+# Proves and builds bench/measured/NAME_main.txt into bench/out/NAME, where a source is newer: for NAME, the
 # crates of this repository that it takes, and the kit's. It is no crate of this repository, and
 # `rt ci` takes no other below its top: so it is built in a scratch repository elsewhere, over copies
 # of the crates and of what was proved of them, as the crate `measured`, since `core` is the kit's. What is
-# written of the proof of its function `run`, where that is needed, is bench/NAME_invariants.txt.
+# written of the proof of its function `run`, where that is needed, is bench/measured/NAME_invariants.txt.
 prove() {
     local name=$1 crates=$2 others=$3 crate
-    local sources=("bench/${name}_main.txt" crates.txt)
+    local sources=("bench/measured/${name}_main.txt" crates.txt)
     for crate in $crates; do
         sources+=("crates/$crate/src" "crates/$crate/specs" "crates/$crate/proofs")
     done
@@ -48,10 +48,10 @@ prove() {
         cp -a "crates/$crate" "$scratch/crates"
     done
     echo "measured: $crates $others" >> "$scratch/crates.txt"
-    cp "bench/${name}_main.txt" "$scratch/crates/measured/src/main.rt"
-    if [ -e "bench/${name}_invariants.txt" ]; then
+    cp "bench/measured/${name}_main.txt" "$scratch/crates/measured/src/main.rt"
+    if [ -e "bench/measured/${name}_invariants.txt" ]; then
         mkdir -p "$scratch/crates/measured/proofs/run"
-        cp "bench/${name}_invariants.txt" "$scratch/crates/measured/proofs/run/Invariants.antt"
+        cp "bench/measured/${name}_invariants.txt" "$scratch/crates/measured/proofs/run/Invariants.antt"
     fi
     echo "proving and building the program (see bench/out/$name.log)" >&2
     (cd "$scratch/crates/measured" && rt run < /dev/null) > "bench/out/$name.log" 2>&1 \

@@ -37,6 +37,9 @@
 #ifndef LATE                     /* 1: the last subscription isn't there at the beginning, and SUBSCRIBE may be a frame */
 #define LATE 0
 #endif
+#ifndef IDLES                    /* times that a taker wakes since it is idle, by time alone */
+#define IDLES 0
+#endif
 #ifndef STRANGERS                /* stand-ins at desk 0 by a seat of the connection that had that number before */
 #define STRANGERS 0
 #endif
@@ -531,6 +534,7 @@ end:
 proctype Owner(byte c) {
   SCRATCH;
   bool told, busy, may, timed;
+  byte idles;
   LOCK_DESK(c, OWNER); at_desk[c] = true; UNLOCK_DESK(c);        /* connection.rt run */
 work:                                                            /* connection.rt work */
   LOCK_DESK(c, OWNER);
@@ -589,6 +593,7 @@ round:                                                           /* connection.r
   fi;
   if                                                             /* connection.rt sleep_of */
   :: !blocked[c] -> skip
+  :: !blocked[c] && idles < IDLES -> idles++; timed = true       /* connection.rt calm_sleep: outfit.rt is_wide */
   :: else ->
      timed = true;
      if                                                          /* desk.rt is_lost: at each tenth wait it ends what has lagged */

@@ -10,6 +10,7 @@ from servers import OUT, Server
 SHORT = ["warm=0", "measured=400", "patience=15000", "most=20000", "whole"]
 SHORT_OF_BURST = ["measured=400", "patience=15000", "whole"]
 IDLE_SECONDS = 0.1
+SILENCE = 0.1
 SMALL = 10
 
 # What a wrong server does, the row that shows it, what has to be told of it, and whether nothing else may be.
@@ -28,7 +29,8 @@ ALL = (*measuring.FAULTS, "split", "disagreeing")
 
 def run_load(server, row, prefix, is_strict):
     """One short run, what it came to, and why it isn't right; None where it is."""
-    report = measuring.load(server, row, prefix, SHORT_OF_BURST if row.kind == "burst" else SHORT)
+    run = measuring.halved if row.kind == "half" else measuring.loaded
+    report, _ = run(server, row, prefix, SHORT_OF_BURST if row.kind == "burst" else SHORT)
     fault = measuring.order_fault(report, is_strict)
     came = f"{report.get('all_came', 0):,} deliveries"
     if fault is None and not report["all_came"]:
@@ -40,13 +42,16 @@ def run_load(server, row, prefix, is_strict):
 
 def check_row(row, prefix, name, program, is_strict):
     """Whether one short run of a row is right; says what it came to."""
-    with Server(program, rows.names(row, prefix)) as server:
+    with program(rows.names(row, prefix)) as server, measuring.busy_processes(row.busy):
         if row.kind == "idle":
             measuring.idle_figures(server, prefix, rows.IDLE, IDLE_SECONDS)
             came, fault = f"{rows.IDLE} connections were served", None
         elif row.kind == "small":
             measuring.small_write_figures(server, prefix, SMALL)
             came, fault = f"{SMALL} transactions were answered", None
+        elif row.kind == "first":
+            measuring.first_figures(server, prefix, SILENCE)
+            came, fault = "it came", None
         else:
             came, fault = run_load(server, row, prefix, is_strict)
     print(f"{'right' if fault is None else 'NO RESULT'}: {row.name}, {name}: {fault or came}", flush=True)

@@ -15,7 +15,7 @@ from steady import load
 # How many come at once, over and over; for how long each of so many runs is measured, in seconds; what part of its rate beside those who
 # come to another topic a stream has beside those who come to its own, by the medians. Until they come the stream has a second, and then they
 # have two until it is measured.
-COMERS, SECONDS, RUNS, LEAST_RATE = 2, 3, 5, 0.2
+COMERS, SECONDS, RUNS, LEAST_RATE = 2, 3, 5, 0.5
 ALONE, COME = 1, 2
 
 
@@ -25,17 +25,12 @@ def subscribed_and_reset(trial):
     prefix, topic = trial.topic_alone()
     said = []
     for what, waits in (("at once", "no"), ("once subscribed", "yes")):
-        elsewhere, _ = rates(trial, prefix, waits, TOPICS[0])
-        here, worst = rates(trial, prefix, waits, topic)
+        found = [[rate(trial, prefix, SECONDS, Comers(trial, waits, [it])) for it in (TOPICS[0], topic)] for _ in range(trial.part(RUNS))]
+        elsewhere, here = (statistics.median(it) for it in zip(*found))
+        worst = min(it for _, it in found)
         trial.expect(here >= LEAST_RATE * elsewhere, f"{what}: a stream had {here:,.0f}/s, and {elsewhere:,.0f} beside others")
         said.append(f"a stream had {here:,.0f}/s ({worst:,.0f} at worst) beside those who reset {what}, {elsewhere:,.0f} beside others")
     return "; ".join(said)
-
-
-def rates(trial, prefix, waits, topic):
-    """What the stream has a second, the median and the least, beside those who come to this topic."""
-    found = [rate(trial, prefix, SECONDS, Comers(trial, waits, [topic])) for _ in range(trial.part(RUNS))]
-    return statistics.median(found), min(found)
 
 
 def rate(trial, prefix, seconds, comers):

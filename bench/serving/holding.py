@@ -1,10 +1,11 @@
 """What bench/hostile does to see how much memory clients make the server hold: rows as in hostility.py."""
 
 import contextlib
+import select
 import threading
 import time
 
-from client import Client, Ended, send_frame, subscribe
+from client import Client, Ended, error_of, exchange, send_frame, subscribe
 from hostility import MINE, MOST_BODY, MOST_CONNECTIONS, MOST_LINE, MOST_TOPICS, NAMES, close_all
 from waiting import hang_up
 
@@ -21,6 +22,9 @@ PACE = 12 * MIB
 
 # By how much more memory may be: what the C library rounds up to, and what the connections take besides.
 FIFTH, TENTH = 1.2, 1.1
+
+# For so many seconds the server tries to tell its last words to one that doesn't read, and a bit.
+LAST_WORDS = 12
 
 WITHIN = b"transaction:t\n"
 
@@ -158,5 +162,88 @@ def long_names(trial):
     return f"{len(names)} names of {longest:,} octets: {before:,} KiB, {after:,} once {len(others)} more knew them, {each:.1f} for each"
 
 
-ROWS = [one_large_transaction, large_transactions]
+def is_told(client):
+    """Whether something came at this client that is an ERROR; it reads what came."""
+    while select.select([client.socket], [], [], 0)[0]:
+        client.read_some(time.monotonic() + 1, b"ERROR")
+        if error_of(client.came) is not None:
+            return True
+    return False
+
+
+class Opening:
+    """A client that opens transactions of 64 SENDs of 1 MiB each, and commits none."""
+
+    def __init__(self, client):
+        self.client, self.sent = client, 0
+
+    def goes_on(self, body=b"m" * MIB):
+        """One SEND more; whether it was told nothing."""
+        within = b"transaction:%d\n" % (self.sent // 64)
+        if self.sent % 64 == 0:
+            self.client.send(b"BEGIN\n" + within + b"\n\0")
+        self.client.send(send_frame(MINE, body, within))
+        self.sent += 1
+        return not is_told(self.client)
+
+
+def transactions_without_end(trial, most=1280):
+    """One client opens transactions, and commits none, until it is told 72; another one is served meanwhile."""
+    before, longest = trial.server.memory(), 0.0
+    trial.server.forget_most_memory()
+    with Client(trial.address, 30) as client:
+        opening, is_on = Opening(client.connect()), True
+        while is_on and opening.sent < most:
+            is_on = opening.goes_on()
+            if opening.sent % 64 == 0:
+                longest = max(longest, exchange(trial.address, MINE))
+        told = error_of(client.came)
+    held = (trial.server.most_memory() - before) / KIB
+    trial.expect(told == 72, f"it was told {told} after {opening.sent} MiB")
+    trial.expect(960 <= opening.sent <= 1088, f"it was told {told} after {opening.sent} MiB")
+    trial.expect(longest < trial.at_once, f"another client waited {longest:.0f} ms")
+    return f"{opening.sent:,} MiB were open as it was told {told}, {held:,.0f} held; another client was served within {longest:.0f} ms"
+
+
+def transactions_of_many(trial, clients=250, rounds=10, most=2048):
+    """250 clients open transactions side by side, 10 MiB each, until they are told 72. Who holds little is told nothing."""
+    before = trial.server.memory()
+    trial.server.forget_most_memory()
+    clients = trial.open(trial.part(clients), seconds=30)
+    openings, told = [Opening(it) for it in clients], []
+    for _ in range(rounds):
+        for it in [it for it in openings if it not in told]:
+            if not it.goes_on():
+                told.append(it)
+    held = (trial.server.most_memory() - before) / KIB
+    least = min((it.sent for it in told), default=0)
+    trial.expect(all(error_of(it.client.came) == 72 for it in told), "one was told something else than 72")
+    trial.expect(told and least > 4, f"{len(told)} were told, one after {least} MiB")
+    trial.expect(held <= TENTH * most, f"it held {held:,.0f} MiB, and {most:,} are what it may")
+    close_all(clients)
+    return f"{len(clients)} clients: {len(told)} were told 72, none before it held {least} MiB; {held:,.0f} MiB were held in all"
+
+
+def queues_that_nobody_takes(trial, topics=5, rounds=4, sends=64, most=1000):
+    """A client commits transactions of 64 MiB to five topics by turns, each of which has a subscriber that never reads. These are passed
+    over, and end by 72 when memory is short; the sender goes on."""
+    names, said = [trial.topic_alone()[1] for _ in range(topics)], trial.server.log_size()
+    bodies = [b"%04d" % at * (MIB // 4) for at in range(sends)]
+    readers = [it for name in names for it in trial.open(1, subscribe(name), receive_room=4096)]
+    before = trial.server.memory()
+    trial.server.forget_most_memory()
+    with Client(trial.address, 60) as sender:
+        sender.connect()
+        for name in names * rounds:
+            sender.ask(transaction(name, bodies), seconds=60)
+    held = (trial.server.most_memory() - before) / KIB
+    time.sleep(LAST_WORDS)
+    ended = trial.server.log_since(said).count(b"left: ERROR 72 NoMemory")
+    close_all(readers)
+    trial.expect(held <= most, f"it held {held:,.0f} MiB, and {most:,} are what it may")
+    trial.expect(ended > 0, "none of those who don't read was ended by 72")
+    return f"{topics * rounds} transactions of {sends} MiB went through; {ended} of {topics} that don't read ended; {held:,.0f} MiB were held"
+
+
+ROWS = [one_large_transaction, large_transactions, transactions_without_end, transactions_of_many, queues_that_nobody_takes]
 OF_THEIR_OWN = [(long_names, None, True)]

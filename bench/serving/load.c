@@ -18,6 +18,9 @@
 /* Events taken at once, and the longest wait, in milliseconds. */
 enum { EVENTS = 256, WAIT = 50 };
 
+/* By the clock messages are due each millisecond; above this rate, ten times as often. */
+enum { HIGH_RATE = 10000, SOON = MILLISECOND / 10 };
+
 static struct plan plan;
 static struct client *clients;
 static int count_of_clients, poller, timer;
@@ -70,7 +73,8 @@ static void fill_all(int64_t now)
 
 static void start(void)
 {
-    struct itimerspec every = {.it_interval.tv_nsec = MILLISECOND, .it_value.tv_nsec = MILLISECOND};
+    int64_t step = plan.rate > HIGH_RATE ? SOON : MILLISECOND;
+    struct itimerspec every = {.it_interval.tv_nsec = step, .it_value.tv_nsec = step};
     poller = epoll_create1(EPOLL_CLOEXEC);
     for (int at = 0; at < count_of_clients; at++) {
         client_free_run(&clients[at]);

@@ -1,10 +1,12 @@
 """One run of the load generator against a server, and what it is worth."""
 
+import contextlib
 import json
 import os
 import socket
 import statistics
 import subprocess
+import sys
 import time
 
 from servers import OUT, Stop
@@ -14,6 +16,9 @@ FAULTS = ("lost", "doubled", "changed", "reordered")
 
 # A run by the clock is no result where it was slower than this part of its rate, or more than this part of it had to wait.
 LEAST_OF_RATE, MOST_HELD = 0.95, 0.01
+
+# The window of a run at half of a server's rate, which is never to be full.
+WIDE = 8192
 
 
 def processor_times():
@@ -42,6 +47,32 @@ def load(server, row, prefix, words, before=()):
     return json.loads(done.stdout)
 
 
+def loaded(server, row, prefix, words, before=()):
+    """The report of one run, and its row."""
+    return load(server, row, prefix, words, before), row
+
+
+def halved(server, row, prefix, words, before=()):
+    """The report of a run at half of the rate that the server has in one before, and its row; or the report of that one, if nothing came."""
+    report = load(server, row, prefix, words, before)
+    if order_fault(report, False) is not None or not report["came"]:
+        return report, row
+    rate = int(report["came"] / report["time"] * 1e9 / 2)
+    row = row._replace(words=f"{row.words} window={WIDE} rate={rate}")
+    return load(server, row, prefix, words, before), row
+
+
+@contextlib.contextmanager
+def busy_processes(count):
+    """So many processes that never rest, as long as this lasts."""
+    with contextlib.ExitStack() as block:
+        for _ in range(count):
+            it = subprocess.Popen([sys.executable, "-c", "while True: pass"])
+            block.callback(it.wait)
+            block.callback(it.kill)
+        yield
+
+
 def order_fault(report, is_strict):
     """What is wrong with what came; None where nothing is. Of a strict server, which promises one order, transactions have to be
     whole and all streams in one order."""
@@ -60,7 +91,7 @@ def fault_of(report, row, is_strict):
     wrong = order_fault(report, is_strict)
     if wrong is None and not report["came"]:
         return "nothing came in the time"
-    if wrong is None and row.kind == "latency" and is_late(report, row):
+    if wrong is None and row.kind in ("latency", "half") and is_late(report, row):
         return "the rate wasn't held"
     return wrong
 
@@ -75,20 +106,25 @@ def is_late(report, row):
 def figures(report, row):
     """The figures of a run that is a result: a rate or times, and the processor time of a delivery in microseconds."""
     found = {"cost": report["server"] / report["came"] / 1e3, "busy": report["own"] / report["time"]}
-    if row.kind == "latency":
-        return {"p50": report["p50"] / 1e3, "p99": report["p99"] / 1e3, **found}
     if row.kind == "burst":
         return {"rate": report["all_came"] / report["last"] * 1e9, "last": report["last"] / 1e6, **found}
+    if row.kind in ("latency", "half"):
+        found |= {"p50": report["p50"] / 1e3, "p99": report["p99"] / 1e3}
     return {"rate": report["came"] / report["time"] * 1e9, **found}
 
 
-def connect(server, prefix):
-    """A connection that has subscribed, once the server says so."""
+def connect(server):
+    """A connection, once the server says that it has connected."""
     it = socket.create_connection(server.address, 10)
-    it.sendall(
-        b"CONNECT\naccept-version:1.2\nhost:/\nlogin:guest\npasscode:guest\n\n\0"
-        b"SUBSCRIBE\nid:0\ndestination:/topic/" + prefix.encode() + b"0\nreceipt:subscribed\n\n\0"
-    )
+    it.sendall(b"CONNECT\naccept-version:1.2\nhost:/\nlogin:guest\npasscode:guest\n\n\0")
+    wait_for(it, b"CONNECTED\n")
+    return it
+
+
+def subscribed(server, prefix):
+    """A connection that has subscribed, once the server says so."""
+    it = connect(server)
+    it.sendall(b"SUBSCRIBE\nid:0\ndestination:/topic/" + prefix.encode() + b"0\nreceipt:subscribed\n\n\0")
     wait_for(it, b"receipt-id:subscribed\n")
     return it
 
@@ -107,7 +143,7 @@ def small_write_figures(server, prefix, count):
     """How many milliseconds a transaction takes until its RECEIPT came, where its frames are written one by one by a client whose system
     keeps small writes back: the median of so many, after one."""
     times, topic = [], b"destination:/topic/" + prefix.encode() + b"1\n"
-    with connect(server, prefix) as it:
+    with subscribed(server, prefix) as it:
         for at in range(count + 1):
             begun, within = time.monotonic(), b"transaction:t%d\n" % at
             it.sendall(b"BEGIN\n" + within + b"\n\0")
@@ -119,11 +155,21 @@ def small_write_figures(server, prefix, count):
     return {"small": statistics.median(times[1:])}
 
 
+def first_figures(server, prefix, seconds):
+    """How many microseconds a message takes that comes after so many seconds in which its sender and its subscriber did nothing."""
+    with subscribed(server, prefix) as reader, connect(server) as sender:
+        time.sleep(seconds)
+        begun = time.monotonic()
+        sender.sendall(b"SEND\ndestination:/topic/" + prefix.encode() + b"0\n\nfirst\0")
+        wait_for(reader, b"first")
+        return {"first": 1e6 * (time.monotonic() - begun)}
+
+
 def idle_figures(server, prefix, count, seconds):
     """Memory of an idle connection in KiB, and processor time of all of them together, in microseconds a second."""
     before, connections = server.memory(), []
     try:
-        connections += (connect(server, prefix) for _ in range(count))
+        connections += (subscribed(server, prefix) for _ in range(count))
         time.sleep(min(1.0, seconds))
         begun, taken = time.monotonic(), server.time()
         time.sleep(seconds)

@@ -31,7 +31,7 @@ static const struct number NUMBERS[] = {
     {"size", 16, 1 << 20, PLACE(size)},
     {"window", 1, 1 << 20, PLACE(window)},
     {"sends", 1, 64, PLACE(sends)},
-    {"rate", 0, 100000, PLACE(rate)},
+    {"rate", 0, 10000000, PLACE(rate)},
     {"warm", 0, 60000, PLACE(warm)},
     {"measured", 1, 600000, PLACE(measured)},
     {"patience", 1, 60000, PLACE(patience)},

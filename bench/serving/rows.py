@@ -3,8 +3,9 @@
 import collections
 import itertools
 
-# A row's words are the load generator's plan (plan.h). A growth is the group of rows that are compared with one of them.
-Row = collections.namedtuple("Row", "name words topics kind growth", defaults=(1, "rate", None))
+# A row's words are the load generator's plan (plan.h). A growth is the group of rows that are compared with one of them. Beside a row so
+# many processes are busy.
+Row = collections.namedtuple("Row", "name words topics kind growth busy", defaults=(1, "rate", None, 0))
 
 # The octets of a transaction's bodies, and how many SENDs it has.
 IN_TRANSACTION = 64
@@ -17,22 +18,63 @@ UNTIL_ALL_CAME = "warm=0 measured=150000"
 
 IDLE = 256
 
+# How many items the shape has room for at a subscription.
+RING = 64
+
+# How many messages of a publisher are on their way at once, beside the 32 of other rows; how many senders one topic has; how many processes
+# never rest; how many seconds nothing happens before a message.
+WINDOWS = (4, 16, 64, 200)
+SENDERS = (4, 8, 64)
+BUSY = 8
+SILENCE = 10
+
 # How many transactions are written in small pieces, and how many milliseconds half of them may take at ours.
 SMALL, MOST_SMALL = 50, 2.0
 
 
+# One sender and one subscriber, with small and with larger messages; and many of both.
+SMALL_ONES = Row("1 to 1, 16 octets", "size=16")
+LARGER_ONES = Row("1 to 1, 1 KiB", "size=1024")
+EIGHT = Row("8 to 8, 4 topics, 256 octets", "size=256 publishers=8 readers=8 topics=4", 4)
+
+
 def loads():
     """The rows of load."""
-    yield Row("1 to 1, 16 octets", "size=16")
-    yield Row("1 to 1, 1 KiB", "size=1024")
+    yield SMALL_ONES
+    yield LARGER_ONES
     yield Row("1 to 1, 64 KiB", "size=65536")
     yield Row("1 to 1, 16 octets, window 1", "size=16 window=1")
     yield Row("1 to 16, 1 KiB", "size=1024 readers=16")
-    yield Row("8 to 8, 4 topics, 256 octets", "size=256 publishers=8 readers=8 topics=4", 4)
+    yield EIGHT
     pair = f"size={IN_TRANSACTION} sends={SENDS} topics=2 each=2"
     yield Row("transactions of 4 SENDs to 2 topics, 1 to 1", pair, 2)
     yield Row("transactions of 4 SENDs to 2 topics, 4 to 4", f"{pair} publishers=4 readers=4", 2)
     yield Row("1 to 1, 16 octets, 1,000 a second", "size=16 rate=1000", 1, "latency")
+
+
+def windows():
+    """Rows of load at other windows."""
+    for row in (SMALL_ONES, LARGER_ONES, EIGHT):
+        for window in WINDOWS:
+            yield row._replace(name=f"{row.name}, window {window}", words=f"{row.words} window={window}")
+
+
+def fan_in():
+    """Many senders to one topic, which one reads."""
+    for count in SENDERS:
+        yield Row(f"{count} to 1, 16 octets", f"size=16 publishers={count}")
+
+
+def beside_busy():
+    """Rows of load beside processes that never rest."""
+    for row in (SMALL_ONES, LARGER_ONES, EIGHT):
+        yield row._replace(name=f"{row.name}, beside {BUSY} busy processes", busy=BUSY)
+
+
+def latencies():
+    """Times of messages: at half of the rate that the server just had, and of the first one behind a silence."""
+    yield Row("1 to 1, 16 octets, at half of its rate", "size=16", 1, "half")
+    yield Row(f"1 to 1, 16 octets, behind {SILENCE} idle seconds", "", 1, "first")
 
 
 def counted(count, what):
@@ -56,6 +98,7 @@ def bursts():
         yield burst("burst of transactions", transactions, 2, size, senders, subscribers)
     ceaseless = "publishers=8 size=16 window=1048576 unpaced warm=0 measured=4000"
     yield Row("burst for 4 seconds: 8 senders, 16 octets, 1 subscriber", ceaseless, 1, "burst")
+    yield Row("burst for 4 seconds: 8 senders, 16 octets, 1,000 subscribers", f"{ceaseless} readers=20 each=50", 1, "burst")
 
 
 def growths():
@@ -79,17 +122,32 @@ def small():
     yield Row("small writes: BEGIN, SEND, SEND, COMMIT", "", 2, "small")
 
 
+# The kinds of rows without the load generator.
+WITHOUT_LOAD = ("idle", "small", "first")
+
+
 def all_rows():
     yield from loads()
+    yield from windows()
+    yield from fan_in()
+    yield from beside_busy()
+    yield from latencies()
     yield from bursts()
     yield from growths()
     yield from small()
     yield from idle()
 
 
+def on_their_way(row):
+    """How many messages may be on their way to a topic at once."""
+    words = dict(it.split("=") for it in row.words.split() if "=" in it)
+    return int(words.get("publishers", 1)) * int(words.get("window", 32)) / row.topics
+
+
 def programs_for(row, programs):
-    """The programs that a row is for: the shape drops what it has no room for, so no burst is."""
-    return {name: it for name, it in programs.items() if not (row.kind == "burst" and name == "shape")}
+    """The programs that a row is for: the shape drops what it has no room for."""
+    overflows = row.kind in ("burst", "half") or on_their_way(row) > RING
+    return {name: it for name, it in programs.items() if not (overflows and name == "shape")}
 
 
 def names(row, prefix):

@@ -11,6 +11,9 @@ ROOT = os.path.dirname(os.path.dirname(HERE))
 OUT = os.path.join(ROOT, "bench", "out")
 STOMPD = os.environ.get("STOMPD", os.path.join(ROOT, "crates", "stompd", "out", "stompd"))
 
+# The service: what it sets for the C library.
+UNIT = os.path.join(ROOT, "packaging", "stompd.service")
+
 # How long a server may take until it listens, and until it has ended, in seconds.
 START_SECONDS = 30
 STOP_SECONDS = 10
@@ -47,6 +50,16 @@ def find_stompd(path):
             "or name another by --stompd."
         )
     return os.path.abspath(path)
+
+
+def environment_of_unit(bounded=False):
+    """What the unit sets for the C library; or what it has, as a comment, for who bounds memory."""
+    begin = "#Environment=" if bounded else "Environment="
+    with open(UNIT, encoding="ascii") as lines:
+        found = [it.strip().removeprefix(begin) for it in lines if it.startswith(f"{begin}GLIBC_")]
+    if not found:
+        raise Stop(f"{UNIT} sets nothing for the C library")
+    return dict(it.split("=", 1) for it in found)
 
 
 class Process:

@@ -115,8 +115,13 @@ def ratios(results, peers):
 
 
 def measures(row):
+    times = [("p50", "p50", microseconds), ("p99", "p99", microseconds)]
     if row.kind == "latency":
-        return [("p50", "p50", microseconds), ("p99", "p99", microseconds)]
+        return times
+    if row.kind == "half":
+        return [("rate", "deliveries", rate), *times]
+    if row.kind == "first":
+        return [("first", "time of the message", microseconds)]
     if row.kind == "burst":
         return [("rate", "deliveries", rate), ("last", "time until all came", milliseconds)]
     if row.kind == "small":
@@ -130,7 +135,7 @@ def medians(results, servers):
     yield line(["---"] * (2 + len(servers)))
     for row, cells in results.items():
         if row.kind != "idle":
-            cost = [] if row.kind == "small" else [("cost", "time of a delivery", microseconds)]
+            cost = [] if row.kind in ("small", "first") else [("cost", "time of a delivery", microseconds)]
             for name, words, form in [*measures(row), *cost]:
                 yield line([row.name, words, *(figure(cells, it, name, form) for it in servers)])
 

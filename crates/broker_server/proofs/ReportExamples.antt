@@ -35,8 +35,8 @@ report = record {
   commits = first ∷ second ∷ [];
   logs = (first ∷ []) ∷ (first ∷ second ∷ []) ∷ (second ∷ []) ∷ [];
   subscriptions =
-      record { topic = record { 0 = 1 }; from = stamp 0 0; to = None; cause = None; queued = first_item ∷ second_item ∷ []; handed = first_item ∷ [] }
-      ∷ record { topic = record { 0 = 0 }; from = stamp 0 0; to = Some (stamp 0 0); cause = Some Lag; queued = []; handed = [] } ∷ [];
+      record { span = record { topic = record { 0 = 1 }; from = stamp 0 0; to = None }; cause = None; queued = first_item ∷ second_item ∷ []; handed = first_item ∷ [] }
+      ∷ record { span = record { topic = record { 0 = 0 }; from = stamp 0 0; to = Some (stamp 0 0) }; cause = Some Lag; queued = []; handed = [] } ∷ [];
   outs = codes "RECEIPT\nreceipt-id:r\n\n" ∷ [] ∷ [];
 }
 

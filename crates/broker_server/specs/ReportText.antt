@@ -22,7 +22,7 @@ log_line t r = row_text (row.Log (record { topic = record { 0 = t }; row = r }))
 
 -- the span of subscription s, as in a trace: `span 3 1 0.0 -`
 abbrev pub span_line : ℕ → QueueReport → List ℕ
-span_line s q = row_text (row.Span (record { sub = s; topic = q.topic; from = q.from; to = q.to })) ++ 10 ∷ []
+span_line s q = row_text (row.Span (record { sub = s; topic = q.span.topic; from = q.span.from; to = q.span.to })) ++ 10 ∷ []
 
 -- an item that the queue of subscription s accepted, as in a trace: `queue 3 0 1 2.1`
 abbrev pub queue_line : ℕ → Item → List ℕ

@@ -1,6 +1,6 @@
 //! What one connection of the server does, without its socket.
 
-ghost use Rattle.std.specs.Prelude.{◌≡◌, ◌<◌, ◌≤◌, ◌&&◌, true, false, List, [], ◌∷◌, map, length, nat_lt, slice_get, None, IfSome, IfOk, IfErr, OnOk, OnErr};
+ghost use Rattle.std.specs.Prelude.{◌≡◌, ◌<◌, ◌≤◌, ◌&&◌, ◌+◌, ◌-◌, ◌^◌, min, Bool, true, false, List, [], ◌∷◌, map, length, nat_lt, slice_get, None, IfSome, IfOk, IfErr, OnOk, OnErr};
 ghost use Rattle.std.specs.List.{position};
 ghost use Rattle.std.specs.Option.{is_none, is_some, option_map};
 ghost use Rattle.stomp_frame.specs.declared.fault.FrameFault.{FrameFault};
@@ -13,6 +13,7 @@ ghost use Rattle.broker_server.specs.Delivering.{DeliversRound, may_read, writes
 ghost use Rattle.delivery.specs.Core.Outcomes.{is_any};
 ghost use Rattle.stomp_session.specs.Open.{IsKnownTo};
 ghost use Rattle.broker_server.specs.Hearing.{AcceptsFrame, DeniesFrame, GoesOn, HearsOrKeeps, IsNewTo, Rests, TakesAll, TakesFrame, TakesFrames};
+ghost use Rattle.broker_server.specs.Holding.{IsRefusedMemory, MakesRoom, held_weight, uncommitted};
 ghost use Rattle.broker_server.specs.Wires.{GoesOut};
 ghost use Rattle.broker_server.specs.Conversations.{closed, IsNew, closing_rows, gate_rows, is_of_id, next_without, replies};
 ghost use Rattle.stomp_session.specs.declared.action.Action.TheVariants as actions;
@@ -223,6 +224,14 @@ impl<C: BrokerCalls> Conversation<C> {
         drain_wire(&mut self.wire, writer)
     }
 
+    /// Drops what waits to be written.
+    pub(crate) fn drop_waiting(&mut self)
+        ensures { self.new ≡ record self.old { wire = [] } }
+    {
+        let waits = self.wire.len();
+        self.wire.wrote(waits);
+    }
+
     /// Why it leaves, once it does: it is closed when what waits is written.
     pub fn exit(&self) -> Option<Exit>
         ensures { result ≡ self.now.exit }
@@ -275,19 +284,55 @@ impl<C: BrokerCalls> Conversation<C> {
         self.more
     }
 
+    /// How many octets it holds that aren't committed: those that weren't read yet, and what its open transactions weigh,
+    /// and the one that waits for room. 2^64 - 1 where it holds more.
+    pub fn uncommitted(&self) -> u64
+        ensures { result ≡ min (uncommitted self.now) (2 ^ 64 - 1) }
+    {
+        let unread = self.reader.unread() as u64;
+        unread
+            .saturating_add(self.session.open_weight())
+            .saturating_add(held_weight(&self.held))
+    }
+
     /// Takes a piece that came, and does what each frame that it ends asks for. Once it leaves, the rest is dropped;
-    /// while a transaction waits for room, what is behind it is kept; and while an item is half out, so is all.
+    /// while a transaction waits for room, what is behind it is kept; and while an item is half out, so is all. Where the
+    /// broker doesn't grant the memory for it, the connection leaves, as where there is none.
     pub fn hear(&mut self, calls: &mut C, piece: &[u8])
-        ensures { (asked : List BrokerRow) × AsksInOrder C.called calls.old asked calls.new
+        ensures hears { (asked : List BrokerRow) × AsksInOrder C.called calls.old asked calls.new
             × HearsOrKeeps piece.now self.old asked self.new }
+        ensures asks { self.old.exit ≡ None → (granted : Bool)
+            × C.grants calls.old (min (uncommitted self.old + length piece.now) (2 ^ 64 - 1)) granted
+            × (granted ≡ false → (asked : List BrokerRow) × IsRefusedMemory self.old asked self.new) }
     {
         if self.exit.is_some() {
+            return;
+        }
+        if !self.is_granted(calls, piece) {
+            self.fail(calls, ConversationFault::NoMemory, None);
             return;
         }
         match self.reader.feed(piece) {
             Ok(()) if self.half => {}
             Ok(()) => self.hear_all(calls),
             Err(NoMemory) => self.fail(calls, ConversationFault::NoMemory, None),
+        }
+    }
+
+    /// Whether the broker grants the memory for this piece, beside what it holds.
+    fn is_granted(&self, calls: &C, piece: &[u8]) -> bool
+        ensures { C.grants calls.now (min (uncommitted self.now + length piece.now) (2 ^ 64 - 1)) result }
+    {
+        calls.may_hold(self.uncommitted().saturating_add(piece.len() as u64))
+    }
+
+    /// It makes room for others: it leaves by `72 NoMemory`, unless it leaves already.
+    pub fn make_room(&mut self, calls: &mut C)
+        ensures { (asked : List BrokerRow) × AsksInOrder C.called calls.old asked calls.new
+            × MakesRoom self.old asked self.new }
+    {
+        if self.exit.is_none() {
+            self.fail(calls, ConversationFault::NoMemory, None);
         }
     }
 
@@ -567,6 +612,7 @@ impl<C: BrokerCalls> Conversation<C> {
             return Err(ConversationFault::NoMemory);
         };
         let sends = txn.len() as u64;
+        let txn = calls.charged(txn);
         let (gate, done) = commit_by(self.alloc, calls, gate, txn, room);
         self.gate = Some(gate);
         self.count_sends(sends, done.is_ok());
@@ -722,6 +768,19 @@ fn slice_in(octets: &Option<Octets>) -> Option<&[u8]>
     match octets {
         Some(octets) => Some(octets.as_slice()),
         None => None,
+    }
+}
+
+/// What the transaction of this step weighs, if it has one. 2^64 - 1 where it weighs more.
+fn held_weight(held: &Option<Step>) -> u64
+    ensures { result ≡ min (held_weight held.now) (2 ^ 64 - 1) }
+{
+    match held {
+        Some(step) => match &step.action {
+            Action::Commit(txn) => txn.weight(),
+            _ => 0,
+        },
+        None => 0,
     }
 }
 

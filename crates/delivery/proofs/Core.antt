@@ -1,5 +1,6 @@
 -- Worked rows of the core's definitions, computed.
 pub mod Acts
+pub mod ShownReadings
 pub mod Agreement
 pub mod Rows
 pub mod TopicRows

@@ -28,7 +28,7 @@ traced_log t rows = map (λ row. record { topic = record { 0 = t }; row = row })
 
 -- the span of subscription s, as a row of a trace
 abbrev pub traced_span : ℕ → QueueReport → SpanRow
-traced_span s q = record { sub = s; topic = q.topic; from = q.from; to = q.to }
+traced_span s q = record { sub = s; topic = q.span.topic; from = q.span.from; to = q.span.to }
 
 -- what the queue of subscription s accepted, delivered or not, as rows of a trace
 abbrev pub traced_queue : ℕ → QueueReport → List QueueRow

@@ -77,6 +77,7 @@ impl Endpoint {
     }
 
     /// Writes a frame to its octets out. After `NoMemory` it is what it was.
+    #[inline(never)]
     pub(crate) fn write(&mut self, frame: &ServerFrame) -> Result<(), NoMemory>
         ensures ok { OnOk result
             (self.new ≡ written_endpoint (spelling_of (raw_of_server frame.now)) self.old) }

@@ -1,11 +1,11 @@
 //! The core.
 
-ghost use Rattle.std.specs.Prelude.{◌≡◌, ◌≤◌, ◌<◌, ◌+◌, ◌-◌, [], ◌∷◌, ◌++◌, length, slice_get, IfOk, OnOk, OnErr};
+ghost use Rattle.std.specs.Prelude.{◌≡◌, ◌≤◌, ◌<◌, ◌+◌, ◌-◌, [], ◌∷◌, ◌++◌, map, reverse, length, slice_get, IfOk, OnOk, OnErr};
 ghost use Rattle.std.specs.Option.{option_map};
 ghost use Rattle.delivery.specs.Nets.{KeptRun, max_capacity, HasTaken, HasAnswered, IsRunOfCore, HasReport};
 ghost use Rattle.delivery.specs.Core.Steps.{AreReadings};
 ghost use Rattle.delivery.specs.Core.Told.{told_of};
-ghost use Rattle.delivery.specs.Core.Delivery.{Delivers, IsWritten, kept_run};
+ghost use Rattle.delivery.specs.Core.Delivery.{Delivers, IsWritten};
 ghost use Rattle.delivery.specs.Traces.{IsTraced};
 
 use crate::event::Event;
@@ -121,11 +121,12 @@ impl Net {
 
     /// What came of all events so far. The first three clauses say what was delivered: the kept run is that of the
     /// steps; what was read of each connection are the first frames of its octets; and the report is what the steps
-    /// tell to deliver. A reader may stop after them, having read 495 lines of definitions (docs/ORDERING.md, "An
+    /// tell to deliver. A reader may stop after them, having read 450 lines of definitions (docs/ORDERING.md, "An
     /// expert's hour"). Then: what was written to each connection; and that the steps are a run of the core, whose
     /// report this is. It takes no memory, and nothing is copied.
     pub fn report(&self) -> Report<'_>
-        ensures kept { self.now.kept ≡ kept_run self.now.steps }
+        ensures kept { self.now.kept
+            ≡ reverse (map (λ step. record { event = step.event; outcome = step.outcome }) self.now.steps) }
         ensures read { AreReadings self.now.steps }
         ensures delivered { Delivers self.now.capacity (told_of self.now.topics.names self.now.steps) result }
         ensures written { IsWritten self.now.topics.names self.now.steps result }

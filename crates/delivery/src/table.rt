@@ -119,6 +119,9 @@ impl Verdicts for Table {
     /// The verdict of the part's transaction, if it was decided.
     fn find<'a>(&'a self, part: &'a Part) -> Option<Found<'a>> {
         let verdict = self.verdict(part.id())?;
-        Some(Found { verdict })
+        Some(Found {
+            verdict,
+            seen: None,
+        })
     }
 }

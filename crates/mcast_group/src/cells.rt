@@ -1,6 +1,6 @@
 //! Verdicts in cells.
 
-ghost use Rattle.std.specs.Prelude.{◌≡◌, IfSome};
+ghost use Rattle.std.specs.Prelude.{◌≡◌, IfSome, Some};
 ghost use Rattle.mcast_txn.specs.Flight.{sight_of};
 ghost use Rattle.mcast_txn.specs.Part.{flight_of_part};
 
@@ -24,9 +24,16 @@ impl Cells {
 impl Verdicts for Cells {
     ghost finds = { λ cells part found. Unit {0} };
 
-    /// The verdict that the cell of the part's own flight gives, once it is set.
-    fn find<'a>(&'a self, part: &'a Part) -> Option<Found<'a>> {
-        let (verdict, _) = Cells::look(part)?;
-        Some(Found { verdict })
+    /// The verdict that the cell of the part's own flight gives, once it is set, with a note of that cell that knows
+    /// it.
+    fn find<'a>(&'a self, part: &'a Part) -> Option<Found<'a>>
+        ensures { IfSome result (λ found. found.seen
+            ≡ Some (sight_of (flight_of_part part.now) found.verdict.now)) }
+    {
+        let (verdict, seen) = Cells::look(part)?;
+        Some(Found {
+            verdict,
+            seen: Some(seen),
+        })
     }
 }

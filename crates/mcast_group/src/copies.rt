@@ -72,6 +72,7 @@ impl Copies {
     }
 
     /// `many` copies of a part.
+    #[inline(always)]
     pub(crate) fn of(alloc: Global, part: &PendingPart, many: usize) -> Result<Copies, NoMemory>
         ensures many { IfOk result (λ copies. length copies ≡ many) }
         ensures of { IfOk result (λ copies. AreOf part.now.part copies) }
@@ -153,6 +154,7 @@ pub(crate) fn cut_copies(copies: &mut VecDeque<Copies>, had: usize, most: usize)
 }
 
 /// Takes out the copies at an index.
+#[inline(always)]
 pub(crate) fn take_at(copies: &mut VecDeque<Copies>, index: usize) -> Copies
     requires { index < length copies.old.items }
     ensures value { result ≡ slice_index_or copies.old.items index result }

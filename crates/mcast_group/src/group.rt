@@ -511,6 +511,7 @@ impl<Q: Outlet + Drop> Group<Q> {
             return;
         }
         let stamp = found.verdict.stamp();
+        drop(found);
         self.store(id, index, stamp);
     }
 

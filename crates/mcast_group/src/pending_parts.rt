@@ -133,6 +133,7 @@ impl PendingParts {
     }
 
     /// Why the part at an index doesn't learn the verdict's stamp, if it doesn't.
+    #[inline(always)]
     pub(crate) fn learn_fault_at(&self, index: usize, verdict: &Verdict) -> Option<LearnFault>
         requires { index < length self.now }
         ensures { (d : Pending) → result
@@ -164,6 +165,7 @@ impl PendingParts {
     }
 
     /// The part at an index takes its stamp, which isn't below its key and is no other part's.
+    #[inline(always)]
     pub(crate) fn learn(&mut self, index: usize, stamp: Stamp)
         requires within { index < length self.old }
         requires past { (d : Pending) → stamp_lt stamp (key (slice_index_or self.old index d)) ≡ false }

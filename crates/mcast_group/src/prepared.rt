@@ -47,6 +47,7 @@ impl Model for Prepared {
 
 impl Prepared {
     /// A part without copies.
+    #[inline(always)]
     pub(crate) fn new(alloc: Global, part: Arc<Part>) -> Result<Prepared, NoMemory>
         ensures { IfOk result (λ prepared. prepared ≡ data_of (arc_value part)) }
     {
@@ -79,6 +80,7 @@ impl Prepared {
 
     /// The part with the number of its ticket, and a copy for each of so many subscriptions: with no memory where it
     /// had them.
+    #[inline(always)]
     pub(crate) fn into_numbered(
         self,
         alloc: Global,

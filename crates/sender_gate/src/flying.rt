@@ -103,6 +103,7 @@ impl Flying {
 
     /// Takes a ticket, with no memory. Refused: 50 where it is of another transaction or of a topic that isn't
     /// named, 51 where the topic gave one before, 54 where its number is at most the floor's.
+    #[inline(always)]
     pub fn put(&mut self, ticket: Ticket) -> Result<(), GateFault>
         ensures answer { result ≡ flight_answer self.old.state ticket }
         ensures ok { OnOk result (self.new ≡ record self.old {
@@ -120,6 +121,7 @@ impl Flying {
 
     /// Ends with the verdict, whose stamp is the sender's new floor, with no memory. Refused (52) where a topic gave
     /// no ticket: the flight is then returned.
+    #[inline(always)]
     pub fn decide(self) -> Result<(Gate, Box<Verdict>), (Flying, GateFault)>
         ensures incomplete { is_err result ≡ list_any (λ s. is_none s.1) self.state.tickets }
         ensures id { IfOk result (λ decided. decided.1.value.id ≡ self.state.id) }

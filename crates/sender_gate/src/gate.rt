@@ -67,12 +67,14 @@ impl Gate {
     /// Sends the transaction on its way, as the sender's next one. It makes the room that the flight's calls need.
     /// Refused: 53 where the sender has used its last number, 55 out of memory; gate and transaction are then
     /// returned.
+    #[inline(always)]
     pub fn begin(self, alloc: Global, txn: Txn) -> Result<Flying, (Gate, Txn, GateFault)>
         ensures ok { IfOk result (λ flying. flying.state ≡ flight_of self txn) }
         ensures flight { IfOk result (λ flying. flight_id flying.flight ≡ next_id self) }
         ensures full { self.seq ≡ max_seq → IsErr result }
         ensures err { IfErr result (λ refused. refused ≡ (self, txn, begin_fault self)) }
     {
+        let mut txn = txn;
         if self.seq == u64::MAX {
             return Err((self, txn, GateFault::SeqFull));
         }
@@ -83,7 +85,8 @@ impl Gate {
         let Ok(ballot) = Ballot::new(alloc, id, txn.topics()) else {
             return Err((self, txn, GateFault::NoMemory));
         };
-        let Ok(flight) = Flight::new(alloc, id) else {
+        let charge = txn.take_charge();
+        let Ok(flight) = Flight::charged(alloc, id, charge) else {
             return Err((self, txn, GateFault::NoMemory));
         };
         match txn.split(alloc, &flight) {

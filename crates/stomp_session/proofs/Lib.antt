@@ -5,6 +5,7 @@ pub mod LeftOpen
 pub mod History
 pub mod Later
 pub mod Taken
+pub mod Weights
 pub mod Parts
 pub mod Kept
 pub mod Examples

@@ -1,6 +1,6 @@
 -- What is open after a list of accepted frames, as the list itself says (STOMP 1.2, "SUBSCRIBE",
 -- "UNSUBSCRIBE", "BEGIN", "COMMIT", "ABORT", "DISCONNECT").
-use Rattle.std.specs.Prelude.{◌≡◌, ◌≢◌, ℕ, Bool, true, false, not, ◌&&◌, List, [], ◌∷◌, ◌++◌, codes, filter, map, if◌then◌else◌}
+use Rattle.std.specs.Prelude.{◌≡◌, ◌≢◌, ℕ, Bool, true, false, not, ◌&&◌, List, [], ◌∷◌, ◌++◌, codes, filter, map, sum_by, if◌then◌else◌}
 use Rattle.std.specs.List.{list_any}
 use Rattle.std.specs.Map.{lookup}
 use Rattle.std.specs.Option.{unwrap_or}
@@ -9,6 +9,7 @@ use Rattle.stomp_frame.specs.declared.command.Command.TheVariants.{Subscribe}
 use Rattle.stomp_frame.specs.declared.raw_frame.RawFrame.{RawFrame}
 use Rattle.stomp_frame.specs.Cases.{is_connect}
 use Rattle.mcast_txn.specs.Lists.{In}
+use Rattle.mcast_txn.specs.Transaction.{weight}
 use Rattle.mcast_txn.specs.declared.id.Topic.{Topic}
 use Rattle.mcast_txn.specs.declared.draft.sent_message.SentMessage.{SentMessage}
 use Rattle.stomp_session.specs.declared.phase.Phase.{Phase}
@@ -111,6 +112,11 @@ asks_parts id s = unwrap_or (lookup (bytes_eq id) s.parts) false
 -- where it is a SEND or a SUBSCRIBE, its destination is one of these names
 abbrev pub IsKnownTo : List (List ℕ) → RawFrame → Type 0
 IsKnownTo names f = has_destination f.command ≡ true → is_known (field (codes "destination") f) names ≡ true
+
+-- What the SENDs of the open transactions weigh together (own). So where two are open, of one SEND "hello" without
+-- headers each, it is 266.
+abbrev pub open_weight : SessionState → ℕ
+open_weight s = sum_by (λ t. weight t.1) s.transactions
 
 -- The session holds just what is open after these accepted frames, their topics numbered by these names, and
 -- is connected or closed as they say; each of their destinations is one of the names. So a session after a

@@ -1,6 +1,6 @@
 //! A connection's session.
 
-ghost use Rattle.std.specs.Prelude.{◌≡◌, ◌∷◌, [], ◌++◌, codes, ℕ, List, Some, None, IfSome, IfOk, IfErr, OnOk, OnErr};
+ghost use Rattle.std.specs.Prelude.{◌≡◌, ◌∷◌, [], ◌++◌, ◌-◌, ◌^◌, codes, min, ℕ, List, Some, None, IfSome, IfOk, IfErr, OnOk, OnErr};
 ghost use Rattle.stomp_frame.specs.declared.command.Command.TheVariants as commands;
 ghost use Rattle.stomp_frame.specs.declared.raw_frame.RawFrame.{RawFrame as Frame};
 ghost use Rattle.stomp_frame.specs.ClientFrames.{raw_of};
@@ -10,7 +10,7 @@ ghost use Rattle.stomp_session.specs.declared.phase.Phase.TheVariants as phases;
 ghost use Rattle.stomp_session.specs.declared.fault.SessionFault.TheVariants as faults;
 ghost use Rattle.stomp_session.specs.Names.{with_name};
 ghost use Rattle.stomp_session.specs.Frames.{field, wants_parts, with_destination};
-ghost use Rattle.stomp_session.specs.Open.{after_close, asks_parts, held_after, StandsFor};
+ghost use Rattle.stomp_session.specs.Open.{after_close, asks_parts, held_after, open_weight, StandsFor};
 ghost use Rattle.mcast_txn.specs.Checks.{first_refusal};
 ghost use Rattle.stomp_session.specs.Refusals.{is_closed, is_new, has_other_ack};
 ghost use Rattle.stomp_session.specs.Answers.{Accepts, AreTexts, Refuses};
@@ -152,6 +152,14 @@ impl Session {
         ensures { result ≡ asks_parts id.now self.now }
     {
         self.subscriptions.asks_parts(id)
+    }
+
+    /// What the SENDs of its open transactions weigh: their octets, and 128 for each of them and of their headers. 2^64 - 1
+    /// where they weigh more.
+    pub fn open_weight(&self) -> u64
+        ensures { result ≡ min (open_weight self.now) (2 ^ 64 - 1) }
+    {
+        self.transactions.weight()
     }
 
     /// Whether it is connected: 60 before a CONNECT, 73 where it is closed.

@@ -34,7 +34,7 @@ fn main(rt: HostRuntime) -> ExitCode {
         return end(&rt, Ending::without_memory());
     };
     let logged = Logged::new(rt, LevelFilter::Info, Queued::new(&rt, &queue));
-    let ended = run_server(&logged, rt.alloc(), asked, &mut rt.stdout());
+    let ended = run_server(&logged, rt.alloc(), asked, None, &mut rt.stdout());
     queue.close(&rt);
     end(&rt, ended)
 }

@@ -12,7 +12,7 @@ use stomp_session::{Names, Session, Step};
 /// a call makes of it is the implementation's to say: where nothing need be said, `ghost called = { λ old row new. Unit
 /// {0} };`, and where the calls are kept, that the list of them has grown by this one.
 pub trait BrokerCalls {
-    ghost use Rattle.std.specs.Prelude.{◌≡◌, ℕ, List, map, Ok, Err, IfOk, IfErr};
+    ghost use Rattle.std.specs.Prelude.{◌≡◌, ℕ, Bool, List, map, Ok, Err, IfOk, IfErr};
     ghost use Rattle.std.specs.Option.{is_some, option_map};
     ghost use Rattle.stomp_frame.specs.ClientFrames.{raw_of};
     ghost use Rattle.mcast_txn.specs.Transaction.{topics_of};
@@ -31,6 +31,9 @@ pub trait BrokerCalls {
 
     /// Which subscription it is.
     ghost name: { Self.Sub → SubName };
+
+    /// What it answers to who wants to hold so many octets: whether they are granted.
+    ghost grants: { Self → ℕ → Bool → Type 0 };
 
     /// Has the session take a frame whose destination may be none of these names, which are the first of those of all
     /// topics: the others are put behind them first. A name that the frame adds is then known to all connections.
@@ -93,6 +96,14 @@ pub trait BrokerCalls {
     /// Gives room back that isn't used.
     fn give_room_back(&mut self, room: Self::Room)
         ensures { called self.old GivesRoomBack self.new };
+
+    /// Whether the connection may hold so many octets that aren't committed. It holds fewer before.
+    fn may_hold(&self, octets: u64) -> bool
+        ensures { grants self.now octets result };
+
+    /// This transaction, which is about to be committed: what it weighs may be counted from now on, until it is gone.
+    fn charged(&self, txn: Txn) -> Txn
+        ensures { result ≡ txn };
 
     /// Commits a transaction by the room that was reserved for it, and gives the gate of its sender again, which goes
     /// on behind it. The flight is as its gate began it.

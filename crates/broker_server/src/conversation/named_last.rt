@@ -25,6 +25,7 @@ impl NamedLast {
     }
 
     /// Whether this is one of these names; it is the one that was named last then.
+    #[inline(always)]
     pub(crate) fn has(&self, names: &Names, name: &[u8]) -> bool
         ensures { result ≡ is_known name.now names.now }
     {

@@ -100,7 +100,7 @@ fn drain_queue<C: BrokerCalls>(
     let Some(rest) = queue.rest.take() else {
         return take_items(calls, queue, wire, capacity, waits);
     };
-    match put_rest(queue, rest, wire, waits) {
+    match put_left(queue, rest, wire, waits) {
         Ok(()) => take_items(calls, queue, wire, capacity, waits),
         Err(end) => Drained { any: false, end },
     }
@@ -150,6 +150,22 @@ fn take_items<C: BrokerCalls>(
     }
     let end = Taking::Stopped;
     Drained { any, end }
+}
+
+/// The same as `put_rest`, for what was left of an item: seldom, and so apart.
+#[inline(never)]
+fn put_left<C: BrokerCalls>(
+    queue: &mut OpenSub<C>,
+    rest: ItemRest,
+    wire: &mut Wire,
+    waits: bool,
+) -> Result<(), Taking>
+    ensures whole { OnOk result (WritesAll waits (unwritten queue.old.parts queue.old.id (Some rest)) wire.old wire.new
+        × (queue.new ≡ queue.old)) }
+    ensures breaks_off { IfErr result (λ end.
+        BreaksOff waits (unwritten queue.old.parts queue.old.id (Some rest)) queue.old wire.old end queue.new wire.new) }
+{
+    put_rest(queue, rest, wire, waits)
 }
 
 /// Writes the rest of an item, as far as it is written now. Refused by how it ended where some MESSAGEs aren't: those are

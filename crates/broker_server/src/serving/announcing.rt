@@ -11,6 +11,7 @@ use std::sync::Wait;
 use std::time::Clock;
 
 /// Says that this peer's connection came, unless too many lines do.
+#[inline(never)]
 pub(crate) fn say_came<R: Wait + Clock + Log, W: Side, T: Side>(
     rt: &R,
     hub: &Hub<R, W, T>,
@@ -22,6 +23,7 @@ pub(crate) fn say_came<R: Wait + Clock + Log, W: Side, T: Side>(
 }
 
 /// Says why this peer's connection left, unless too many lines do. That of one which lagged and took nothing is always there.
+#[inline(never)]
 pub(crate) fn say_left<R: Wait + Clock + Log, W: Side, T: Side>(
     rt: &R,
     hub: &Hub<R, W, T>,

@@ -1,6 +1,6 @@
 //! What one connection asks of the broker.
 
-ghost use Rattle.std.specs.Prelude.{◌≡◌, ◌≤◌, ◌<◌, ◌⊎◌, ◌==◌, [], map, true, IfSome, None, Some};
+ghost use Rattle.std.specs.Prelude.{if◌then◌else◌, ◌≡◌, ◌≤◌, ◌<◌, ◌⊎◌, ◌==◌, [], map, true, IfSome, None, Some};
 ghost use Rattle.mcast_txn.specs.Transaction.{topics_of};
 ghost use Rattle.broker_server.specs.BrokerRows.{AsksInOrder, Unsubscribes};
 ghost use Rattle.broker_server.specs.Lines.{IsRoomAt};
@@ -10,6 +10,7 @@ use crate::conversation::{BrokerCalls, ConversationFault};
 use crate::serving::activity::Activity;
 use crate::serving::asker::Asker;
 use crate::serving::bell::Bell;
+use crate::serving::holding::{is_refused, is_short, is_told};
 use crate::serving::hub::Hub;
 use crate::serving::moment::Moment;
 use crate::serving::peer::Peer;
@@ -17,6 +18,8 @@ use crate::serving::room_made::RoomMade;
 use crate::serving::seat::Seat;
 use crate::serving::seated_sub::SeatedSub;
 use crate::serving::shortened::Shortened;
+use crate::serving::span::Span;
+use crate::serving::stay::Stay;
 use crate::serving::unturned::Unturned;
 use crate::serving::wait_news::WaitNews;
 use crate::serving::waiting::{Stop, Waiting};
@@ -24,7 +27,7 @@ use crate::spelled::Spelled;
 use broker_locks::{CommitFault, NoRoom, Reserved, Side, Worker};
 use log::{Log, info, warn};
 use mcast_group::{SubFault, SubState};
-use mcast_txn::{NoMemory, Released, Topic, Txn};
+use mcast_txn::{Charge, Meter, NoMemory, Released, Topic, Txn};
 use sender_gate::{ClaimFault, Flying, Gate};
 use std::alloc::{AllocError, Global};
 use std::slice::from_ref;
@@ -37,28 +40,48 @@ use stomp_session::{Names, Session, Step};
 /// (our choice).
 const AT_ONCE: u64 = 16;
 
+/// Where at most so many octets were heard since the topics were turned it may stand in for others (our choice).
+const MOST_HEARD: usize = 1_048_576;
+
 /// An item counts as one more for each so many octets, where it is told how many were taken (our choice).
 const OCTETS_AS_ONE: u64 = 131_072;
+
+/// Who was in front of no turnstile for so many nanoseconds is regular (our choice): a second.
+const REGULAR: u64 = 1_000_000_000;
+
+/// So long a connection that has subscriptions waits in front of turnstiles for what it read (our choice): less than the
+/// second for which senders wait for it at no cost.
+const PATIENCE: Span = Span(900_000_000);
+
+/// So long one waits that has none (our choice): five seconds.
+const LONGEST_WAIT: Span = Span(5_000_000_000);
 
 /// The most octets of a topic's name: as many as a line has.
 const MOST_NAMED: usize = 4_096;
 
 /// What one connection asks of the broker, and which topics it still has to turn.
-#[derive(Drop)]
 pub(crate) struct Calls<'a, R: Wait + Log + Clock, W: Side, T: Side> {
     rt: &'a R,
     alloc: Global,
     hub: &'a Hub<R, W, T>,
     peer: Peer,
     bell: Arc<Bell>,
+    /// What it holds, and what its transactions weigh that it committed.
+    meter: Arc<Meter>,
     unturned: Unturned,
     /// How many transactions were committed, or refused, since their topics were turned or the heads told.
     commits: u64,
     /// That is done at once when they are so many: half of what a queue holds, and one at least.
     most: u64,
-    /// Whether what it heard since then is little.
-    heard_little: bool,
+    /// How many octets were heard of its client since then.
+    heard: usize,
     waiting: Waiting,
+    /// Within which topic's turnstile it is, if it is.
+    stay: Option<Stay>,
+    /// When it came, or was in front of one last.
+    stayed: Moment,
+    /// How long it may wait in front of turnstiles for what it read, where it has subscriptions.
+    patience: Span,
     /// How many subscriptions it has.
     subs: u64,
     /// How many it had, with these.
@@ -66,6 +89,14 @@ pub(crate) struct Calls<'a, R: Wait + Log + Clock, W: Side, T: Side> {
     /// What it did, as far as that is counted here.
     activity: Activity,
     worker: Worker<W>,
+}
+
+impl<'a, R: Wait + Log + Clock, W: Side, T: Side> Drop for Calls<'a, R, W, T> {
+    /// Written out, since the turnstile within which it is has to be left.
+    fn drop(self) {
+        let worker = self.into_worker();
+        drop(worker);
+    }
 }
 
 impl<'a, R: Wait + Log + Clock, W: Side, T: Side> Calls<'a, R, W, T> {
@@ -76,6 +107,7 @@ impl<'a, R: Wait + Log + Clock, W: Side, T: Side> Calls<'a, R, W, T> {
         hub: &'a Hub<R, W, T>,
         peer: Peer,
         bell: Arc<Bell>,
+        meter: Arc<Meter>,
         worker: Worker<W>,
     ) -> Calls<'a, R, W, T>
         ensures worker { result.worker ≡ worker }
@@ -90,11 +122,15 @@ impl<'a, R: Wait + Log + Clock, W: Side, T: Side> Calls<'a, R, W, T> {
             hub,
             peer,
             bell,
+            meter,
             unturned: Unturned::new(alloc),
             commits: 0,
             most: hub.running.half(),
-            heard_little: false,
+            heard: 0,
             waiting: Waiting::new(),
+            stay: None,
+            stayed: Moment::now(rt),
+            patience: PATIENCE,
             subs: 0,
             begun: 0,
             activity: Activity::new(),
@@ -134,22 +170,68 @@ impl<'a, R: Wait + Log + Clock, W: Side, T: Side> Calls<'a, R, W, T> {
         ensures { result ≡ self.entry.worker }
     {
         let Calls {
-            rt: _,
+            rt,
             alloc: _,
-            hub: _,
+            hub,
             peer: _,
             bell: _,
+            meter: _,
             unturned: _,
             commits: _,
             most: _,
-            heard_little: _,
+            heard: _,
             waiting: _,
+            stay,
+            stayed: _,
+            patience: _,
             subs: _,
             begun: _,
             activity: _,
             worker,
         } = self;
+        leave(rt, hub, stay);
         worker
+    }
+
+    /// It holds so many octets that aren't committed: all are told, where that is many more or fewer than they were.
+    #[inline(always)]
+    pub(crate) fn note_held(&self, octets: u64) {
+        if is_told(self.meter.open(), octets) {
+            self.tell_held(octets);
+        }
+    }
+
+    /// It holds so many octets that aren't committed: all are told.
+    #[inline(never)]
+    fn tell_held(&self, octets: u64) {
+        self.meter.tell_open(octets);
+        self.note_short();
+    }
+
+    /// It holds nothing any more that isn't committed.
+    pub(crate) fn end_held(&self) {
+        self.meter.tell_open(0);
+    }
+
+    /// Where memory is short, those who were passed over are told.
+    fn note_short(&self) {
+        let all = self.meter.all();
+        if is_short(all.open(), all.sent()) {
+            self.hub.ring_overdue(self.rt);
+        }
+    }
+
+    /// A transaction that isn't light is counted to this connection until it is gone, where there is memory for that.
+    #[inline(never)]
+    fn charge(&self, txn: &mut Txn)
+        ensures { txn.new ≡ txn.old }
+    {
+        let weight = txn.weight();
+        let Ok(charge) = Charge::new(self.alloc, &self.meter, weight) else {
+            return;
+        };
+        txn.put_charge(charge);
+        self.tell_held(self.meter.open().saturating_sub(weight));
     }
 
     /// A seat for its next subscription.
@@ -265,18 +347,19 @@ impl<'a, R: Wait + Log + Clock, W: Side, T: Side> Calls<'a, R, W, T> {
 
     /// Turns the topics of what was committed, or refused, since that was done.
     pub(crate) fn turn_now(&mut self)
-        ensures { self.new ≡ record self.old { unturned = none_unturned; commits = 0 } }
+        ensures { self.new ≡ record self.old { unturned = none_unturned; commits = 0; heard = 0 } }
     {
         self.hub.turn_those(self.rt, &self.unturned);
         self.unturned.clear();
         self.commits = 0;
+        self.heard = 0;
     }
 
     /// Turns the topics of what was committed, or refused, since that was done; or has their heads do so, where a
     /// connection that never takes has committed more than one transaction. A head would have to be woken for one, and
     /// who takes, too, has to have what it sent itself.
     pub(crate) fn turn_topics(&mut self)
-        ensures { self.new ≡ record self.old { unturned = none_unturned; commits = 0 } }
+        ensures { self.new ≡ record self.old { unturned = none_unturned; commits = 0; heard = 0 } }
     {
         if self.subs > 0 || self.commits <= 1 {
             self.hub.turn_those(self.rt, &self.unturned);
@@ -285,6 +368,7 @@ impl<'a, R: Wait + Log + Clock, W: Side, T: Side> Calls<'a, R, W, T> {
         }
         self.unturned.clear();
         self.commits = 0;
+        self.heard = 0;
     }
 
     /// How many transactions were committed, or refused, since their topics were turned.
@@ -294,25 +378,28 @@ impl<'a, R: Wait + Log + Clock, W: Side, T: Side> Calls<'a, R, W, T> {
         self.commits
     }
 
-    /// Whether their topics have few seats, and the threads of all of these sleep.
-    pub(crate) fn few_sleep(&self) -> bool {
-        self.hub.few_sleep(self.rt, &self.unturned)
-    }
-
     /// Turns their topics. Who sleeps isn't told: the seat is put into this list, for whom this thread then stands in.
     pub(crate) fn turn_for(&mut self, asleep: &mut Vec<Arc<Seat>>)
-        ensures { self.new ≡ record self.old { unturned = none_unturned; commits = 0 } }
+        ensures { self.new ≡ record self.old { unturned = none_unturned; commits = 0; heard = 0 } }
     {
         self.hub.turn_for(self.rt, &self.unturned, asleep);
         self.unturned.clear();
         self.commits = 0;
+        self.heard = 0;
     }
 
-    /// What it heard since its topics were turned is little, or isn't.
-    pub(crate) fn set_heard_little(&mut self, little: bool)
-        ensures { self.new ≡ record self.old { heard_little = little } }
+    /// So many octets more were heard of its client.
+    pub(crate) fn add_heard(&mut self, n: usize)
+        ensures { self.new ≡ record self.old { heard = self.new.heard } }
     {
-        self.heard_little = little;
+        self.heard = self.heard.saturating_add(n);
+    }
+
+    /// Whether what was heard since its topics were turned is little, and who would be told of it are few, who all sleep.
+    pub(crate) fn may_stand_in(&self) -> bool
+        ensures { result ≡ true → self.now.heard ≤ 1048576 }
+    {
+        self.heard <= MOST_HEARD && self.hub.few_sleep(self.rt, &self.unturned)
     }
 
     /// What is to be said of those whom it waits for: once.
@@ -344,10 +431,15 @@ impl<'a, R: Wait + Log + Clock, W: Side, T: Side> Calls<'a, R, W, T> {
         self.note_behind(self.bell.intake().is_behind(), false);
     }
 
-    /// It waits for room no longer: what it has is given back.
+    /// It waits for room no longer: what it has is given back. It is within no turnstile.
     pub(crate) fn end_wait(&mut self)
-        ensures { self.new ≡ record self.old { waiting = self.new.waiting } }
+        ensures { self.new ≡ record self.old {
+          waiting = self.new.waiting;
+          stay = None;
+          patience = self.new.patience;
+        } }
     {
+        self.leave_turnstile();
         if !self.waiting.is_idle() {
             let room = self.kept_room();
             let asker = self.asker();
@@ -355,15 +447,90 @@ impl<'a, R: Wait + Log + Clock, W: Side, T: Side> Calls<'a, R, W, T> {
         }
     }
 
-    /// It goes on with nothing that was read: where it waits for no room, it isn't the first of a line any more.
+    /// It goes on with nothing that was read: where it waits for no room, it isn't the first of a line any more; and it leaves the
+    /// turnstile within which it is, where it has come to this before.
     #[inline(always)]
     pub(crate) fn rest(&mut self)
-        ensures { self.new ≡ record self.old { waiting = self.new.waiting } }
+        ensures { self.new ≡ record self.old {
+          waiting = self.new.waiting;
+          stay = self.new.stay;
+          patience = self.new.patience;
+        } }
     {
+        if self.stay.is_some() {
+            self.end_stay();
+        }
         if !self.waiting.is_idle() {
             let asker = self.asker();
             self.waiting.rests(&asker);
         }
+    }
+
+    /// It is about to begin a subscription at this topic, within the turnstile there. It leaves another one first, so that
+    /// nobody waits in a ring; this one, too, where it has begun many.
+    fn enter_turnstile(&mut self, topic: Topic)
+        ensures { self.new ≡ record self.old {
+          stay = self.new.stay;
+          stayed = self.new.stayed;
+          patience = self.new.patience;
+        } }
+    {
+        if let Some(stay) = &mut self.stay
+            && stay.begins(topic)
+        {
+            return;
+        }
+        let before = self.stay.take();
+        leave(self.rt, self.hub, before);
+        let Some(seats) = self.hub.seats(topic) else {
+            return;
+        };
+        let now = Moment::now(self.rt);
+        let is_regular = now.since(self.stayed).0 >= REGULAR;
+        let stay = seats
+            .turnstile()
+            .enter(self.rt, topic, is_regular, self.most_in_front());
+        self.stayed = Moment::now(self.rt);
+        let waited = self.stayed.since(now).0;
+        self.patience = Span(self.patience.0.saturating_sub(waited));
+        let none = self.stay.replace(stay);
+        leave(self.rt, self.hub, none);
+    }
+
+    /// How long it waits in front of a turnstile at most: where it has subscriptions it delivers nothing meanwhile.
+    fn most_in_front(&self) -> Span
+        ensures { result ≡ (if self.now.subs == 0 then record { 0 = 5000000000 } else self.now.patience) }
+    {
+        if self.subs == 0 {
+            LONGEST_WAIT
+        } else {
+            self.patience
+        }
+    }
+
+    /// It has done what it read, and leaves the turnstile within which it is where it had done so before: it has taken and
+    /// written once since, so that nobody waits for it.
+    #[inline(never)]
+    fn end_stay(&mut self)
+        ensures { self.new ≡ record self.old { stay = self.new.stay; patience = self.new.patience } }
+    {
+        let is_over = match &mut self.stay {
+            Some(stay) => stay.is_over(),
+            None => false,
+        };
+        if is_over {
+            self.leave_turnstile();
+        }
+    }
+
+    /// It leaves the turnstile within which it is, if it is.
+    #[inline(never)]
+    fn leave_turnstile(&mut self)
+        ensures { self.new ≡ record self.old { stay = None; patience = record { 0 = 900000000 } } }
+    {
+        let stay = self.stay.take();
+        leave(self.rt, self.hub, stay);
+        self.patience = PATIENCE;
     }
 
     /// Who asks for room.
@@ -397,6 +564,7 @@ impl<'a, R: Wait + Log + Clock, W: Side, T: Side> Calls<'a, R, W, T> {
     /// Room at the topics of this transaction. Where there is none, and it owes no turns, it waits. Out of memory for the
     /// reservation it is room at none of them: a commit that lacks memory, too, says so, and waits for nothing.
     #[tactic(auto, using(crate::proofs::LineLemmas::first_of))]
+    #[inline(always)]
     fn room_at(&mut self, txn: &Txn) -> Option<Reserved>
         ensures { IfSome result (λ room. (room ≡ topics_of txn.now) ⊎ (room ≡ [])) }
     {
@@ -478,6 +646,7 @@ impl<'a, R: Wait + Log + Clock, W: Side, T: Side> Calls<'a, R, W, T> {
     }
 
     /// Tells the topic how many items of this subscription were taken, and those who wait for room there.
+    #[inline(never)]
     fn tell_taken(&self, sub: &mut SeatedSub)
         ensures { sub.new ≡ record sub.old { untold = 0 } }
     {
@@ -540,6 +709,19 @@ fn counts_as(item: &Released) -> u64
     octets / OCTETS_AS_ONE + 1
 }
 
+/// This stay within a topic's turnstile ends, if it is one.
+fn leave<R: Wait + Clock, W: Side, T: Side>(rt: &R, hub: &Hub<R, W, T>, stay: Option<Stay>) {
+    let Some(stay) = stay else {
+        return;
+    };
+    match hub.seats(stay.topic()) {
+        Some(seats) => seats.turnstile().leave(rt, stay),
+        None => {
+            let _ = stay.end();
+        }
+    }
+}
+
 /// By what room may have been made where these subscriptions ended.
 fn made_by_ends(subs: &[SeatedSub]) -> RoomMade {
     match subs {
@@ -567,6 +749,9 @@ impl<'a, R: Wait + Log + Clock, W: Side, T: Side> BrokerCalls for Calls<'a, R, W
     ghost called = { λ old row new. Unit {0} };
 
     ghost name = { λ sub. record { topic = sub.topic; number = sub.begun.sub } };
+
+    // Nor of what others hold.
+    ghost grants = { λ self octets granted. Unit {0} };
 
     /// The lock of the names is held for this one frame, and no other is taken meanwhile.
     fn step(
@@ -600,6 +785,7 @@ impl<'a, R: Wait + Log + Clock, W: Side, T: Side> BrokerCalls for Calls<'a, R, W
         let Ok(seat) = self.seat() else {
             return Err(SubFault::NoMemory);
         };
+        self.enter_turnstile(topic);
         if self.hub.listen(self.rt, topic, &seat).is_err() {
             return Err(SubFault::NoMemory);
         }
@@ -675,7 +861,7 @@ impl<'a, R: Wait + Log + Clock, W: Side, T: Side> BrokerCalls for Calls<'a, R, W
         if self.waiting.is_held() {
             return self.room_after_wait(txn);
         }
-        if self.commits == AT_ONCE && self.heard_little && self.few_sleep() {
+        if self.commits == AT_ONCE && self.may_stand_in() {
             return None;
         }
         if self.waiting.is_idle() {
@@ -686,6 +872,23 @@ impl<'a, R: Wait + Log + Clock, W: Side, T: Side> BrokerCalls for Calls<'a, R, W
 
     fn give_room_back(&mut self, room: Reserved) {
         self.hub.release_room(self.rt, room);
+    }
+
+    /// No count is told where it holds little: then the counts of all are read, and nothing is written.
+    fn may_hold(&self, octets: u64) -> bool {
+        self.note_held(octets);
+        let all = self.meter.all();
+        let own = octets.saturating_add(self.meter.sent());
+        !is_refused(all.open().saturating_add(all.sent()), own)
+    }
+
+    fn charged(&self, txn: Txn) -> Txn {
+        if txn.is_light() {
+            return txn;
+        }
+        let mut txn = txn;
+        self.charge(&mut txn);
+        txn
     }
 
     /// Where it is refused there may be room at each of its topics; where it has no room, too, since others may be passed

@@ -1,6 +1,6 @@
 //! A connection's thread.
 
-ghost use Rattle.std.specs.Prelude.{◌≡◌, ◌≤◌, Bool, List, take, true, vec_len};
+ghost use Rattle.std.specs.Prelude.{◌≡◌, ◌<◌, ◌≤◌, Bool, List, slice_range, true, vec_len, IfSome};
 ghost use Rattle.std.specs.Option.{is_some};
 ghost use Rattle.broker_server.specs.BrokerRows.{BrokerRow};
 ghost use Rattle.broker_server.specs.Delivering.{DeliversRound};
@@ -29,7 +29,7 @@ use std::thread::yield_now;
 use std::time::{Clock, Duration, Instant};
 
 /// So many reads are heard in a row, at most, before what is there for the connection is looked for again (our choice).
-const MAX_READS: u32 = 16;
+const MAX_READS: u32 = 4;
 
 /// After so many rounds in a row that found something to do, the poll is asked what else is there (our choice).
 const MAX_ROUNDS: u32 = 16;
@@ -38,9 +38,8 @@ const MAX_ROUNDS: u32 = 16;
 /// it, and needn't wake it then (our choice).
 const ROUNDS_TO_YIELD: u32 = 2;
 
-/// Where it heard at most so many octets since its reads last left it topics to turn, it may stand in for others (our
-/// choice).
-const MOST_HEARD: usize = 16_384;
+/// What was read is heard by pieces of so many octets (our choice).
+const PIECE: usize = 16_384;
 
 /// A connection that leaves is closed after so many polls that brought nothing out (our choice).
 const MAX_POLLS: u32 = 100;
@@ -69,8 +68,23 @@ fn is_over<R: Clock>(rt: &R, since: Option<Instant>) -> bool {
     }
 }
 
+/// Where a piece ends that begins at this index of what was read, which are so many octets.
+fn end_of_piece(from: usize, n: usize) -> usize
+    ensures on { from < n → from < result }
+    ensures within { from ≤ n → result ≤ n }
+{
+    if n.saturating_sub(from) > PIECE {
+        from.saturating_add(PIECE)
+    } else {
+        n
+    }
+}
+
 /// So many nanoseconds a connection has for its CONNECT (our choice): ten seconds.
 const TO_CONNECT: u64 = 10_000_000_000;
+
+/// After so many nanoseconds of sleep a connection is idle that has much room for its reads (our choice): one second.
+const TO_IDLE: u64 = 1_000_000_000;
 
 /// What one round of a connection's thread came to.
 #[derive(Clone, Copy)]
@@ -94,7 +108,7 @@ enum Sleep {
     Told,
     /// The time, too, since it waits for room, or the system doesn't take what waits.
     Timed,
-    /// The end of the time for its CONNECT, too.
+    /// The end of this time, too: of that for its CONNECT, or until it is idle.
     Until(Span),
 }
 
@@ -107,8 +121,6 @@ struct Connection<'a, 'b, R: Wait + Log + Clock, W: Side, T: Side> {
     outfit: Outfit,
     /// When it came.
     came: Moment,
-    /// How many octets it heard since its reads last left it topics to turn.
-    heard: usize,
     /// The seats of those who sleep, for whom it stands in.
     asleep: Vec<Arc<Seat>>,
     /// What was said that it asked for, and is ignored.
@@ -130,6 +142,9 @@ impl<'a, 'b, R: Wait + Log + Clock, W: Side, T: Side> Connection<'a, 'b, R, W, T
         }
         let sent = desk.write();
         desk.note_stuck();
+        if told && self.outfit.bell.overdue().takes_due() {
+            desk.make_room();
+        }
         if desk.talk.is_leaving() {
             return Round::Leaving;
         }
@@ -140,7 +155,7 @@ impl<'a, 'b, R: Wait + Log + Clock, W: Side, T: Side> Connection<'a, 'b, R, W, T
         }
     }
 
-    /// Goes on with what waits for room. Then it reads while a read may give something, and does what each asks for; 16
+    /// Goes on with what waits for room. Then it reads while a read may give something, and does what each asks for; four
     /// times at most, and no longer than until the bell rings. Then the topics of what was committed are turned, before
     /// anything else is done.
     fn hear(&mut self, desk: &mut Desk<'a, R, W, T>) -> Round {
@@ -150,8 +165,8 @@ impl<'a, 'b, R: Wait + Log + Clock, W: Side, T: Side> Connection<'a, 'b, R, W, T
                 Came::Octets(n) => {
                     self.hear_read(desk, n);
                     self.tell_ignored(desk);
-                    desk.note_heard(n);
-                    self.go_on(desk);
+                    desk.note_held();
+                    self.outfit.note_read(n);
                     round = Round::Busy;
                 }
                 Came::Again => round = Round::Busy,
@@ -166,19 +181,19 @@ impl<'a, 'b, R: Wait + Log + Clock, W: Side, T: Side> Connection<'a, 'b, R, W, T
                 break;
             }
         }
-        if desk.calls.commits() > 0 {
-            if !self.stands_in(desk) {
-                desk.calls.turn_topics();
-            }
-            self.heard = 0;
+        if desk.calls.commits() > 0 && !self.stands_in(desk) {
+            desk.calls.turn_topics();
         }
         round
     }
 
     /// Where it heard little, and who would be told of what it sent are few, who sleep: turns the topics, and does at
     /// once what the threads of those would do, since waking them costs more. Whether that was so.
-    fn stands_in(&mut self, desk: &mut Desk<'a, R, W, T>) -> bool {
-        if self.heard > MOST_HEARD || !desk.calls.few_sleep() {
+    fn stands_in(&mut self, desk: &mut Desk<'a, R, W, T>) -> bool
+        ensures same { self.new ≡ record self.old { asleep = self.new.asleep } }
+        ensures talk { desk.new.talk ≡ desk.old.talk }
+    {
+        if !desk.calls.may_stand_in() {
             return false;
         }
         desk.calls.turn_for(&mut self.asleep);
@@ -191,15 +206,23 @@ impl<'a, 'b, R: Wait + Log + Clock, W: Side, T: Side> Connection<'a, 'b, R, W, T
         true
     }
 
-    /// Does what the first so many octets of the room ask for, up to a transaction that finds no room.
-    fn hear_read(&mut self, desk: &mut Desk<'a, R, W, T>, n: usize)
-        ensures heard { n ≤ vec_len self.old.outfit.room → (asked : List BrokerRow)
-            × HearsOrKeeps (take n self.old.outfit.room.items) desk.old.talk asked desk.new.talk }
-        ensures same { self.new ≡ record self.old { heard = self.new.heard } }
+    /// Does what the first so many octets of the room ask for, piece by piece; what finds no room is tried again behind
+    /// each.
+    fn hear_read(&mut self, desk: &mut Desk<'a, R, W, T>, n: usize) {
+        for from in (0..n).step_by(PIECE) {
+            self.hear_piece(desk, from, end_of_piece(from, n));
+            desk.note_heard(n);
+            self.go_on(desk);
+        }
+    }
+
+    /// Does what the octets of the room from one index to another ask for, up to a transaction that finds no room.
+    fn hear_piece(&self, desk: &mut Desk<'a, R, W, T>, from: usize, to: usize)
+        ensures { from ≤ to → to ≤ vec_len self.now.outfit.room → (asked : List BrokerRow)
+            × HearsOrKeeps (slice_range self.now.outfit.room.items from to) desk.old.talk asked desk.new.talk }
     {
-        self.heard = self.heard.saturating_add(n);
-        desk.calls.set_heard_little(self.heard <= MOST_HEARD);
-        if let Some(piece) = self.outfit.room.as_slice().get(..n) {
+        if let Some(piece) = self.outfit.room.as_slice().get(from..to) {
+            desk.calls.add_heard(piece.len());
             desk.talk.hear(&mut desk.calls, piece);
         }
     }
@@ -229,22 +252,43 @@ impl<'a, 'b, R: Wait + Log + Clock, W: Side, T: Side> Connection<'a, 'b, R, W, T
     {
         let rt = self.rt;
         for _ in rt.forever() {
-            if desk.calls.commits() > 0 && !self.stands_in(desk) {
-                desk.calls.turn_now();
-            }
-            desk.talk.go_on(&mut desk.calls);
-            if !desk.talk.is_held() {
-                self.end_wait(desk);
-                return Round::Busy;
-            }
-            if self.outfit.bell.is_told() {
-                return Round::Busy;
-            }
-            if desk.calls.commits() == 0 {
-                return Round::Idle;
+            if let Some(round) = self.try_once(desk) {
+                return round;
             }
         }
         unreachable!()
+    }
+
+    /// Turns what it owes, and tries the transaction that waits for room, and what came behind it, once. What that came to,
+    /// unless it is tried again.
+    #[inline(always)]
+    fn try_once(&mut self, desk: &mut Desk<'a, R, W, T>) -> Option<Round>
+        ensures { IfSome result (λ round. round ≡ Idle → desk.new.calls.commits ≡ 0) }
+    {
+        self.turn_owed(desk);
+        desk.talk.go_on(&mut desk.calls);
+        if !desk.talk.is_held() {
+            self.end_wait(desk);
+            return Some(Round::Busy);
+        }
+        if self.outfit.bell.is_told() {
+            return Some(Round::Busy);
+        }
+        if desk.calls.commits() == 0 {
+            return Some(Round::Idle);
+        }
+        None
+    }
+
+    /// Turns the topics of what was committed, if something was: it stands in for those who sleep, where it may.
+    #[inline(always)]
+    fn turn_owed(&mut self, desk: &mut Desk<'a, R, W, T>)
+        ensures same { self.new ≡ record self.old { asleep = self.new.asleep } }
+        ensures talk { desk.new.talk ≡ desk.old.talk }
+    {
+        if desk.calls.commits() > 0 && !self.stands_in(desk) {
+            desk.calls.turn_now();
+        }
     }
 
     /// What waited for room was done: what is there for it is taken.
@@ -253,9 +297,7 @@ impl<'a, 'b, R: Wait + Log + Clock, W: Side, T: Side> Connection<'a, 'b, R, W, T
             × DeliversRound desk.old.talk asked any desk.new.talk }
     {
         desk.deliver();
-        if desk.calls.commits() == 0 {
-            self.heard = 0;
-        }
+        desk.note_held();
     }
 
     /// Says whom it waits for, if that is to be said.
@@ -339,6 +381,9 @@ impl<'a, 'b, R: Wait + Log + Clock, W: Side, T: Side> Connection<'a, 'b, R, W, T
         };
         desk.socket.note_waited(&self.outfit.events);
         desk.calls.set_timed(self.outfit.events.is_empty());
+        if self.outfit.events.is_empty() {
+            self.outfit.narrow();
+        }
         let mut rounds = 0u32;
         let mut yielded_at = 0u32;
         for _ in rt.forever() {
@@ -384,13 +429,23 @@ impl<'a, 'b, R: Wait + Log + Clock, W: Side, T: Side> Connection<'a, 'b, R, W, T
         }
         let is_held = desk.talk.is_held();
         if !desk.socket.is_blocked() {
-            let sleep = if is_held { Sleep::Timed } else { Sleep::Told };
-            return Ok(Some(sleep));
+            return Ok(Some(self.calm_sleep(is_held)));
         }
         if desk.is_lost() && !is_held {
             return Err(WhyLeft::Untaken);
         }
         Ok(Some(Sleep::Timed))
+    }
+
+    /// By what it is woken, where the system takes what waits, and a transaction of it waits for room, or none does.
+    fn calm_sleep(&self, is_held: bool) -> Sleep {
+        if is_held {
+            Sleep::Timed
+        } else if self.outfit.is_wide() {
+            Sleep::Until(Span(TO_IDLE))
+        } else {
+            Sleep::Told
+        }
     }
 
     /// Writes what waits for a connection that leaves, until all is out, a write failed, or 100 polls brought nothing
@@ -479,7 +534,9 @@ impl<'a, 'b, R: Wait + Log + Clock, W: Side, T: Side> Connection<'a, 'b, R, W, T
         }
     }
 
-    /// From its first octet to its last; why it left. Its desk is there for others while it talks.
+    /// From its first octet to its last; why it left. Its desk is there for others while it talks. What it lets go of last is a
+    /// large room: where so large a block is freed the C library puts together the small pieces that lie free in its pool, and
+    /// gives back what is free at the pool's end.
     fn run(&mut self, desk: Box<Desk<'a, R, W, T>>) -> WhyLeft {
         let Some(guarded) = self.desks.get(self.outfit.peer.desk) else {
             return WhyLeft::NoMemory;
@@ -493,18 +550,28 @@ impl<'a, 'b, R: Wait + Log + Clock, W: Side, T: Side> Connection<'a, 'b, R, W, T
         let left = self.leave(ended, &mut desk);
         desk.calls.end_behind();
         desk.show();
-        let (socket, calls) = Box::into_inner(desk).into_parts();
-        drop(socket);
-        self.hub.running.put_worker(self.rt, calls.into_worker());
+        self.end_desk(desk);
+        self.outfit.widen();
         left
     }
 
+    /// The desk is no more: its socket is closed, and its worker goes back. It stands apart, so that the desk, which is
+    /// moved here, takes no room of the stack of a connection that talks.
+    #[inline(never)]
+    fn end_desk(&self, desk: Box<Desk<'a, R, W, T>>) {
+        let (socket, calls) = Box::into_inner(desk).into_parts();
+        drop(socket);
+        self.hub.running.put_worker(self.rt, calls.into_worker());
+    }
+
     /// Leaves, once the conversation has ended so, and nobody else comes to the desk; why it left.
+    #[inline(never)]
     fn leave(&mut self, ended: Result<(), WhyLeft>, desk: &mut Desk<'a, R, W, T>) -> WhyLeft {
         self.tell_ignored(desk);
         self.tell_lag(desk);
         desk.talk.lose(&mut desk.calls);
         desk.calls.end_wait();
+        desk.calls.end_held();
         desk.calls.turn_topics();
         match (ended, desk.talk.exit()) {
             (Ok(()), Some(exit)) => {
@@ -558,7 +625,6 @@ fn talk_over<'a, 'b, R: Wait + Log + Clock, W: Side, T: Side>(
                 desks,
                 outfit,
                 came: Moment::now(rt),
-                heard: 0,
                 asleep: Vec::new(alloc),
                 said: Ignored::nothing(),
             };
@@ -575,6 +641,7 @@ fn talk_over<'a, 'b, R: Wait + Log + Clock, W: Side, T: Side>(
 }
 
 /// The desk of a connection that begins. Out of memory, its socket is returned.
+#[inline(never)]
 fn desk_of<'a, R: Wait + Log + Clock, W: Side, T: Side>(
     rt: &'a R,
     alloc: Global,
@@ -588,11 +655,14 @@ fn desk_of<'a, R: Wait + Log + Clock, W: Side, T: Side>(
     let Ok(rung) = outfit.bell.clone() else {
         return Err(socket);
     };
+    let Ok(meter) = hub.meter(alloc) else {
+        return Err(socket);
+    };
     let Ok(worker) = hub.running.take_worker(rt) else {
         return Err(socket);
     };
     hub.waiters().set_bell(rt, outfit.peer.desk, Some(rung));
-    let calls = Calls::new(rt, alloc, hub, outfit.peer, bell, worker);
+    let calls = Calls::new(rt, alloc, hub, outfit.peer, bell, meter, worker);
     let talk = Conversation::new(alloc, hub.running.capacity());
     match Box::new(alloc, Desk::new(socket, calls, talk)) {
         Ok(desk) => Ok(desk),

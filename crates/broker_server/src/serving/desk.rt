@@ -3,6 +3,7 @@
 ghost use Rattle.std.specs.Prelude.{◌≡◌, ◌==◌, ◌&&◌, true, false, List, [], None, is_some};
 ghost use Rattle.broker_server.specs.BrokerRows.{BrokerRow};
 ghost use Rattle.broker_server.specs.Delivering.{DeliversRound, may_read};
+ghost use Rattle.broker_server.specs.Sockets.{SocketReads, SocketWrites};
 ghost use Rattle.broker_server.specs.declared.serving.socket.Came.TheVariants.{Nothing};
 
 use crate::conversation::{BrokerCalls, Conversation};
@@ -86,6 +87,8 @@ impl<'a, R: Wait + Log + Clock, W: Side, T: Side> Desk<'a, R, W, T> {
     /// Where nothing waits there is nothing to note, unless the system is behind.
     #[inline(always)]
     pub(crate) fn write(&mut self) -> usize
+        ensures written { SocketWrites self.old.socket self.old.talk.wire result
+            self.new.socket self.new.talk.wire }
         ensures calls { self.new.calls ≡ self.old.calls }
         ensures talk { self.new.talk ≡ record self.old.talk { wire = self.new.talk.wire } }
     {
@@ -96,7 +99,9 @@ impl<'a, R: Wait + Log + Clock, W: Side, T: Side> Desk<'a, R, W, T> {
     }
 
     /// Whether nothing waits to be written, and the system isn't behind.
-    fn is_written(&self) -> bool {
+    fn is_written(&self) -> bool
+        ensures { result ≡ true → (self.now.talk.wire ≡ []) × (self.now.socket.blocked ≡ false) }
+    {
         self.talk.wire().is_empty()
             && !self.socket.is_blocked()
             && !self.calls.bell().intake().is_behind()
@@ -105,6 +110,8 @@ impl<'a, R: Wait + Log + Clock, W: Side, T: Side> Desk<'a, R, W, T> {
     /// Writes what waits, as far as the system takes it, and notes at what pace that is; how many octets went out.
     #[inline(never)]
     fn write_some(&mut self) -> usize
+        ensures written { SocketWrites self.old.socket self.old.talk.wire result
+            self.new.socket self.new.talk.wire }
         ensures calls { self.new.calls ≡ self.old.calls }
         ensures talk { self.new.talk ≡ record self.old.talk { wire = self.new.talk.wire } }
     {
@@ -139,6 +146,7 @@ impl<'a, R: Wait + Log + Clock, W: Side, T: Side> Desk<'a, R, W, T> {
     pub(crate) fn read(&mut self, room: &mut [u8]) -> Came
         ensures idle { may_read self.old.talk ≡ false
             → (result ≡ Nothing) × (self.new ≡ self.old) × (room.new ≡ room.old) }
+        ensures read { may_read self.old.talk ≡ true → SocketReads self.old.socket result room.new self.new.socket }
         ensures talk { self.new.talk ≡ self.old.talk }
         ensures calls { self.new.calls ≡ self.old.calls }
     {
@@ -154,14 +162,45 @@ impl<'a, R: Wait + Log + Clock, W: Side, T: Side> Desk<'a, R, W, T> {
 
     /// So many octets were read and heard. Where they are few, and brought neither an answer nor a transaction that was committed
     /// or waits, the system is to acknowledge them at once: a client's system may keep the rest of a transaction back until then.
-    pub(crate) fn note_heard(&mut self, n: usize)
-        ensures { self.new ≡ self.old }
-    {
+    pub(crate) fn note_heard(&self, n: usize) {
         let is_answered = !self.talk.wire().is_empty() || self.talk.is_leaving();
         let is_committed = self.calls.commits() > 0 || self.talk.is_held();
         if n < MUCH && !is_answered && !is_committed {
             self.socket.acknowledge();
         }
+    }
+
+    /// What it holds is told, where that is many more octets or fewer than were told.
+    #[inline(always)]
+    pub(crate) fn note_held(&self) {
+        self.calls.note_held(self.talk.uncommitted());
+    }
+
+    /// Memory is short, and it was passed over. Where that is so still, and more is in its queues than its client takes, it
+    /// makes room; where nothing is, it is told again by who finds memory short next.
+    #[inline(never)]
+    pub(crate) fn make_room(&mut self) {
+        if !self.is_passed_over() {
+            return;
+        }
+        if self.talk.has_more() {
+            self.talk.make_room(&mut self.calls);
+        } else {
+            self.calls.bell().overdue().set_passed_over();
+        }
+    }
+
+    /// Whether one of its subscriptions is passed over.
+    fn is_passed_over(&self) -> bool {
+        for at in 0..usize::MAX {
+            let Some(sub) = self.talk.sub_at(at) else {
+                return false;
+            };
+            if sub.seat.is_passed_over() {
+                return true;
+            }
+        }
+        false
     }
 
     /// Whether a write has failed.

@@ -18,7 +18,7 @@ use crate::serving::waiters::Waiters;
 use crate::serving::why_left::WhyLeft;
 use broker_locks::{NoRoom, PartOctets, Reserved, Side};
 use delivery::MAX_TOPICS;
-use mcast_txn::{NoMemory, Topic, Txn};
+use mcast_txn::{Holdings, Meter, NoMemory, Topic, Txn};
 use std::alloc::{AllocError, Global};
 use std::sync::atomic::{AtomicBool, AtomicU64, Ordering};
 use std::sync::{Arc, Mutex, Wait};
@@ -41,6 +41,8 @@ pub(crate) struct Hub<R: Wait, W: Side, T: Side> {
     waiters: Waiters,
     /// How many connections are behind: of whose octets the system took less than there was, and hasn't taken all since.
     behind: AtomicU64,
+    /// What they hold together.
+    holdings: Arc<Holdings>,
     heads: Vec<Head>,
     /// The bell of each connection that is there.
     connections: Mutex<Vec<(u64, Arc<Bell>)>>,
@@ -60,6 +62,7 @@ impl<R: Wait, W: Side, T: Side> Hub<R, W, T> {
         running: Running<R, W, T>,
         door: Bell,
     ) -> Result<Hub<R, W, T>, NoMemory> {
+        let holdings = Arc::new(alloc, Holdings::new())?;
         let mut heads = Vec::new(alloc);
         for _ in 0..HEADS {
             heads.push(Head::new(alloc, MAX_TOPICS)?)?;
@@ -72,6 +75,7 @@ impl<R: Wait, W: Side, T: Side> Hub<R, W, T> {
             topics,
             waiters,
             behind: AtomicU64::new(0),
+            holdings,
             heads,
             connections: Mutex::new(connections),
             door,
@@ -212,6 +216,7 @@ impl<R: Wait, W: Side, T: Side> Hub<R, W, T> {
 
     /// Room at each topic of this transaction, where nobody waits for it: at all of them, or at the first of them.
     #[tactic(auto, using(crate::proofs::LineLemmas::put_none, crate::proofs::LineLemmas::put_next, crate::proofs::LineLemmas::put_at, crate::proofs::LineLemmas::put_all))]
+    #[inline(always)]
     pub(crate) fn reserve(&self, rt: &R, txn: &Txn, room: &mut Reserved) -> Result<(), NoRoom>
         ensures all { OnOk result (room.new ≡ room.old ++ topics_of txn.now) }
         ensures first { OnErr result (IsRoomFrom room.old (topics_of txn.now) room.new) }
@@ -281,6 +286,19 @@ impl<R: Wait, W: Side, T: Side> Hub<R, W, T> {
             self.behind.fetch_add(1, Ordering::SeqCst);
         } else {
             self.behind.fetch_sub(1, Ordering::SeqCst);
+        }
+    }
+
+    /// The meter of a connection that holds nothing.
+    pub(crate) fn meter(&self, alloc: Global) -> Result<Arc<Meter>, NoMemory> {
+        Ok(Arc::new(alloc, Meter::new(self.holdings.clone()?))?)
+    }
+
+    /// Memory is short: those who were passed over are told to make room.
+    #[inline(never)]
+    pub(crate) fn ring_overdue(&self, rt: &R) {
+        for (_, bell) in self.connections.lock(rt).iter() {
+            bell.ring_overdue();
         }
     }
 
@@ -394,6 +412,7 @@ impl<R: Wait, W: Side, T: Side> Hub<R, W, T> {
             topics: _,
             waiters,
             behind: _,
+            holdings: _,
             heads: _,
             connections: _,
             door: _,

@@ -1,6 +1,6 @@
 //! What a connection's thread is made with.
 
-ghost use Rattle.std.specs.Prelude.{◌≡◌, vec_len, IfOk};
+ghost use Rattle.std.specs.Prelude.{◌≡◌, ◌⊎◌, nat_lt, vec_len, take, IfOk};
 
 use crate::serving::bell::Bell;
 use crate::serving::peer::Peer;
@@ -11,8 +11,11 @@ use std::io;
 use std::net::Net;
 use std::sync::Arc;
 
-/// So many octets are read at once, at most (our choice).
-pub(crate) const READ: usize = 16_384;
+/// So many octets are read at once, at most, while reads don't come full (our choice).
+const READ: usize = 4_096;
+
+/// So many once one did, until the connection is idle (our choice).
+const WIDE_READ: usize = 65_536;
 
 /// So many events a poll gives at once: the socket's and the bell's.
 const EVENTS: usize = 4;
@@ -36,7 +39,7 @@ impl Outfit {
         socket: &mut Socket,
     ) -> io::Result<Outfit>
         ensures peer { IfOk result (λ outfit. outfit.peer ≡ peer) }
-        ensures room { IfOk result (λ outfit. vec_len outfit.room ≡ 16384) }
+        ensures room { IfOk result (λ outfit. vec_len outfit.room ≡ 4096) }
     {
         let poll = Poll::new(rt)?;
         let events = Events::with_capacity(alloc, EVENTS)?;
@@ -50,5 +53,41 @@ impl Outfit {
             bell,
             room,
         })
+    }
+
+    /// A read gave so many octets. Where it came full there is more room from now on, if there is memory for that.
+    pub(crate) fn note_read(&mut self, n: usize)
+        ensures same { self.new ≡ record self.old { room = self.new.room } }
+        ensures room { (self.new.room.items ≡ self.old.room.items) ⊎ (vec_len self.new.room ≡ 65536) }
+    {
+        if n >= self.room.len() {
+            self.widen();
+        }
+    }
+
+    /// There is more room from now on, if there is memory for that.
+    pub(crate) fn widen(&mut self)
+        ensures same { self.new ≡ record self.old { room = self.new.room } }
+        ensures room { (self.new.room.items ≡ self.old.room.items) ⊎ (vec_len self.new.room ≡ 65536) }
+    {
+        if !self.is_wide() {
+            let _ = self.room.resize(WIDE_READ, 0);
+        }
+    }
+
+    /// Whether there is more room than for a read that doesn't come full.
+    pub(crate) fn is_wide(&self) -> bool
+        ensures { result ≡ nat_lt 4096 (vec_len self.now.room) }
+    {
+        self.room.len() > READ
+    }
+
+    /// The connection is idle: it gives back what room it has beyond that for a read that doesn't come full.
+    pub(crate) fn narrow(&mut self)
+        ensures same { self.new ≡ record self.old { room = self.new.room } }
+        ensures room { self.new.room.items ≡ take 4096 self.old.room.items }
+    {
+        self.room.truncate(READ);
+        self.room.shrink_to_fit();
     }
 }

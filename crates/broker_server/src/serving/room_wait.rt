@@ -79,6 +79,7 @@ impl RoomWait {
         if lacking.is_empty() && self.counted_at.is_none() {
             return 0;
         }
+        lacking.sort_unstable();
         let Some(seats) = hub.seats(topic) else {
             return 0;
         };

@@ -1,18 +1,19 @@
 //! The broker, as the server uses it, with the names of its topics and the workers that no connection has.
 
-ghost use Rattle.std.specs.Prelude.{◌≡◌, ◌≤◌, ℕ, List, length, None, IfOk, IfErr, IfSome};
+ghost use Rattle.std.specs.Prelude.{◌≡◌, ◌≤◌, ℕ, List, [], length, None, IfOk, IfErr, IfSome};
 ghost use Rattle.stomp_frame.specs.ClientFrames.{raw_of};
 ghost use Rattle.delivery.specs.Topics.{max_topics};
 ghost use Rattle.broker_locks.specs.declared.server_fault.ServerFault.TheVariants.{TooManyConns};
 ghost use Rattle.broker_locks.specs.Gathering.{IsTraceLeft};
 ghost use Rattle.broker_server.specs.Judging.{Grows, IsFrameAccepted, IsFrameRefused};
+ghost use Rattle.broker_server.specs.Listening.{known_with};
 
 use crate::conversation::ConversationFault;
 use crate::serving::hub::MAX_CONNECTIONS;
 use crate::serving::naming::{may_make, step_by, step_by_all};
 use crate::serving::room_made::RoomMade;
 use broker_locks::{Broker, ServerFault, Side, Worker};
-use delivery::{MAX_TOPICS, Topics};
+use delivery::Topics;
 use mcast_txn::{NoMemory, Topic};
 use std::alloc::Global;
 use std::sync::{Mutex, Wait};
@@ -152,12 +153,12 @@ impl<R: Wait, W: Side, T: Side> Running<R, W, T> {
 }
 
 /// The names of these topics.
-fn names_of(alloc: Global, topics: &Topics) -> Result<Names, NoMemory> {
+fn names_of(alloc: Global, topics: &Topics) -> Result<Names, NoMemory>
+    ensures { IfOk result (λ names. names ≡ known_with topics.now.names []) }
+{
     let mut names = Names::new(alloc);
     for i in 0..topics.len() {
-        if names.len() < MAX_TOPICS {
-            names.add(topics.name(i))?;
-        }
+        names.add(topics.name(i))?;
     }
     Ok(names)
 }

@@ -123,6 +123,12 @@ impl Seat {
     /// Senders passed it over: once its queue is empty it is to be waited for again.
     pub(crate) fn set_passed_over(&self) {
         self.passed_over.store(true, Ordering::SeqCst);
+        self.bell.overdue().set_passed_over();
+    }
+
+    /// Whether senders passed it over, and its queue wasn't found empty since.
+    pub(crate) fn is_passed_over(&self) -> bool {
+        self.passed_over.load(Ordering::SeqCst)
     }
 
     /// Whether senders passed it over since this was asked last.

@@ -1,11 +1,12 @@
 //! A connection's socket.
 
 ghost use Rattle.std.specs.Prelude.{◌≡◌, true, false, None};
-ghost use Rattle.std.specs.Option.{is_some};
-ghost use Rattle.broker_server.specs.declared.serving.socket.Came.TheVariants.{Nothing};
+ghost use Rattle.mio.specs.Events.{items};
+ghost use Rattle.broker_server.specs.Sockets.{SocketReads, SocketWrites, after_event, after_events, first_read};
 
 use crate::conversation::{BrokerCalls, Conversation};
 use crate::serving::socket_option::SocketOption;
+use mio::event::Event;
 use mio::net::TcpStream;
 use mio::{Events, Interest, Poll, Token};
 use std::io;
@@ -105,34 +106,37 @@ impl Socket {
             .reregister(&mut self.stream, SOCKET, Interest::READABLE)
     }
 
+    /// Notes an event.
+    fn note_one(&mut self, event: &Event)
+        ensures { self.new ≡ after_event event.now self.old }
+    {
+        if event.token() != SOCKET {
+            return;
+        }
+        if event.is_read_closed() || event.is_error() {
+            self.hung_up = true;
+        }
+        if event.is_readable() || event.is_read_closed() || event.is_error() {
+            self.readable = true;
+        }
+        if event.is_writable() || event.is_write_closed() {
+            self.blocked = false;
+        }
+    }
+
     /// Notes what the poll told.
     pub(crate) fn note(&mut self, events: &Events)
-        ensures readable { self.old.readable ≡ true → self.new.readable ≡ true }
-        ensures hung_up { self.old.hung_up ≡ true → self.new.hung_up ≡ true }
-        ensures blocked { self.old.blocked ≡ false → self.new.blocked ≡ false }
+        ensures { self.new ≡ after_events (items events.now) self.old }
     {
         for event in events.iter() {
-            if event.token() != SOCKET {
-                continue;
-            }
-            if event.is_read_closed() || event.is_error() {
-                self.hung_up = true;
-            }
-            if event.is_readable() || event.is_read_closed() || event.is_error() {
-                self.readable = true;
-            }
-            if event.is_writable() || event.is_write_closed() {
-                self.blocked = false;
-            }
+            self.note_one(event);
         }
     }
 
     /// Notes what the poll told when it was waited for, whatever that is. A write is tried again then: the system tells
     /// of room only once a third of what it holds has gone, which takes a slow peer long.
     pub(crate) fn note_waited(&mut self, events: &Events)
-        ensures readable { self.old.readable ≡ true → self.new.readable ≡ true }
-        ensures hung_up { self.old.hung_up ≡ true → self.new.hung_up ≡ true }
-        ensures blocked { self.new.blocked ≡ false }
+        ensures { self.new ≡ after_events (items events.now) (record self.old { blocked = false }) }
     {
         self.blocked = false;
         self.note(events);
@@ -142,11 +146,8 @@ impl Socket {
     /// the poll isn't waited for.
     #[inline(always)]
     pub(crate) fn read(&mut self, room: &mut [u8]) -> Came
-        ensures idle { self.old.readable ≡ false → self.old.gone ≡ false
-            → (result ≡ Nothing) × (self.new ≡ self.old) × (room.new ≡ room.old) }
-        ensures hung_up { self.new.hung_up ≡ self.old.hung_up }
-        ensures blocked { self.new.blocked ≡ self.old.blocked }
-        ensures gone { self.new.gone ≡ self.old.gone }
+        ensures idle { self.old.readable ≡ false → self.old.gone ≡ false → room.new ≡ room.old }
+        ensures read { SocketReads self.old result room.new self.new }
     {
         if !self.readable && !self.gone {
             return Came::Nothing;
@@ -171,8 +172,7 @@ impl Socket {
 
     /// Notes the first octet of this room, where it is the first that was read.
     fn note_first(&mut self, room: &[u8])
-        ensures same { self.new ≡ record self.old { first = self.new.first } }
-        ensures kept { is_some self.old.first ≡ true → self.new.first ≡ self.old.first }
+        ensures { self.new ≡ record self.old { first = first_read self.old.first room.now } }
     {
         if self.first.is_none() {
             self.first = room.first().copied();
@@ -189,28 +189,24 @@ impl Socket {
     /// Writes what waits for the connection, as far as the system takes it; how many octets went out. Once a write has
     /// failed what waits is dropped.
     pub(crate) fn write<C: BrokerCalls>(&mut self, talk: &mut Conversation<C>) -> usize
-        ensures blocked { self.old.blocked ≡ true
-            → (result ≡ 0) × (self.new ≡ self.old) × (talk.new ≡ talk.old) }
-        ensures readable { self.new.readable ≡ self.old.readable }
-        ensures hung_up { self.new.hung_up ≡ self.old.hung_up }
-        ensures gone { self.old.gone ≡ true → (result ≡ 0) × (self.new ≡ self.old) }
+        ensures written { SocketWrites self.old talk.old.wire result self.new talk.new.wire }
         ensures same { talk.new ≡ record talk.old { wire = talk.new.wire } }
     {
-        if self.blocked || talk.wire().is_empty() {
+        if self.blocked || talk.wire().len() == 0 {
             return 0;
         }
         if self.gone {
-            drop_wire(talk);
+            talk.drop_waiting();
             return 0;
         }
         match talk.drain(&mut self.stream) {
             Ok(sent) => {
-                self.blocked = !talk.wire().is_empty();
+                self.blocked = talk.wire().len() > 0;
                 sent
             }
             Err(_) => {
                 self.gone = true;
-                drop_wire(talk);
+                talk.drop_waiting();
                 0
             }
         }
@@ -244,11 +240,4 @@ impl Socket {
     pub(crate) fn shut(&mut self) {
         let _ = self.stream.shutdown(Shutdown::Write);
     }
-}
-
-/// Drops what waits to be written.
-fn drop_wire<C: BrokerCalls>(talk: &mut Conversation<C>)
-    ensures { talk.new ≡ record talk.old { wire = talk.new.wire } }
-{
-    let _ = talk.drain(&mut io::sink());
 }

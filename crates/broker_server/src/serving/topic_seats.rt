@@ -19,6 +19,7 @@ use crate::serving::seat::Seat;
 use crate::serving::seat_entry::SeatEntry;
 use crate::serving::seated_sub::SeatedSub;
 use crate::serving::span::Span;
+use crate::serving::turnstile::Turnstile;
 use std::alloc::{AllocError, Global};
 use std::sync::atomic::{AtomicBool, Ordering};
 use std::sync::{Arc, Mutex, Wait};
@@ -36,6 +37,8 @@ pub(crate) struct TopicSeats {
     keepers: Keepers,
     purse: Mutex<Purse>,
     said: Mutex<Said>,
+    /// Before who comes to subscribe.
+    turnstile: Turnstile,
 }
 
 impl TopicSeats {
@@ -48,6 +51,7 @@ impl TopicSeats {
             keepers: Keepers::new(keepers),
             purse: Mutex::new(Purse::new()),
             said: Mutex::new(Said::new()),
+            turnstile: Turnstile::new(),
         }
     }
 
@@ -63,6 +67,13 @@ impl TopicSeats {
         ensures { result.now ≡ self.now.keepers }
     {
         &self.keepers
+    }
+
+    /// Before who comes to subscribe.
+    pub(crate) fn turnstile(&self) -> &Turnstile
+        ensures { result.now ≡ self.now.turnstile }
+    {
+        &self.turnstile
     }
 
     /// The topic is due; whether it was due before.
@@ -147,8 +158,8 @@ impl TopicSeats {
         }
     }
 
-    /// What somebody finds, at this moment, who has no room, since these subscriptions lack it; it was counted at the
-    /// purse before, or is from now on.
+    /// What somebody finds, at this moment, who has no room, since these subscriptions lack it, by rising number; it was
+    /// counted at the purse before, or is from now on.
     pub(crate) fn look<R: Wait>(
         &self,
         rt: &R,
@@ -172,7 +183,7 @@ impl TopicSeats {
         Ok(look)
     }
 
-    /// Finds the seats of these subscriptions, which lack room.
+    /// Finds the seats of these subscriptions, which lack room, by rising number.
     fn find<R: Wait>(
         &self,
         rt: &R,
@@ -183,7 +194,7 @@ impl TopicSeats {
         look: &mut Look,
     ) -> Result<(), AllocError> {
         for entry in self.seats.lock(rt).iter_mut() {
-            if lacking.contains(&entry.seat.sub()) {
+            if lacking.binary_search(&entry.seat.sub()).is_ok() {
                 entry.join_look(rt, now, unpaid, is_first, look)?;
             }
         }

@@ -1,50 +1,14 @@
 -- The account of a run's steps is what the machine answered to its moves, refusals and what was merely done aside.
 use Rattle.std.proofs.Common.{◌≡◌, ℕ, ◌+◌, ◌<◌, ◌==◌, Bool, true, false, cond, not, ◌&&◌, ◌⊎◌, inl, inr, List, [], ◌∷◌, ◌++◌, length, Option, Some, None, refl, sym, ap, subst, ◌∙◌, true≢false}
-use Rattle.std.proofs.lemmas.Bool.{ltb-true, false≢true, not-false}
-use Rattle.std.specs.Prelude.{slice_get, codes}
-use Rattle.std.specs.Option.{is_some, option_map, option_map_or, option_or, option_to_list}
-use Rattle.stomp_frame.specs.declared.raw_frame.RawFrame.{RawFrame}
-use Rattle.mcast_txn.specs.declared.id.Topic.{Topic}
-use Rattle.mcast_txn.specs.declared.id.TxnId.{TxnId}
-use Rattle.mcast_txn.specs.declared.draft.sent_message.SentMessage.{SentMessage}
-use Rattle.mcast_txn.specs.Stamp.{greatest}
-use Rattle.mcast_txn.specs.Checks.{first_refusal}
-use Rattle.mcast_txn.specs.Lists.{In}
-use Rattle.mcast_txn.specs.Span.{Item}
-use Rattle.mcast_txn.proofs.CheckLemmas.{NoneHolds}
-use Rattle.mcast_group.specs.declared.fault.ProposeFault.{ProposeFault}
-use Rattle.mcast_group.specs.Machine.{Pending, due_part}
-use Rattle.mcast_group.proofs.Parts.{some_same, none_some}
-use Rattle.stomp_session.specs.declared.action.Action.{Action}
+use Rattle.delivery.proofs.Words.Std.{ltb-true, false≢true, not-false, slice_get, codes, is_some, option_map, option_map_or, option_or, option_to_list}
+use Rattle.delivery.proofs.Words.Topics.{Topic, TxnId, SentMessage, greatest, first_refusal, In, Item, ProposeFault, Pending, due_part}
+use Rattle.delivery.proofs.Words.Frames.{RawFrame, Action, Command, first_of, Unread, action_by, commit, Held, held_after, is_ended, transactions_left, sends_in, is_known, has_destination, field, topic_of, id_of, transaction_of, send_of}
+use Rattle.delivery.proofs.Words.Lemmas.{NoneHolds, some_same, none_some}
+use Rattle.delivery.proofs.Words.Machine.{due, Run, answers_of, final_world, Objection, refusal_of, accepted_at, World, Leftover, topic_at, connection_at, subscription_at, speaker, start, speaker_number, Move, Answer, world_after, answer_to, move_refusal, move_effect, move_answer, needs_open, needs_idle, undecided_at, find_leftover, oldest_live, or_out_of_memory, commit_answer, proposal_fault, propose_answer, cancel_answer, release_answer, take_answer, leave_answer, next_ticket, end_now, next_txn, run, answers_from}
+use Rattle.delivery.proofs.Words.Core.{TopicList, Event, Outcome, Refusal, ConnectionFault, CoreStep, Reading, frame_in, has_effect, accepted_of, names_after, number_by, account_of, account_of_step, last_of, sends_by, has_closed, replies_to, Core, core_of, moves, session_at, frame_move, topic_moves, is_faulted, is_out_of_memory, unread_at, outcome_of, move_outcome, unless, frame_no_memory, frame_fault, fault_outcomes, frame_outcome, reading_outcomes, cut_of, is_any, reply_outcomes, outcomes, IsCoreRun, accepted_outcomes, outcomes_without, wants_memory, claims_of, claimed_sender, sender_of}
 use Rattle.stomp_session.specs.declared.action.Action.TheVariants as actions
-use Rattle.stomp_frame.specs.declared.command.Command.{Command}
 use Rattle.stomp_frame.specs.declared.command.Command.TheVariants as commands
-use Rattle.stomp_frame.specs.Headers.{first_of}
-use Rattle.stomp_frame.specs.Reader.{Unread}
-use Rattle.stomp_session.specs.Answers.{action_by, commit}
-use Rattle.stomp_session.specs.Open.{Held, held_after, is_ended, transactions_left}
-use Rattle.stomp_session.specs.Refusals.{sends_in}
-use Rattle.stomp_session.specs.Names.{is_known}
-use Rattle.stomp_session.specs.Frames.{has_destination, field, topic_of, id_of, transaction_of, send_of}
-use Rattle.delivery.specs.Topics.{TopicList}
-use Rattle.delivery.specs.declared.event.Event.{Event}
-use Rattle.delivery.specs.declared.outcome.Outcome.{Outcome}
-use Rattle.delivery.specs.declared.refusal.Refusal.{Refusal}
-use Rattle.delivery.specs.declared.connection_fault.ConnectionFault.{ConnectionFault}
-use Rattle.delivery.specs.Theorem.Due.{due}
-use Rattle.delivery.specs.Theorem.Laws.{Run, answers_of, final_world}
-use Rattle.delivery.specs.Machine.Objections.{Objection, refusal_of}
-use Rattle.delivery.specs.Machine.Observed.{accepted_at}
-use Rattle.delivery.specs.Machine.World.{World, Leftover, topic_at, connection_at, subscription_at, speaker, start, speaker_number}
-use Rattle.delivery.specs.Machine.Moves.{Move, Answer, world_after, answer_to, move_refusal, move_effect, move_answer, needs_open, needs_idle, undecided_at, find_leftover, oldest_live, or_out_of_memory, commit_answer, proposal_fault, propose_answer, cancel_answer, release_answer, take_answer, leave_answer, next_ticket, end_now, next_txn}
 use Rattle.delivery.specs.Machine.Moves.Move.{Commits, Subscribes, Unsubscribes, Disconnects, Errs, Lost, Leaves, Proposes, Decides, Withdraws, Cancels, Learns, Releases, Turns, Takes, Connects, AddsTopic}
-use Rattle.delivery.specs.Machine.Runs.{run, answers_from}
-use Rattle.delivery.specs.Core.Steps.{CoreStep, Reading, frame_in, has_effect, accepted_of, names_after, number_by}
-use Rattle.delivery.specs.Core.Account.{account_of, account_of_step, last_of}
-use Rattle.delivery.specs.Core.Told.{sends_by}
-use Rattle.delivery.specs.Core.Output.{has_closed, replies_to}
-use Rattle.delivery.specs.Core.State.{Core, core_of, moves, session_at, frame_move, topic_moves, is_faulted, is_out_of_memory, unread_at}
-use Rattle.delivery.specs.Core.Outcomes.{outcome_of, move_outcome, unless, frame_no_memory, frame_fault, fault_outcomes, frame_outcome, reading_outcomes, cut_of, is_any, reply_outcomes, outcomes, IsCoreRun, accepted_outcomes, outcomes_without, wants_memory}
 use Rattle.delivery.proofs.Machine.Invariant.{sender_in}
 use Rattle.delivery.proofs.Machine.SenderSteps.{leftover_found, In-append_cases}
 use Rattle.delivery.proofs.Machine.Effects.{made_answer, made_world, refused_answer}
@@ -55,7 +19,6 @@ use Rattle.delivery.proofs.Core.Speaking.{Spoken, id_at, open_in, run_spoken, st
 use Rattle.delivery.proofs.Core.Tests.{connection_there}
 use Rattle.delivery.proofs.Core.NextItem.{next_item_is, connection_is}
 use Rattle.delivery.proofs.Core.SendsLeft.{sends_are_left}
-use Rattle.delivery.specs.Core.Claims.{claims_of, claimed_sender, sender_of}
 use Rattle.delivery.proofs.Core.ClaimsStand.{claims_stand, claims_own}
 use Rattle.delivery.proofs.Machine.Speakers.{has_speaker, flying_speaker, cancelling_speaker}
 

@@ -1,28 +1,11 @@
 -- What the worked rows are written with.
-use Rattle.std.specs.Prelude.{ℕ, zero, suc, List, [], ◌∷◌, ◌++◌, map, reverse, codes, Option}
-use Rattle.mcast_txn.specs.declared.id.Topic.{Topic}
-use Rattle.mcast_txn.specs.declared.id.TxnId.{TxnId}
-use Rattle.mcast_txn.specs.declared.draft.sent_message.SentMessage.{SentMessage}
-use Rattle.mcast_txn.specs.declared.parts.part_message.PartMessage.{PartMessage}
-use Rattle.mcast_txn.specs.declared.stamp.Stamp.{Stamp}
-use Rattle.mcast_txn.specs.Span.{LogRow}
-use Rattle.mcast_group.specs.declared.cause.Cause.{Cause}
-use Rattle.stomp_frame.specs.declared.command.Command.{Command}
+use Rattle.delivery.proofs.Words.Std.{ℕ, zero, suc, List, [], ◌∷◌, ◌++◌, map, reverse, codes, Option}
+use Rattle.delivery.proofs.Words.Topics.{Topic, TxnId, SentMessage, PartMessage, Stamp, LogRow, Cause}
+use Rattle.delivery.proofs.Words.Frames.{Command, RawFrame, Check, unread_of}
+use Rattle.delivery.proofs.Words.Machine.{Answer, answers_from}
+use Rattle.delivery.proofs.Words.Core.{Event, Outcome, Refusal, TopicList, QueueReport, CoreStep, Reading, reader_limits, Core, core_after, moves, outcomes}
 use Rattle.stomp_frame.specs.declared.command.Command.TheVariants as commands
-use Rattle.stomp_frame.specs.declared.raw_frame.RawFrame.{RawFrame}
-use Rattle.stomp_frame.specs.declared.fault.Check.{Check}
 use Rattle.stomp_frame.specs.Headers.{Header}
-use Rattle.stomp_frame.specs.Reader.{unread_of}
-use Rattle.delivery.specs.declared.event.Event.{Event}
-use Rattle.delivery.specs.declared.outcome.Outcome.{Outcome}
-use Rattle.delivery.specs.declared.refusal.Refusal.{Refusal}
-use Rattle.delivery.specs.Topics.{TopicList}
-use Rattle.delivery.specs.Core.Reports.{QueueReport}
-use Rattle.delivery.specs.Core.Steps.{CoreStep, Reading, reader_limits}
-use Rattle.delivery.specs.Machine.Moves.{Answer}
-use Rattle.delivery.specs.Machine.Runs.{answers_from}
-use Rattle.delivery.specs.Core.State.{Core, core_after, moves}
-use Rattle.delivery.specs.Core.Outcomes.{outcomes}
 
 -- the topic of number n
 abbrev pub topic : ℕ → Topic
@@ -155,7 +138,7 @@ machine_account p (a ∷ acts) = machine_account (machine_after p a) acts
 
 -- a subscription as a row shows it: its span, why that ended, and the stamps of its queued and its delivered items
 abbrev pub seen : QueueReport → Topic × Stamp × Option Stamp × Option Cause × List Stamp × List Stamp
-seen q = (q.topic, q.from, q.to, q.cause, map (λ i. i.stamp) q.queued, map (λ i. i.stamp) q.handed)
+seen q = (q.span.topic, q.span.from, q.span.to, q.cause, map (λ i. i.stamp) q.queued, map (λ i. i.stamp) q.handed)
 
 -- the headers of a SEND in a transaction
 abbrev pub in_to : List ℕ → List ℕ → List Header

@@ -1,22 +1,11 @@
 -- Of a played row: its steps tell what its machine answered, and its report is what they tell.
-use Rattle.std.specs.Prelude.{ℕ, ◌+◌, ◌&&◌, Bool, true, false, List, [], ◌∷◌, ◌++◌, map, length}
-use Rattle.std.specs.List.{list_all, flat_map}
-use Rattle.std.specs.Str.{bytes_eq}
-use Rattle.mcast_txn.specs.declared.id.Topic.{Topic}
-use Rattle.mcast_txn.specs.declared.id.TxnId.{TxnId}
-use Rattle.mcast_txn.specs.declared.stamp.Stamp.{Stamp}
-use Rattle.mcast_txn.specs.Stamp.{zero_stamp}
-use Rattle.mcast_txn.specs.Span.{LogRow, Item, last_stamp}
-use Rattle.delivery.specs.Theorem.Due.{due, log_row}
-use Rattle.delivery.specs.Machine.Moves.{Answer}
-use Rattle.delivery.specs.Machine.Runs.{commits_of, delivered_items}
-use Rattle.delivery.specs.Core.Reports.{QueueReport, Report}
-use Rattle.delivery.specs.Core.Steps.{shows_reading}
-use Rattle.delivery.specs.Core.Account.{account_of, released_log}
-use Rattle.delivery.specs.Core.State.{Core}
-use Rattle.delivery.specs.Core.Reports.{report_of, span_of, log_in, each_number}
+use Rattle.delivery.proofs.Words.Std.{ℕ, ◌+◌, Bool, true, false, List, [], ◌∷◌, ◌++◌, map, length, list_all, flat_map, bytes_eq}
+use Rattle.delivery.proofs.Words.Topics.{Topic, TxnId, Stamp, zero_stamp, LogRow, Item, last_stamp}
+use Rattle.delivery.proofs.Words.Machine.{due, log_row, Answer, commits_of, delivered_items}
+use Rattle.delivery.proofs.Words.Core.{QueueReport, Report, account_of, released_log, Core, report_of, log_in, each_number, reported_begun}
+use Rattle.std.specs.Prelude.{◌&&◌}
+use Rattle.delivery.proofs.Core.ShownReadings.{shows_reading}
 use Rattle.delivery.specs.Core.Answered.{begun_in}
-use Rattle.delivery.specs.Core.Delivery.{reported_begun}
 use Rattle.delivery.proofs.Core.Acts.{Act, machine_account, played, topic}
 
 -- ---- plain numbers of each
@@ -74,7 +63,7 @@ alike (x ∷ xs) (y ∷ ys) = bytes_eq x y && alike xs ys
 -- a queue is what is due, and what was handed on is what Takes handed
 abbrev pub is_due : List Answer → Report → ℕ → QueueReport → Bool
 is_due told r s q =
-    alike (map item_numbers q.queued) (map item_numbers (due (commits_of told) (span_of q) (last_stamp zero_stamp (log_in r q.topic))))
+    alike (map item_numbers q.queued) (map item_numbers (due (commits_of told) q.span (last_stamp zero_stamp (log_in r q.span.topic))))
     && alike (map item_numbers q.handed) (map item_numbers (delivered_items s told))
 
 -- of each subscription from number i on: whether its queue is what is due, and it delivered what Takes gave

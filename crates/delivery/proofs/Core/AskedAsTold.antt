@@ -1,14 +1,10 @@
 -- A subscription whose end was asked for has ended at its own topic's frontier then.
 use Rattle.std.proofs.Common.{◌≡◌, ℕ, List, [], ◌∷◌, Option, Some, None, refl, sym, ap, ◌∙◌}
-use Rattle.mcast_txn.specs.declared.id.Topic.{Topic}
+use Rattle.delivery.proofs.Words.Topics.{Topic, EntryEnd}
+use Rattle.delivery.proofs.Words.Lemmas.{some_same, none_some}
+use Rattle.delivery.proofs.Words.Machine.{World, subscription_at, entry_at, end_at, entry_to, Move, Answer, world_after, answer_to, Run, answers_of, final_world}
+use Rattle.delivery.proofs.Words.Core.{released_frontier}
 use Rattle.mcast_group.specs.declared.cause.Cause.TheVariants.{Asked}
-use Rattle.mcast_group.specs.Machine.{EntryEnd}
-use Rattle.mcast_group.proofs.Parts.{some_same, none_some}
-use Rattle.delivery.specs.Machine.World.{World, subscription_at, entry_at}
-use Rattle.delivery.specs.Machine.Observed.{end_at, entry_to}
-use Rattle.delivery.specs.Machine.Moves.{Move, Answer, world_after, answer_to}
-use Rattle.delivery.specs.Theorem.Laws.{Run, answers_of, final_world}
-use Rattle.delivery.specs.Core.Account.{released_frontier}
 use Rattle.delivery.proofs.Machine.SpanSteps.{step_tells}
 use Rattle.delivery.proofs.Theorem.AcceptedIsDue.{reached}
 use Rattle.delivery.proofs.Theorem.ClosedAsAnswered.{spans_end_at_frontier, closed_as_told, closes_are_told, closed_stays}

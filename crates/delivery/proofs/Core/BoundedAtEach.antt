@@ -2,26 +2,11 @@
 -- topic's frontier then.
 use Rattle.std.proofs.Common.{◌≡◌, ℕ, ◌+◌, ◌<◌, ◌≤◌, Bool, true, false, cond, not, ◌&&◌, ◌⊎◌, inl, inr, List, [], ◌∷◌, ◌++◌, map, length, Option, Some, None, refl, sym, ap, subst, ◌∙◌, arith, append-nil}
 use Rattle.std.specs.List.{filter}
-use Rattle.std.proofs.lemmas.Bool.{true≢false, and_parts, and_from, cases_lt}
-use Rattle.std.proofs.lemmas.List.Elements.{filter-append}
-use Rattle.mcast_txn.specs.declared.id.Topic.{Topic}
-use Rattle.mcast_txn.specs.declared.stamp.Stamp.{Stamp}
-use Rattle.mcast_txn.specs.Stamp.{zero_stamp, stamp_lt}
-use Rattle.mcast_txn.specs.Agreed.{CommitRow, agreed}
-use Rattle.mcast_txn.specs.Lists.{In, Rises}
-use Rattle.mcast_txn.specs.Span.{LogRow, Item, Span, last_stamp, row_stamp, item_stamp, in_span, up_to}
-use Rattle.mcast_txn.specs.TopicSet.{names}
-use Rattle.mcast_txn.specs.Transaction.{topics_of}
-use Rattle.mcast_txn.proofs.Members.{In-append_right, filter_same, filter_none, filter_twice}
-use Rattle.mcast_txn.proofs.Orders.{lt_irrefl, le_lt, le_trans, zero_least}
-use Rattle.mcast_group.specs.Sound.{IsQueueOf}
-use Rattle.delivery.specs.Theorem.Due.{item_at, is_due, due}
-use Rattle.delivery.specs.Machine.World.{World, start, topic_at, subscription_at}
-use Rattle.delivery.specs.Machine.Observed.{accepted_at, end_at, span_at, frontier_at}
-use Rattle.delivery.specs.Machine.Moves.{Move, Answer, world_after, answer_to}
-use Rattle.delivery.specs.Machine.Runs.{commits_of, delivered_items}
-use Rattle.delivery.specs.Theorem.Laws.{Run, answers_of, final_world}
-use Rattle.delivery.specs.Core.Account.{released_frontier}
+use Rattle.delivery.proofs.Words.Std.{true≢false, and_parts, and_from, cases_lt, filter-append}
+use Rattle.delivery.proofs.Words.Topics.{Topic, Stamp, zero_stamp, stamp_lt, CommitRow, agreed, In, Rises, LogRow, Item, Span, last_stamp, row_stamp, item_stamp, in_span, up_to, names, topics_of, IsQueueOf}
+use Rattle.delivery.proofs.Words.Lemmas.{In-append_right, filter_same, filter_none, filter_twice, lt_irrefl, le_lt, le_trans, zero_least}
+use Rattle.delivery.proofs.Words.Machine.{item_at, is_due, due, World, start, topic_at, subscription_at, accepted_at, end_at, span_at, frontier_at, Move, Answer, world_after, answer_to, commits_of, delivered_items, Run, answers_of, final_world}
+use Rattle.delivery.proofs.Words.Core.{released_frontier}
 use Rattle.delivery.proofs.Machine.Invariant.{topic_in}
 use Rattle.delivery.proofs.Machine.SenderSteps.{In-append_cases}
 use Rattle.delivery.proofs.Machine.InvariantIsKept.{tickets, step_reached}

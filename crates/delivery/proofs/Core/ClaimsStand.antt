@@ -1,51 +1,14 @@
 -- Whom each connection of a core speaks for, and how many senders there are, is as the accepted CONNECTs say.
 use Rattle.std.proofs.Common.{◌≡◌, ℕ, ◌+◌, ◌<◌, ◌==◌, Bool, true, false, cond, not, ◌&&◌, List, [], ◌∷◌, ◌++◌, length, get_or, set, Option, Some, None, inl, inr, refl, sym, ap, subst, ◌∙◌, arith, true≢false}
-use Rattle.std.specs.Prelude.{codes}
-use Rattle.std.specs.List.{list_all, position_or_len}
-use Rattle.std.specs.Option.{option_map, option_map_or, option_and_then, option_to_list, option_or, unwrap_or}
-use Rattle.std.proofs.lemmas.Bool.{false≢true, and_parts, ltb-true, eqb-true, eq-eqb, not-false}
-use Rattle.std.proofs.lemmas.List.{length_push}
-use Rattle.stomp_frame.specs.declared.command.Command.{Command}
+use Rattle.delivery.proofs.Words.Std.{codes, list_all, position_or_len, option_map, option_map_or, option_and_then, option_to_list, option_or, unwrap_or, false≢true, and_parts, ltb-true, eqb-true, eq-eqb, not-false, length_push}
+use Rattle.delivery.proofs.Words.Topics.{Decision, first_refusal, In, Topic, TxnId, SentMessage, Item, ProposeFault, Entry}
+use Rattle.delivery.proofs.Words.Frames.{Command, RawFrame, CaseFault, is_connect, case_fault, first_of, Unread, Action, SessionFault, is_known, field, transaction_of, send_of, client_of, has_destination, Held, action_by, commit, sends_in, session_fault}
+use Rattle.delivery.proofs.Words.Lemmas.{at_set, at_set_within, none_some, not_true}
+use Rattle.delivery.proofs.Words.Machine.{Objection, refusal_of, World, Connection, Leftover, SenderState, nobody, new_sender, connection_at, speaker, speaker_number, subscription_at, entry_at, Move, world_after, move_refusal, move_effect, needs_idle, find_leftover, find_verdict, oldest_live, claimed_senders, connect_effect, commit_effect, proposal_fault, propose_effect, cancel_effect, learn_effect, take_effect, leave_effect, close_effect_of, run}
+use Rattle.delivery.proofs.Words.Core.{Event, Outcome, Refusal, ConnectionFault, TopicList, CoreStep, Reading, frame_in, has_effect, Claim, claim_of, claims_of, is_kept, begins, begun_count, kept_sender, claimed_sender, sender_claimed, is_one_client, senders_of, sender_of, is_cut, Core, core_for, core_of, names_at, moves, topic_moves, frame_move, session_at, is_no_memory, unless, frame_no_memory, claim_fault, frame_fault, fault_outcomes, outcomes_without, reading_outcomes, outcomes, accepted_outcomes, IsCoreRun}
 use Rattle.stomp_frame.specs.declared.command.Command.TheVariants as commands
-use Rattle.stomp_frame.specs.declared.raw_frame.RawFrame.{RawFrame}
-use Rattle.stomp_frame.specs.declared.case_fault.CaseFault.{CaseFault}
-use Rattle.stomp_frame.specs.Cases.{is_connect, case_fault}
-use Rattle.stomp_frame.specs.Headers.{first_of}
-use Rattle.stomp_frame.specs.Reader.{Unread}
-use Rattle.mcast_txn.specs.Ballot.{Decision}
-use Rattle.mcast_txn.specs.Checks.{first_refusal}
-use Rattle.mcast_txn.specs.Lists.{In}
-use Rattle.mcast_txn.specs.declared.id.Topic.{Topic}
-use Rattle.mcast_txn.specs.declared.id.TxnId.{TxnId}
-use Rattle.mcast_txn.specs.declared.draft.sent_message.SentMessage.{SentMessage}
-use Rattle.mcast_txn.specs.Span.{Item}
-use Rattle.mcast_txn.proofs.Members.{at_set, at_set_within}
-use Rattle.mcast_group.specs.declared.fault.ProposeFault.{ProposeFault}
-use Rattle.mcast_group.specs.Machine.{Entry}
-use Rattle.mcast_group.proofs.Parts.{none_some, not_true}
-use Rattle.stomp_session.specs.declared.action.Action.{Action}
 use Rattle.stomp_session.specs.declared.action.Action.TheVariants as actions
-use Rattle.stomp_session.specs.declared.fault.SessionFault.{SessionFault}
-use Rattle.stomp_session.specs.Names.{is_known}
-use Rattle.stomp_session.specs.Frames.{field, transaction_of, send_of, client_of, has_destination}
-use Rattle.stomp_session.specs.Open.{Held}
-use Rattle.stomp_session.specs.Answers.{action_by, commit}
-use Rattle.stomp_session.specs.Refusals.{sends_in, session_fault}
-use Rattle.delivery.specs.declared.event.Event.{Event}
-use Rattle.delivery.specs.declared.outcome.Outcome.{Outcome}
-use Rattle.delivery.specs.declared.refusal.Refusal.{Refusal}
-use Rattle.delivery.specs.declared.connection_fault.ConnectionFault.{ConnectionFault}
-use Rattle.delivery.specs.Topics.{TopicList}
-use Rattle.delivery.specs.Machine.Objections.{Objection, refusal_of}
-use Rattle.delivery.specs.Machine.World.{World, Connection, Leftover, SenderState, nobody, new_sender, connection_at, speaker, speaker_number, subscription_at, entry_at}
-use Rattle.delivery.specs.Machine.Moves.{Move, world_after, move_refusal, move_effect, needs_idle, find_leftover, find_verdict, oldest_live, claimed_senders, connect_effect, commit_effect, proposal_fault, propose_effect, cancel_effect, learn_effect, take_effect, leave_effect, close_effect_of}
 use Rattle.delivery.specs.Machine.Moves.Move.{AddsTopic, Opens, Connects, Commits, Unsubscribes, Disconnects, Errs, Lost, Leaves, Proposes, Decides, Withdraws, Cancels, Learns, Takes}
-use Rattle.delivery.specs.Machine.Runs.{run}
-use Rattle.delivery.specs.Core.Steps.{CoreStep, Reading, frame_in, has_effect}
-use Rattle.delivery.specs.Core.Claims.{Claim, claim_of, claims_of, is_kept, begins, begun_count, kept_sender, claimed_sender, sender_claimed, is_one_client, senders_of, sender_of}
-use Rattle.delivery.specs.Core.Output.{is_cut}
-use Rattle.delivery.specs.Core.State.{Core, core_for, core_of, names_at, moves, topic_moves, frame_move, session_at, is_no_memory}
-use Rattle.delivery.specs.Core.Outcomes.{unless, frame_no_memory, claim_fault, frame_fault, fault_outcomes, outcomes_without, reading_outcomes, outcomes, accepted_outcomes, IsCoreRun}
 use Rattle.delivery.proofs.Machine.SubscriptionSteps.{at_push, set_length}
 use Rattle.delivery.proofs.Machine.InvariantIsKept.{by_refusal, checked}
 use Rattle.delivery.proofs.Core.SenderPlaces.{no_place, place_of}

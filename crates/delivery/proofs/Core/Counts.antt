@@ -1,50 +1,20 @@
 -- How many topics and connections there are after a run of the core.
 use Rattle.std.proofs.Common.{◌≡◌, ℕ, suc, ◌+◌, Bool, true, false, cond, not, ◌&&◌, inl, inr, true≢false, List, [], ◌∷◌, ◌++◌, length, Option, Some, None, refl, sym, ap, subst, ◌∙◌, arith}
-use Rattle.std.specs.Prelude.{codes}
-use Rattle.std.specs.List.{list_all}
-use Rattle.std.proofs.lemmas.Bool.{false≢true, and_parts}
-use Rattle.std.specs.Option.{option_map_or, option_to_list}
-use Rattle.std.proofs.lemmas.List.{length_push}
-use Rattle.mcast_txn.specs.declared.id.Topic.{Topic}
-use Rattle.mcast_txn.specs.declared.id.TxnId.{TxnId}
-use Rattle.mcast_txn.specs.declared.draft.sent_message.SentMessage.{SentMessage}
-use Rattle.mcast_txn.specs.Ballot.{Decision}
-use Rattle.mcast_txn.specs.Span.{Item}
-use Rattle.mcast_group.specs.declared.fault.ProposeFault.{ProposeFault}
-use Rattle.mcast_group.specs.Machine.{Entry, new_topic}
-use Rattle.stomp_session.specs.declared.action.Action.{Action}
+use Rattle.delivery.proofs.Words.Std.{codes, list_all, false≢true, and_parts, option_map_or, option_to_list, length_push}
+use Rattle.delivery.proofs.Words.Topics.{Topic, TxnId, SentMessage, Decision, Item, ProposeFault, Entry, new_topic, first_refusal, In}
+use Rattle.delivery.proofs.Words.Frames.{Action, action_by, is_known, field, has_destination, with_destination, RawFrame}
+use Rattle.delivery.proofs.Words.Lemmas.{some_same}
+use Rattle.delivery.proofs.Words.Machine.{World, Leftover, new_topics, speaker, subscription_at, entry_at, Move, Answer, world_after, answer_to, move_refusal, move_effect, needs_open, needs_idle, find_leftover, find_verdict, oldest_live, commit_effect, proposal_fault, propose_effect, cancel_effect, learn_effect, take_effect, leave_effect, close_effect_of, run, IsAnswer, Objection, refusal_of}
+use Rattle.delivery.proofs.Words.Core.{Event, Outcome, TopicList, CoreStep, Reading, frame_in, has_effect, is_cut, Core, log_limit, core_after, core_for, core_of, moves, frame_move, names_at, session_at, topic_moves, is_faulted, is_no_memory, unread_at, Refusal, ConnectionFault, number_by, outcome_of, move_outcome, unless, frame_no_memory, frame_fault, fault_outcomes, frame_outcome, reading_outcomes, cut_of, reply_outcomes, outcomes, IsReadAt, IsCoreRun, accepted_outcomes, is_any, outcomes_without, wants_memory, claims_of, claimed_sender}
 use Rattle.stomp_session.specs.declared.action.Action.TheVariants as actions
-use Rattle.stomp_session.specs.Answers.{action_by}
-use Rattle.stomp_session.specs.Names.{is_known}
-use Rattle.stomp_session.specs.Frames.{field, has_destination, with_destination}
 use Rattle.delivery.proofs.Core.ByRun.{run_append}
-use Rattle.stomp_frame.specs.declared.raw_frame.RawFrame.{RawFrame}
-use Rattle.delivery.specs.declared.event.Event.{Event}
-use Rattle.delivery.specs.declared.outcome.Outcome.{Outcome}
-use Rattle.delivery.specs.Topics.{TopicList}
-use Rattle.delivery.specs.Machine.World.{World, Leftover, new_topics, speaker, subscription_at, entry_at}
-use Rattle.delivery.specs.Machine.Moves.{Move, Answer, world_after, answer_to, move_refusal, move_effect, needs_open, needs_idle, find_leftover, find_verdict, oldest_live, commit_effect, proposal_fault, propose_effect, cancel_effect, learn_effect, take_effect, leave_effect, close_effect_of}
 use Rattle.delivery.specs.Machine.Moves.Move.{AddsTopic, Opens, Connects, Commits, Subscribes, Unsubscribes, Disconnects, Errs, Lost, Leaves, Proposes, Decides, Withdraws, Cancels, Learns, Releases, Turns, Takes}
-use Rattle.delivery.specs.Machine.Runs.{run}
-use Rattle.delivery.specs.Core.Steps.{CoreStep, Reading, frame_in, has_effect}
-use Rattle.delivery.specs.Core.Output.{is_cut}
-use Rattle.delivery.specs.Core.State.{Core, log_limit, core_after, core_for, core_of, moves, frame_move, names_at, session_at, topic_moves, is_faulted, is_no_memory, unread_at}
 use Rattle.delivery.proofs.Machine.SubscriptionSteps.{set_length}
-use Rattle.delivery.specs.declared.refusal.Refusal.{Refusal}
-use Rattle.delivery.specs.declared.connection_fault.ConnectionFault.{ConnectionFault}
-use Rattle.delivery.specs.Theorem.Answers.{IsAnswer}
-use Rattle.delivery.specs.Core.Steps.{number_by}
-use Rattle.delivery.specs.Core.Outcomes.{outcome_of, move_outcome, unless, frame_no_memory, frame_fault, fault_outcomes, frame_outcome, reading_outcomes, cut_of, reply_outcomes, outcomes, IsReadAt, IsCoreRun, accepted_outcomes, is_any, outcomes_without, wants_memory}
 use Rattle.delivery.specs.Core.Delivery.{opened_by, opened_in}
-use Rattle.mcast_txn.specs.Checks.{first_refusal}
-use Rattle.mcast_txn.specs.Lists.{In}
-use Rattle.mcast_group.proofs.Parts.{some_same}
-use Rattle.delivery.specs.Machine.Objections.{Objection, refusal_of}
 use Rattle.delivery.proofs.Machine.SenderSteps.{In-append_cases}
 use Rattle.delivery.proofs.Machine.InvariantIsKept.{by_refusal}
 use Rattle.delivery.proofs.Theorem.MovesAreAnswered.{events_are_answered}
 use Rattle.delivery.proofs.Core.AccountOfRun.{in_option, refusal_some, replied, either_cut}
-use Rattle.delivery.specs.Core.Claims.{claims_of, claimed_sender}
 
 -- ---- the machine's moves
 

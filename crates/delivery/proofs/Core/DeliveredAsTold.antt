@@ -1,23 +1,11 @@
 -- What is delivered by an account in the machine's answers is delivered by what is told of them.
 use Rattle.std.proofs.Common.{◌≡◌, ℕ, ◌+◌, ◌≤◌, true, false, List, [], ◌∷◌, ◌++◌, map, length, Some, refl, sym, ap, subst, ◌∙◌}
-use Rattle.std.proofs.lemmas.Bool.{true≢false}
-use Rattle.std.specs.Prelude.{take, slice_get}
-use Rattle.mcast_txn.specs.declared.id.Topic.{Topic}
-use Rattle.mcast_txn.specs.declared.stamp.Stamp.{Stamp}
-use Rattle.mcast_txn.specs.Stamp.{zero_stamp, stamp_lt}
-use Rattle.mcast_txn.specs.Agreed.{CommitRow, committed_id, stamp_of, agreed, EachOnce, SenderOrder}
-use Rattle.mcast_txn.specs.Lists.{In}
-use Rattle.mcast_txn.specs.Span.{Item, LogRow, last_stamp}
+use Rattle.delivery.proofs.Words.Std.{true≢false, take, slice_get, enumerate_from, last_or}
+use Rattle.delivery.proofs.Words.Topics.{Topic, Stamp, zero_stamp, stamp_lt, CommitRow, committed_id, stamp_of, agreed, EachOnce, SenderOrder, In, Item, LogRow, last_stamp}
+use Rattle.delivery.proofs.Words.Machine.{Answer, commits_of, delivered_items, log_row, due, SilentAfterClose}
+use Rattle.delivery.proofs.Words.Core.{released_log, released_frontier, QueueReport, Report, log_in, Told, committed, frontier_of, handed_count, reported_begun, last_queued, LagsAsAnswered, IsAsAnswered, DeliversAnswers, Delivers}
 use Rattle.mcast_group.specs.declared.cause.Cause.TheVariants.{Asked}
-use Rattle.delivery.specs.Machine.Moves.{Answer}
-use Rattle.delivery.specs.Machine.Runs.{commits_of, delivered_items}
-use Rattle.delivery.specs.Theorem.Due.{log_row, due}
-use Rattle.delivery.specs.Theorem.Settled.{SilentAfterClose}
-use Rattle.delivery.specs.Core.Account.{released_log, released_frontier}
-use Rattle.delivery.specs.Core.Reports.{QueueReport, Report, log_in, span_of}
-use Rattle.delivery.specs.Core.Told.{Told, committed, frontier_of, handed_count}
-use Rattle.delivery.specs.Core.Answered.{LagsAsAnswered, IsAsAnswered, DeliversAnswers}
-use Rattle.delivery.specs.Core.Delivery.{EndsByLag, IsAsTold, Delivers}
+use Rattle.delivery.specs.Core.Delivery.{Lags, IsAsTold}
 use Rattle.delivery.proofs.Core.Moments.{at_moment, from_moments, always_one, always_told}
 use Rattle.delivery.proofs.Core.Tells.{tells, tell, committed_told, log_told, frontier_told, handed_told, begun_told, tell_append}
 use Rattle.delivery.proofs.Core.ToldSettled.{end_from, settled_from, silent_at}
@@ -42,23 +30,29 @@ moves t past (Answer.Released u id) end reached passed = record { by = _; is = r
 moves t past (Answer.Turned u count) end reached passed = record { by = _; is = refl }
 moves t past o end reached passed = unmoved t past o end refl reached passed
 
+-- the last of these items' stamps, or else this one
+last_told : (from : Stamp) (items : List Item) → last_or (Some from) (map (λ (i : Item). i.stamp) items) ≡ Some (last_queued from items)
+last_told from [] = refl
+last_told from (item ∷ items) = last_told item.stamp items
+
 lag_told : (capacity s : ℕ) (account : List Answer) (q : QueueReport) (end : Stamp) → LagsAsAnswered capacity s account q end
-    → EndsByLag capacity s (tell account) q end
+    → (later before : List Told) × (by : Told) × (tell account ≡ later ++ by ∷ before) × Lags capacity s q end by before
 lag_told capacity s account q end h =
-    let m = moves q.topic h.before h.by end h.reached h.passed in
+    let m = moves q.span.topic h.before h.by end h.reached h.passed in
     let a = tell_append h.later (h.by ∷ h.before) in
-    let is : tell (h.by ∷ h.before) ≡ m.by ∷ tell h.before = ap (λ (z : List Told). z ++ tell h.before) m.is in
-    record {
-      later = a.0;
-      by = m.by;
-      before = tell h.before;
-      told_is = ap tell h.account_is ∙ (a.1 ∙ ap (λ (z : List Told). a.0 ++ z) is);
-      last = h.last;
-      reached = subst (λ (z : Stamp). stamp_lt end z ≡ false) (sym (frontier_told q.topic h.before)) h.reached;
-      passed = subst (λ (z : List Told). stamp_lt end (frontier_of q.topic z) ≡ true) is
-          (subst (λ (z : Stamp). stamp_lt end z ≡ true) (sym (frontier_told q.topic (h.by ∷ h.before))) h.passed);
-      full = h.full ∙ ap (λ (n : ℕ). n + capacity) (sym (handed_told s h.before));
-    }
+    let is : tell (h.by ∷ h.before) ≡ m.by ∷ tell h.before = ap (λ (z : List Told). z ++ tell h.before) m.is in (
+      a.0,
+      tell h.before,
+      m.by,
+      ap tell h.account_is ∙ (a.1 ∙ ap (λ (z : List Told). a.0 ++ z) is),
+      record {
+        last = last_told q.span.from q.queued ∙ ap Some (sym h.last);
+        reached = subst (λ (z : Stamp). stamp_lt end z ≡ false) (sym (frontier_told q.span.topic h.before)) h.reached;
+        passed = subst (λ (z : List Told). stamp_lt end (frontier_of q.span.topic z) ≡ true) is
+            (subst (λ (z : Stamp). stamp_lt end z ≡ true) (sym (frontier_told q.span.topic (h.by ∷ h.before))) h.passed);
+        full = h.full ∙ ap (λ (n : ℕ). n + capacity) (sym (handed_told s h.before));
+      },
+    )
 
 -- ---- a subscription
 
@@ -74,55 +68,57 @@ take_given (x ∷ xs) ys = ap (λ z. x ∷ z) (take_given xs ys)
 
 -- at each moment of what is told a queue is within its bound
 bounded_told : (capacity s : ℕ) (account : List Answer) (q : QueueReport)
-    → ((later before : List Answer) → account ≡ later ++ before → length (due (commits_of account) (span_of q) (released_frontier q.topic before)) ≤ length (delivered_items s before) + capacity)
-    → (later before : List Told) → tell account ≡ later ++ before → length (due (committed (tell account)) (span_of q) (frontier_of q.topic before)) ≤ handed_count s before + capacity
+    → ((later before : List Answer) → account ≡ later ++ before → length (due (commits_of account) q.span (released_frontier q.span.topic before)) ≤ length (delivered_items s before) + capacity)
+    → (later before : List Told) → tell account ≡ later ++ before → length (due (committed (tell account)) q.span (frontier_of q.span.topic before)) ≤ handed_count s before + capacity
 bounded_told capacity s account q h =
     at_moment P (tell account) (always_told P (λ txn told k. k) account (always_one Q (λ (z : List Answer). P (tell z)) told account (from_moments Q account h)))
   where
     P : List Told → Type 0
-    P before = length (due (committed (tell account)) (span_of q) (frontier_of q.topic before)) ≤ handed_count s before + capacity
+    P before = length (due (committed (tell account)) q.span (frontier_of q.span.topic before)) ≤ handed_count s before + capacity
 
     Q : List Answer → Type 0
-    Q before = length (due (commits_of account) (span_of q) (released_frontier q.topic before)) ≤ length (delivered_items s before) + capacity
+    Q before = length (due (commits_of account) q.span (released_frontier q.span.topic before)) ≤ length (delivered_items s before) + capacity
 
     told : (before : List Answer) → Q before → P (tell before)
     told before k =
-        subst (λ (z : List CommitRow). length (due z (span_of q) (frontier_of q.topic (tell before))) ≤ handed_count s (tell before) + capacity) (sym (committed_told account))
-        (subst (λ (z : Stamp). length (due (commits_of account) (span_of q) z) ≤ handed_count s (tell before) + capacity) (sym (frontier_told q.topic before))
-        (subst (λ (n : ℕ). length (due (commits_of account) (span_of q) (released_frontier q.topic before)) ≤ n + capacity) (sym (handed_told s before)) k))
+        subst (λ (z : List CommitRow). length (due z q.span (frontier_of q.span.topic (tell before))) ≤ handed_count s (tell before) + capacity) (sym (committed_told account))
+        (subst (λ (z : Stamp). length (due (commits_of account) q.span z) ≤ handed_count s (tell before) + capacity) (sym (frontier_told q.span.topic before))
+        (subst (λ (n : ℕ). length (due (commits_of account) q.span (released_frontier q.span.topic before)) ≤ n + capacity) (sym (handed_told s before)) k))
 
-queue_told : (capacity s : ℕ) (account : List Answer) (r : Report) (q : QueueReport) → log_in r q.topic ≡ released_log q.topic account
-    → (q.cause ≡ Some Asked → EndsAt q.topic s account) → IsAsAnswered capacity s account r q → IsAsTold capacity s (tell account) q
+queue_told : (capacity s : ℕ) (account : List Answer) (r : Report) (q : QueueReport) → log_in r q.span.topic ≡ released_log q.span.topic account
+    → (q.cause ≡ Some Asked → EndsAt q.span.topic s account) → IsAsAnswered capacity s account r q → IsAsTold capacity s (tell account) q
 queue_told capacity s account r q log asked h = record {
   ended = λ to i. h.told to (end_from s to account i);
   unended = h.unended;
   asked = λ cause. (let e = asked cause in let a = tell_append e.0 (Answer.Unsubscribed s e.2 ∷ e.1) in
-      (a.0, tell e.1, e.2, ap tell e.3 ∙ a.1, e.4 ∙ sym (frontier_told q.topic e.1)));
-  lag = λ cause. (let l = h.lag cause in (l.0, l.1, lag_told capacity s account q l.0 l.2));
+      (a.0, tell e.1, e.2, ap tell e.3 ∙ a.1, e.4 ∙ sym (frontier_told q.span.topic e.1)));
+  lag = λ cause. (let l = h.lag cause in let m = lag_told capacity s account q l.0 l.2 in (l.0, l.1, m.0, m.1, m.2, m.3, m.4));
   exactly_due = h.exactly_due
-      ∙ (ap (λ (z : List LogRow). due (commits_of account) (span_of q) (last_stamp zero_stamp z)) log
-      ∙ (ap (λ (z : List CommitRow). due z (span_of q) (released_frontier q.topic account)) (sym (committed_told account))
-      ∙ ap (due (committed (tell account)) (span_of q)) (sym (frontier_told q.topic account))));
-  handed = sym (take_given q.handed h.handed_prefix.0)
-      ∙ (ap (λ (z : List Item). take (length q.handed) z) (sym h.handed_prefix.1)
-      ∙ ap (λ (n : ℕ). take n q.queued) (ap (λ (z : List Item). length z) h.handed ∙ sym (handed_told s account)));
-  taken = ap (λ (z : List Item). length z) h.handed ∙ sym (handed_told s account);
+      ∙ (ap (λ (z : List LogRow). due (commits_of account) q.span (last_stamp zero_stamp z)) log
+      ∙ (ap (λ (z : List CommitRow). due z q.span (released_frontier q.span.topic account)) (sym (committed_told account))
+      ∙ ap (due (committed (tell account)) q.span) (sym (frontier_told q.span.topic account))));
+  handed = (h.handed_prefix.0, h.handed_prefix.1, ap (λ (z : List Item). length z) h.handed ∙ sym (handed_told s account));
   bounded = bounded_told capacity s account q h.bounded;
 }
+
+-- where each subscription begins, by their numbers
+begun_each : (i : ℕ) (qs : List QueueReport) → reported_begun i qs ≡ map (λ (p : ℕ × QueueReport). (p.0, p.1.span.topic, p.1.span.from)) (enumerate_from i qs)
+begun_each i [] = refl
+begun_each i (q ∷ qs) = ap (λ (z : List (ℕ × Topic × Stamp)). (i, q.span.topic, q.span.from) ∷ z) (begun_each (i + 1) qs)
 
 -- ---- all of it
 
 -- What is delivered by the answers is delivered by what they tell.
 pub delivered_told : (capacity : ℕ) (account : List Answer) (r : Report)
-    → ((s : ℕ) (q : QueueReport) → slice_get r.subscriptions s ≡ Some q → q.cause ≡ Some Asked → EndsAt q.topic s account)
+    → ((s : ℕ) (q : QueueReport) → slice_get r.subscriptions s ≡ Some q → q.cause ≡ Some Asked → EndsAt q.span.topic s account)
     → SilentAfterClose account → DeliversAnswers capacity account r → Delivers capacity (tell account) r
 delivered_told capacity account r asked silent d = record {
   commits = d.commits ∙ ap (map log_row) (sym (committed_told account));
   each_once = subst (λ (z : List CommitRow). EachOnce committed_id stamp_of (agreed z)) (sym (committed_told account)) d.each_once;
   fifo_order = subst (λ (z : List CommitRow). SenderOrder committed_id (agreed z)) (sym (committed_told account)) d.fifo_order;
   logs = λ t. d.logs t ∙ sym (log_told t account);
-  begins = d.begins ∙ sym (begun_told account);
-  queues = λ s q e. queue_told capacity s account r q (d.logs q.topic) (asked s q e) (d.queues s q e);
+  begins = begun_told account ∙ (sym d.begins ∙ begun_each 0 r.subscriptions);
+  queues = λ s q e. queue_told capacity s account r q (d.logs q.span.topic) (asked s q e) (d.queues s q e);
   total_order = d.total_order;
   validity = λ t row settled i named. d.validity t row (settled_from t account settled)
       (subst (λ (z : List CommitRow). In row z) (committed_told account) i) named;

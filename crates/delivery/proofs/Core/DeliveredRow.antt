@@ -2,28 +2,13 @@
 -- that it refuses: of a closed subscription that stays open, of lags that are none, of one that is left out, of Takes that had
 -- no item, and without logs or a queue's item.
 use Rattle.std.proofs.Common.{inl, inr, refl, sym, ap, subst, ◌∙◌, arith, cond}
-use Rattle.std.proofs.lemmas.Bool.{true≢false}
-use Rattle.std.specs.Prelude.{◌≡◌, ℕ, zero, suc, ◌==◌, ◌+◌, ◌≤◌, ◌++◌, Bool, true, false, ◌||◌, length, map, take, slice_get, List, [], ◌∷◌, codes, Option, Some, None}
-use Rattle.mcast_txn.specs.Agreed.{CommitRow, Transaction}
-use Rattle.mcast_txn.specs.Lists.{In}
-use Rattle.mcast_txn.specs.TopicSet.{names}
-use Rattle.mcast_txn.specs.Transaction.{topics_of}
-use Rattle.delivery.specs.Theorem.Settled.{IsSettled, IsResolved}
-use Rattle.mcast_group.specs.declared.cause.Cause.{Cause}
+use Rattle.delivery.proofs.Words.Std.{true≢false, ◌≡◌, ℕ, zero, suc, ◌==◌, ◌+◌, ◌≤◌, ◌++◌, Bool, true, false, ◌||◌, length, map, take, slice_get, List, [], ◌∷◌, codes, Option, Some, None}
+use Rattle.delivery.proofs.Words.Topics.{CommitRow, Transaction, In, names, topics_of, Cause, Stamp, LogRow, Item}
+use Rattle.delivery.proofs.Words.Lemmas.{some_same, none_some}
+use Rattle.delivery.proofs.Words.Machine.{IsSettled, IsResolved, log_row, item_at, is_due, due, Answer, shared_marks, commits_of, delivered_items}
+use Rattle.delivery.proofs.Words.Core.{QueueReport, Report, account_of, released_log, released_frontier, report_of, log_in, Delivers, IsAsAnswered, DeliversAnswers}
 use Rattle.mcast_group.specs.declared.cause.Cause.TheVariants.{Asked, Lag}
-use Rattle.mcast_group.proofs.Parts.{some_same, none_some}
-use Rattle.mcast_txn.specs.declared.stamp.Stamp.{Stamp}
-use Rattle.mcast_txn.specs.Span.{LogRow, Item}
-use Rattle.delivery.specs.Theorem.Due.{log_row, item_at, is_due, due}
-use Rattle.delivery.specs.Machine.Moves.{Answer}
-use Rattle.delivery.specs.Theorem.Laws.{shared_marks}
-use Rattle.delivery.specs.Machine.Runs.{commits_of, delivered_items}
-use Rattle.delivery.specs.Core.Reports.{QueueReport, Report}
-use Rattle.delivery.specs.Core.Account.{account_of, released_log, released_frontier}
-use Rattle.delivery.specs.Core.Reports.{report_of, log_in, span_of}
 use Rattle.delivery.specs.Core.Told.{Told, told_of, committed as committed_rows, frontier_of, handed_count}
-use Rattle.delivery.specs.Core.Delivery.{Delivers}
-use Rattle.delivery.specs.Core.Answered.{IsAsAnswered, DeliversAnswers}
 use Rattle.delivery.proofs.Core.Acts.{topic, stamp, id, made, part, log_row as row, A}
 use Rattle.delivery.proofs.Core.Rows.{ends}
 use Rattle.delivery.proofs.Core.ToldEnds.{no_match, in_ends, silent_at}
@@ -49,7 +34,7 @@ abbrev report : Report
 report = record {
   commits = row 0 1 1 0 (0 ∷ []) ∷ [];
   logs = (row 0 1 1 0 (0 ∷ []) ∷ []) ∷ [];
-  subscriptions = record { topic = topic 0; from = stamp 0 0; to = Some (stamp 1 0); cause = Some Asked; queued = item ∷ []; handed = [] } ∷ [];
+  subscriptions = record { span = record { topic = topic 0; from = stamp 0 0; to = Some (stamp 1 0) }; cause = Some Asked; queued = item ∷ []; handed = [] } ∷ [];
   outs = codes "CONNECTED\nversion:1.2\nheart-beat:0,0\n\n\0RECEIPT\nreceipt-id:bye\n\n\0" ∷ [];
 }
 
@@ -58,7 +43,7 @@ ends_report = refl
 
 -- its one subscription
 abbrev ended : Option Stamp → Option Cause → QueueReport
-ended to cause = record { topic = topic 0; from = stamp 0 0; to = to; cause = cause; queued = item ∷ []; handed = [] }
+ended to cause = record { span = record { topic = topic 0; from = stamp 0 0; to = to }; cause = cause; queued = item ∷ []; handed = [] }
 
 -- the one row that was committed
 abbrev only_row : CommitRow
@@ -91,7 +76,7 @@ as_told = record {
   handed = refl;
   handed_prefix = (item ∷ [], refl);
   bounded = λ later before e.
-      one_due (is_due (span_of (ended (Some (stamp 1 0)) (Some Asked))) (released_frontier (topic 0) before) only_row) (length (delivered_items 0 before));
+      one_due (is_due ((ended (Some (stamp 1 0)) (Some Asked)).span) (released_frontier (topic 0) before) only_row) (length (delivered_items 0 before));
 }
 
 queues_told : (s : ℕ) (q : QueueReport) → slice_get report.subscriptions s ≡ Some q → IsAsAnswered 64 s told report q
@@ -152,9 +137,9 @@ ends_tell : told_of ends.names ends.steps
     ∷ Told.Ticket (id 0 1) (topic 0) ∷ Told.Begun sent ∷ Told.Subscribed 0 0 (topic 0) ∷ []
 ends_tell = refl
 
-asked_at : (s : ℕ) (q : QueueReport) → slice_get report.subscriptions s ≡ Some q → q.cause ≡ Some Asked → EndsAt q.topic s told
+asked_at : (s : ℕ) (q : QueueReport) → slice_get report.subscriptions s ≡ Some q → q.cause ≡ Some Asked → EndsAt q.span.topic s told
 asked_at zero q e cause =
-    subst (λ (z : QueueReport). EndsAt z.topic 0 told) (some_same _ q e) (Answer.Gone 0 ∷ [], before_end, stamp 1 0, refl, refl)
+    subst (λ (z : QueueReport). EndsAt z.span.topic 0 told) (some_same _ q e) (Answer.Gone 0 ∷ [], before_end, stamp 1 0, refl, refl)
 asked_at (suc s) q e cause = none_some q e
 
 delivers : Delivers 64 (told_of ends.names ends.steps) report
@@ -195,13 +180,13 @@ closed_lags capacity d =
 open_lags : (capacity : ℕ) → Delivers capacity while_open (with_end (Some (stamp 7 3)) (Some Lag)) → Prim.⊥
 open_lags capacity d =
     let l = (d.queues 0 (ended (Some (stamp 7 3)) (Some Lag)) refl).lag refl in
-    let n : 7 ≡ 1 = ap (λ (z : Stamp). z.n) (some_same (stamp 7 3) l.0 l.1 ∙ l.2.last) in absurd (omega (arith, n))
+    let n : 7 ≡ 1 = ap (λ (z : Stamp). z.n) (some_same (stamp 7 3) l.0 l.1 ∙ sym (some_same (stamp 1 0) l.0 l.6.last)) in absurd (omega (arith, n))
 
 -- it is reported to have lagged at its last item, where there is room for one more
 lags_with_room : Delivers 2 while_open (with_end (Some (stamp 1 0)) (Some Lag)) → Prim.⊥
 lags_with_room d =
     let l = (d.queues 0 (ended (Some (stamp 1 0)) (Some Lag)) refl).lag refl in
-    let n : 1 ≡ handed_count 0 l.2.before + 2 = l.2.full in absurd (omega (arith, n))
+    let n : 1 ≡ handed_count 0 l.3 + 2 = l.6.full in absurd (omega (arith, n))
 
 -- it is reported to have been asked to end, which nobody asked
 in_it : (xs before : List Told) (to : Stamp) → In (Told.Unsubscribed 0 to) (xs ++ Told.Unsubscribed 0 to ∷ before)
@@ -224,13 +209,12 @@ asked_unasked capacity d =
 -- an item is reported to have been delivered that no Take handed on
 not_handed : (capacity : ℕ) → Delivers capacity while_open (record report { subscriptions = record (ended None None) { handed = item ∷ [] } ∷ [] }) → Prim.⊥
 not_handed capacity d =
-    let h : item ∷ [] ≡ [] = (d.queues 0 (record (ended None None) { handed = item ∷ [] }) refl).handed in
-    let n : 1 ≡ 0 = ap (λ (z : List Item). length z) h in absurd (omega (arith, n))
+    let n : 1 ≡ 0 = (d.queues 0 (record (ended None None) { handed = item ∷ [] }) refl).handed.2 in absurd (omega (arith, n))
 
 -- two Takes are told to have handed an item on, where one was queued
 handed_twice : (capacity : ℕ) → Delivers capacity (Told.Handed 0 ∷ Told.Handed 0 ∷ while_open) (record report { subscriptions = record (ended None None) { handed = item ∷ [] } ∷ [] }) → Prim.⊥
 handed_twice capacity d =
-    let n : 1 ≡ 2 = (d.queues 0 (record (ended None None) { handed = item ∷ [] }) refl).taken in absurd (omega (arith, n))
+    let n : 1 ≡ 2 = (d.queues 0 (record (ended None None) { handed = item ∷ [] }) refl).handed.2 in absurd (omega (arith, n))
 
 -- the row was released, and the report has no log
 no_logs : (capacity : ℕ) → Delivers capacity while_open (record report { logs = []; subscriptions = record (ended None None) { queued = [] } ∷ [] }) → Prim.⊥
@@ -269,7 +253,7 @@ lag_left_out d =
     let n : 2 ≤ 0 + 1 = (d.queues 0 never_lagged refl).bounded (Told.Handed 0 ∷ []) _ refl in absurd (omega (arith, n))
 
 -- it is no other clause that refuses it: its queue is what is due at the end, and within its capacity then
-queued_at_end : never_lagged.queued ≡ due (committed_rows overtaken) (span_of never_lagged) (frontier_of (topic 0) overtaken)
+queued_at_end : never_lagged.queued ≡ due (committed_rows overtaken) never_lagged.span (frontier_of (topic 0) overtaken)
 queued_at_end = refl
 
 waiting_at_end : length never_lagged.queued ≤ length never_lagged.handed + 1

@@ -1,31 +1,11 @@
 -- What every run of the core delivers: the laws of the machine's run, said of the account and of the report.
 use Rattle.std.proofs.Common.{◌≡◌, ℕ, zero, suc, ◌+◌, ◌<◌, ◌≤◌, inl, inr, List, [], ◌∷◌, ◌++◌, map, length, get_or, Option, Some, None, refl, sym, ap, subst, ◌∙◌, arith}
-use Rattle.std.specs.Prelude.{take, slice_get}
-use Rattle.mcast_txn.specs.declared.id.Topic.{Topic}
-use Rattle.mcast_txn.specs.declared.stamp.Stamp.{Stamp}
-use Rattle.mcast_txn.specs.Stamp.{zero_stamp}
-use Rattle.mcast_txn.specs.Agreed.{committed_id, stamp_of, agreed, EachOnce, SenderOrder}
-use Rattle.mcast_txn.specs.Lists.{In}
-use Rattle.mcast_txn.specs.Span.{LogRow, last_stamp}
-use Rattle.mcast_group.specs.declared.cause.Cause.{Cause}
+use Rattle.delivery.proofs.Words.Std.{take, slice_get}
+use Rattle.delivery.proofs.Words.Topics.{Topic, Stamp, zero_stamp, committed_id, stamp_of, agreed, EachOnce, SenderOrder, In, LogRow, last_stamp, Cause, TopicState, EntryEnd, new_topic}
+use Rattle.delivery.proofs.Words.Lemmas.{some_same, none_some}
+use Rattle.delivery.proofs.Words.Machine.{due, log_row, Run, answers_of, final_world, shared_marks, accepted_at, span_at, log_at, frontier_at, entry_to, World, Subscription, no_subscription, subscription_at, entry_at, Answer, commits_of, delivered_items, SilentAfterClose}
+use Rattle.delivery.proofs.Words.Core.{TopicList, CoreStep, beginning_of, Beginning, released_frontier, account_of, Core, core_of, IsCoreRun, QueueReport, Report, report_of, queue_report, each_number, log_in, Delivers, Told, told_of, reported_begun, IsAsAnswered, DeliversAnswers}
 use Rattle.mcast_group.specs.declared.cause.Cause.TheVariants.{Asked, Lag}
-use Rattle.mcast_group.specs.Machine.{TopicState, EntryEnd, new_topic}
-use Rattle.delivery.specs.Topics.{TopicList}
-use Rattle.delivery.specs.Theorem.Due.{due, log_row}
-use Rattle.delivery.specs.Theorem.Laws.{Run, answers_of, final_world, shared_marks}
-use Rattle.delivery.specs.Machine.Observed.{accepted_at, span_at, log_at, frontier_at, entry_to}
-use Rattle.delivery.specs.Machine.World.{World, Subscription, no_subscription, subscription_at, entry_at}
-use Rattle.delivery.specs.Machine.Moves.{Answer}
-use Rattle.delivery.specs.Machine.Runs.{commits_of, delivered_items}
-use Rattle.delivery.specs.Core.Steps.{CoreStep}
-use Rattle.delivery.specs.Core.Account.{beginning_of, Beginning, released_frontier, account_of}
-use Rattle.delivery.specs.Core.State.{Core, core_of}
-use Rattle.delivery.specs.Theorem.Settled.{SilentAfterClose}
-use Rattle.delivery.specs.Core.Outcomes.{IsCoreRun}
-use Rattle.delivery.specs.Core.Reports.{QueueReport, Report, report_of, queue_report, each_number, log_in}
-use Rattle.delivery.specs.Core.Delivery.{reported_begun, Delivers}
-use Rattle.delivery.specs.Core.Told.{Told, told_of}
-use Rattle.delivery.specs.Core.Answered.{IsAsAnswered, DeliversAnswers}
 use Rattle.delivery.proofs.Theorem.AcceptedIsDue.{reached, accepted_is_due, shared_in_one_order, agreed_once, agreed_in_sender_order}
 use Rattle.delivery.proofs.Theorem.LogIsOfAnswers.{log_is_of_outcomes}
 use Rattle.delivery.proofs.Theorem.SettledLeavesNoneOut.{settled_in_log}
@@ -42,7 +22,6 @@ use Rattle.delivery.proofs.Core.ToldEnds.{silent_at}
 use Rattle.delivery.proofs.Core.DeliveredAsTold.{EndsAt, take_given, delivered_told}
 use Rattle.delivery.proofs.Core.AskedAsTold.{asked_said}
 use Rattle.delivery.proofs.Core.ToldOfSteps.{told_is}
-use Rattle.mcast_group.proofs.Parts.{some_same, none_some}
 
 -- ---- numbered lists
 
@@ -176,10 +155,10 @@ delivers_said names r steps = record {
 
 -- a subscription that was asked to end has ended at its topic's frontier then
 asked_told : (names : List (List ℕ)) (r : Run) (steps : List CoreStep) (s : ℕ) (q : QueueReport) → slice_get (report_of (core_at names r steps)).subscriptions s ≡ Some q
-    → q.cause ≡ Some Asked → EndsAt q.topic s (said (answers_of r))
+    → q.cause ≡ Some Asked → EndsAt q.span.topic s (said (answers_of r))
 asked_told names r steps s q e =
     let w = final_world r in let k = each_got (queue_report w) 0 w.subscriptions s q e in
-    subst (λ (z : QueueReport). z.cause ≡ Some Asked → EndsAt z.topic s (said (answers_of r))) (ap (queue_report w) (omega arith) ∙ k.1)
+    subst (λ (z : QueueReport). z.cause ≡ Some Asked → EndsAt z.span.topic s (said (answers_of r))) (ap (queue_report w) (omega arith) ∙ k.1)
     (λ cause. (let left = asked_closed (subscription_at w s).closed (entry_to (entry_at w s)) cause in asked_said r s left.0 left.1 left.2))
 
 -- every run of the core delivers what its account says
@@ -196,9 +175,9 @@ pub delivers_told : (topics : TopicList) (capacity : ℕ) (steps : List CoreStep
 delivers_told topics capacity steps run =
     let r = run_of topics capacity steps in let report = report_of (core_of topics capacity steps) in
     let is = account_is topics capacity steps run in
-    let asked : (s : ℕ) (q : QueueReport) → slice_get report.subscriptions s ≡ Some q → q.cause ≡ Some Asked → EndsAt q.topic s (account_of topics.names steps) =
-    subst (λ (z : List Answer). (s : ℕ) (q : QueueReport) → slice_get report.subscriptions s ≡ Some q → q.cause ≡ Some Asked → EndsAt q.topic s z) (sym is)
-    (subst (λ (k : Core). (s : ℕ) (q : QueueReport) → slice_get (report_of k).subscriptions s ≡ Some q → q.cause ≡ Some Asked → EndsAt q.topic s (said (answers_of r)))
+    let asked : (s : ℕ) (q : QueueReport) → slice_get report.subscriptions s ≡ Some q → q.cause ≡ Some Asked → EndsAt q.span.topic s (account_of topics.names steps) =
+    subst (λ (z : List Answer). (s : ℕ) (q : QueueReport) → slice_get report.subscriptions s ≡ Some q → q.cause ≡ Some Asked → EndsAt q.span.topic s z) (sym is)
+    (subst (λ (k : Core). (s : ℕ) (q : QueueReport) → slice_get (report_of k).subscriptions s ≡ Some q → q.cause ≡ Some Asked → EndsAt q.span.topic s (said (answers_of r)))
     (sym (core_is topics capacity steps)) (asked_told topics.names r steps)) in
     let silent : SilentAfterClose (account_of topics.names steps) = subst SilentAfterClose (sym is) (silent_said (answers_of r) (closed_is_silent r)) in
     subst (λ (z : List Told). Delivers capacity z report) (sym (told_is topics.names steps).0)

@@ -1,12 +1,8 @@
 -- The delivery of every run of the core.
 use Rattle.std.proofs.Common.{◌≡◌, ℕ, ◌<◌, List, [], length, sym, ap, subst, ◌∙◌, arith}
-use Rattle.mcast_group.proofs.Parts.{map_length}
-use Rattle.mcast_group.specs.Machine.{TopicState}
-use Rattle.delivery.specs.Topics.{TopicList}
-use Rattle.delivery.specs.Core.Steps.{CoreStep, names_after}
-use Rattle.delivery.specs.Core.Output.{text_out}
-use Rattle.delivery.specs.Core.State.{Core, core_of, names_at}
-use Rattle.delivery.specs.Core.Reports.{report_of, out_in}
+use Rattle.delivery.proofs.Words.Topics.{TopicState}
+use Rattle.delivery.proofs.Words.Lemmas.{map_length}
+use Rattle.delivery.proofs.Words.Core.{TopicList, CoreStep, names_after, text_out, Core, core_of, names_at, report_of, out_in}
 use Rattle.delivery.specs.Core.Answered.{RunsDeliverAnswers}
 use Rattle.delivery.specs.Core.Delivery.{RunsDeliver}
 use Rattle.delivery.proofs.Core.AccountOfRun.{run_of, core_at, core_is}

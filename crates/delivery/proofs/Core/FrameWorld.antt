@@ -1,15 +1,10 @@
 -- The world in which a frame's destination has its topic: but for that topic it is the world of before.
 use Rattle.std.proofs.Common.{◌≡◌, ℕ, Bool, true, false, cond, not, ◌&&◌, List, [], ◌∷◌, ◌++◌, length, None, refl, ap}
-use Rattle.std.specs.Prelude.{codes}
-use Rattle.mcast_txn.specs.Checks.{first_refusal}
-use Rattle.mcast_group.specs.Machine.{new_topic}
-use Rattle.stomp_frame.specs.declared.raw_frame.RawFrame.{RawFrame}
-use Rattle.stomp_session.specs.Frames.{field, has_destination}
-use Rattle.stomp_session.specs.Names.{is_known}
-use Rattle.delivery.specs.Machine.World.{World}
-use Rattle.delivery.specs.Machine.Moves.{Move, needs_idle}
-use Rattle.delivery.specs.Machine.Runs.{run}
-use Rattle.delivery.specs.Core.State.{Core, core_for, names_at, topic_moves}
+use Rattle.delivery.proofs.Words.Std.{codes}
+use Rattle.delivery.proofs.Words.Topics.{first_refusal, new_topic}
+use Rattle.delivery.proofs.Words.Frames.{RawFrame, field, has_destination, is_known}
+use Rattle.delivery.proofs.Words.Machine.{World, Move, needs_idle, run}
+use Rattle.delivery.proofs.Words.Core.{Core, core_for, names_at, topic_moves}
 
 -- the world with one more topic
 abbrev pub with_topic : World → World

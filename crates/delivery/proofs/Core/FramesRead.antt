@@ -1,30 +1,18 @@
 -- What a run read of a connection are the first frames of its octets, by the grammar.
 use Rattle.std.proofs.Common.{◌≡◌, ℕ, ◌<◌, ◌==◌, Bool, true, false, cond, ◌&&◌, ◌⊎◌, inl, inr, true≢false, List, [], ◌∷◌, ◌++◌, length, Option, Some, None, refl, sym, ap, subst, ◌∙◌, append_assoc, append-nil, arith}
-use Rattle.std.proofs.lemmas.Bool.{eqb-true, ltb-true, false≢true, or_parts, not-false}
-use Rattle.std.specs.Option.{option_map_or, option_to_list, option_or}
-use Rattle.stomp_frame.specs.declared.limits.Limits.{Limits}
-use Rattle.stomp_frame.specs.declared.raw_frame.RawFrame.{RawFrame}
-use Rattle.stomp_frame.specs.declared.fault.Check.{Check}
+use Rattle.delivery.proofs.Words.Std.{eqb-true, ltb-true, false≢true, or_parts, not-false, option_map_or, option_to_list, option_or}
+use Rattle.delivery.proofs.Words.Topics.{first_refusal, In}
+use Rattle.delivery.proofs.Words.Frames.{Limits, RawFrame, Check, Unread, with_piece}
+use Rattle.delivery.proofs.Words.Lemmas.{at_set_within, passes}
+use Rattle.delivery.proofs.Words.Machine.{Objection, refusal_of, World, Connection, Standing, is_reading, nobody, connection_at, Move, needs_open, needs_idle, run}
+use Rattle.delivery.proofs.Words.Core.{TopicList, Event, Outcome, ConnectionFault, CoreStep, Reading, frame_in, is_fed, is_next, fed_octets, frames_of, reader_limits, BeginsWithFrames, Core, core_of, moves, unread_after, unread_at, IsReadBy, unless, fault_outcomes, reading_outcomes, outcomes, IsReadAt, IsCoreRun}
 use Rattle.stomp_frame.specs.Grammar.{AreEols, BeginsWith}
-use Rattle.stomp_frame.specs.Reader.{Unread, with_piece}
 use Rattle.stomp_frame.proofs.Pieces.{eols_before}
 use Rattle.stomp_frame.proofs.Whole.{keeps_first_frame}
-use Rattle.mcast_txn.specs.Checks.{first_refusal}
-use Rattle.mcast_txn.specs.Lists.{In}
-use Rattle.delivery.specs.Topics.{TopicList}
-use Rattle.delivery.specs.declared.event.Event.{Event}
-use Rattle.delivery.specs.declared.outcome.Outcome.{Outcome}
-use Rattle.delivery.specs.declared.connection_fault.ConnectionFault.{ConnectionFault}
-use Rattle.delivery.specs.Machine.Objections.{Objection, refusal_of}
-use Rattle.delivery.specs.Machine.World.{World, Connection, Standing, is_reading, nobody, connection_at}
-use Rattle.delivery.specs.Machine.Moves.{Move, needs_open, needs_idle}
 use Rattle.delivery.specs.Machine.Moves.Move.{Errs}
-use Rattle.delivery.specs.Machine.Runs.{run}
-use Rattle.delivery.specs.Core.Steps.{CoreStep, Reading, frame_in, is_fed, is_next, fed_to, fed_octets, frames_of, reader_limits, BeginsWithFrames, AreReadings}
-use Rattle.delivery.specs.Core.State.{Core, core_of, moves, left_by, unread_after, unread_at, IsReadBy}
-use Rattle.delivery.specs.Core.Outcomes.{unless, fault_outcomes, reading_outcomes, outcomes, IsReadAt, IsCoreRun}
-use Rattle.mcast_txn.proofs.Members.{at_set_within}
-use Rattle.mcast_txn.proofs.CheckLemmas.{passes}
+use Rattle.delivery.proofs.Core.ShownReadings.{shown_each}
+use Rattle.delivery.specs.Core.Steps.{fed_to, AreReadings}
+use Rattle.delivery.specs.Core.State.{left_by}
 use Rattle.delivery.proofs.Machine.SubscriptionSteps.{set_length}
 use Rattle.delivery.proofs.Machine.Effects.{made_world}
 use Rattle.delivery.proofs.Core.AccountOfRun.{in_option, refusal_some}
@@ -250,7 +238,7 @@ reads_all topics capacity (step ∷ older) is_run c =
 -- what a run read are the first frames of each connection's octets, and each step shows it
 pub are_readings : (topics : TopicList) (capacity : ℕ) (steps : List CoreStep) → IsCoreRun topics capacity steps → AreReadings steps
 are_readings topics capacity steps is_run = record {
-  shown = all_shown topics capacity steps is_run;
+  shown = shown_each steps (all_shown topics capacity steps is_run);
   first = λ c. (let h = subst (λ z. Reads (fed_octets c z) (frames_of c z) (unread_at c z) (IsShut (core_of topics capacity steps).world c)) (core_steps topics capacity steps) (reads_all topics capacity steps is_run c) in elim h.1 [
     | inl j ↦ front_begins reader_limits (fed_octets c steps) (frames_of c steps) (unread_at c steps).text j.1
     | inr j ↦ j.1

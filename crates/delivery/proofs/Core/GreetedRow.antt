@@ -1,29 +1,18 @@
 -- One run with all that is asked of it, so that neither a run of the core nor its delivery is asked in vain: a connection is
 -- opened, fed a CONNECT, and greeted.
 use Rattle.std.proofs.Common.{inl, refl, arith}
-use Rattle.std.specs.Prelude.{◌≡◌, ℕ, zero, suc, ◌==◌, ◌<◌, ◌++◌, Bool, true, false, if◌then◌else◌, List, [], ◌∷◌, codes, Ok}
+use Rattle.delivery.proofs.Words.Std.{◌≡◌, ℕ, zero, suc, ◌==◌, ◌<◌, ◌++◌, Bool, true, false, if◌then◌else◌, List, [], ◌∷◌, codes, Ok}
+use Rattle.delivery.proofs.Words.Topics.{CommitRow, In}
+use Rattle.delivery.proofs.Words.Frames.{unread_of}
+use Rattle.delivery.proofs.Words.Lemmas.{none_some}
+use Rattle.delivery.proofs.Words.Machine.{log_row, Answer}
+use Rattle.delivery.proofs.Words.Core.{Event, Outcome, TopicList, CoreStep, Reading, reader_limits, fed_octets, frames_of, BeginsWithFrames, released_log, account_of, text_out, core_of, IsCoreRun, Report, report_of, log_in, out_in, Delivery, DeliversAnswers}
 use Rattle.std.specs.Str.{is_utf8, chars}
 use Rattle.std.specs.Char.{encode_utf8}
 use Rattle.stomp_escape.specs.Inner.Unescaping.{unescaped_from}
 use Rattle.stomp_frame.specs.Inner.Parser.{checked, line_at, after_eols, command_of, field_of, header_of, headers_at, counted_at, uncounted_at, body_at, frame_at}
-use Rattle.stomp_frame.specs.Reader.{unread_of}
 use Rattle.stomp_frame.proofs.Whole.{begins}
-use Rattle.mcast_txn.specs.Agreed.{CommitRow}
-use Rattle.mcast_txn.specs.Lists.{In}
-use Rattle.delivery.specs.declared.event.Event.{Event}
-use Rattle.delivery.specs.declared.outcome.Outcome.{Outcome}
-use Rattle.delivery.specs.Topics.{TopicList}
-use Rattle.delivery.specs.Theorem.Due.{log_row}
-use Rattle.delivery.specs.Machine.Moves.{Answer}
-use Rattle.delivery.specs.Core.Steps.{CoreStep, Reading, reader_limits, fed_octets, frames_of, BeginsWithFrames}
-use Rattle.delivery.specs.Core.Account.{released_log, account_of}
-use Rattle.delivery.specs.Core.Output.{text_out}
-use Rattle.delivery.specs.Core.State.{core_of}
-use Rattle.delivery.specs.Core.Outcomes.{IsCoreRun}
-use Rattle.delivery.specs.Core.Reports.{Report, report_of, log_in, out_in}
-use Rattle.delivery.specs.Core.Delivery.{Delivery}
-use Rattle.delivery.specs.Core.Answered.{DeliversAnswers}
-use Rattle.mcast_group.proofs.Parts.{none_some}
+use Rattle.delivery.proofs.Core.ShownReadings.{shown_each}
 use Rattle.delivery.proofs.Core.Acts.{topic, topic_list, connect, A}
 use Rattle.delivery.proofs.Core.ToldEnds.{silent_at}
 use Rattle.delivery.proofs.Core.DeliveredAsTold.{delivered_told}
@@ -102,7 +91,7 @@ by_answers = record {
 
 is_delivered : Delivery topics 64 steps report
 is_delivered = record {
-  read = record { shown = refl; first = first };
+  read = record { shown = shown_each steps refl; first = first };
   delivered = delivered_told 64 (Answer.Opened 0 ∷ []) report (λ s q e cause. none_some q e) tt by_answers;
   written = record {
     output = outs;

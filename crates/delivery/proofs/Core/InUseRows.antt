@@ -1,14 +1,11 @@
 -- A client-id is in use until its connection is gone: after its DISCONNECT, an ERROR or its loss no senders among which its gate
 -- is back are those of the core. So a core that gives the gate back then makes no step that its contract allows.
 use Rattle.std.proofs.Common.{refl, sym, ap, ◌∙◌}
-use Rattle.std.specs.Prelude.{◌≡◌, [], ◌∷◌, Option, Some, None, codes}
-use Rattle.mcast_group.proofs.Parts.{some_same, none_some}
-use Rattle.sender_gate.specs.Gate.{GateState}
-use Rattle.sender_gate.specs.Senders.{KeptSender, SendersState, find_kept}
-use Rattle.delivery.specs.declared.event.Event.{Event}
-use Rattle.delivery.specs.Core.Claims.{claims_of}
-use Rattle.delivery.specs.Core.State.{Core}
-use Rattle.delivery.specs.Inner.Clients.{AreClients, kept_entry}
+use Rattle.delivery.proofs.Words.Std.{◌≡◌, [], ◌∷◌, Option, Some, None, codes}
+use Rattle.delivery.proofs.Words.Topics.{GateState, KeptSender, SendersState, find_kept}
+use Rattle.delivery.proofs.Words.Lemmas.{some_same, none_some}
+use Rattle.delivery.proofs.Words.Core.{Event, claims_of, Core}
+use Rattle.delivery.proofs.Words.Views.{AreClients, kept_entry}
 use Rattle.delivery.proofs.Core.Acts.{act, reads, played, commit, disconnect}
 use Rattle.delivery.proofs.Core.ClaimRows.{nine, opens_as, p}
 

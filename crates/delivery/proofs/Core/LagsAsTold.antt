@@ -1,31 +1,14 @@
 -- A span that lagged ends at the last item of its queue, which was full as a row came that its topic's log has above the end.
 use Rattle.std.proofs.Common.{◌≡◌, ℕ, ◌+◌, ◌<◌, ◌⊎◌, Bool, true, false, not, inl, inr, List, [], ◌∷◌, ◌++◌, length, Option, Some, None, refl, sym, ap, subst, ◌∙◌, arith, append-nil}
-use Rattle.std.proofs.lemmas.Bool.{true≢false, not-true, and_parts, and_from, cases_lt}
-use Rattle.std.specs.Option.{option_map}
-use Rattle.mcast_txn.specs.declared.id.Topic.{Topic}
-use Rattle.mcast_txn.specs.declared.stamp.Stamp.{Stamp}
-use Rattle.mcast_txn.specs.Lists.{In, Rises}
-use Rattle.mcast_txn.specs.Span.{LogRow, Item, last_stamp, row_stamp, item_stamp, up_to}
-use Rattle.mcast_txn.specs.Stamp.{zero_stamp, stamp_lt}
-use Rattle.mcast_txn.proofs.Members.{In-append_left, In-append_right}
-use Rattle.mcast_txn.proofs.Orders.{lt_irrefl, lt_asym, lt_le, le_trans, same_stamps, zero_least}
+use Rattle.delivery.proofs.Words.Std.{true≢false, not-true, and_parts, and_from, cases_lt, option_map}
+use Rattle.delivery.proofs.Words.Topics.{Topic, Stamp, In, Rises, LogRow, Item, last_stamp, row_stamp, item_stamp, up_to, zero_stamp, stamp_lt, Cause, EntryEnd, IsQueueOf}
+use Rattle.delivery.proofs.Words.Lemmas.{In-append_left, In-append_right, lt_irrefl, lt_asym, lt_le, le_trans, same_stamps, zero_least, some_same, none_some}
+use Rattle.delivery.proofs.Words.Machine.{World, subscription_at, entry_at, accepted_at, end_at, log_at, frontier_at, entry_to, Move, Answer, world_after, answer_to, delivered_items, Run, answers_of, final_world, EndsBeforeRow, cause_of}
+use Rattle.delivery.proofs.Words.Core.{released_frontier, QueueReport, queue_report, last_queued, LagsAsAnswered}
 use Rattle.mcast_txn.proofs.Sorting.{Rises-back, Rises-front}
-use Rattle.mcast_group.specs.declared.cause.Cause.{Cause}
 use Rattle.mcast_group.specs.declared.cause.Cause.TheVariants.{Asked, Lag}
-use Rattle.mcast_group.specs.Machine.{EntryEnd}
-use Rattle.mcast_group.specs.Sound.{IsQueueOf}
-use Rattle.mcast_group.proofs.Parts.{some_same, none_some}
-use Rattle.delivery.specs.Machine.World.{World, subscription_at, entry_at}
-use Rattle.delivery.specs.Machine.Observed.{accepted_at, end_at, log_at, frontier_at, entry_to}
-use Rattle.delivery.specs.Machine.Moves.{Move, Answer, world_after, answer_to}
 use Rattle.delivery.specs.Machine.Moves.Answer.{Unsubscribed}
-use Rattle.delivery.specs.Machine.Runs.{delivered_items}
-use Rattle.delivery.specs.Theorem.Laws.{Run, answers_of, final_world}
-use Rattle.delivery.specs.Theorem.Spans.{EndsBeforeRow, cause_of}
-use Rattle.delivery.specs.Core.Account.{released_frontier}
-use Rattle.delivery.specs.Core.Reports.{QueueReport, queue_report, cause_at}
-use Rattle.delivery.specs.Core.Delivery.{last_queued}
-use Rattle.delivery.specs.Core.Answered.{LagsAsAnswered}
+use Rattle.delivery.specs.Core.Reports.{cause_at}
 use Rattle.delivery.proofs.Machine.Invariant.{topic_in}
 use Rattle.delivery.proofs.Machine.InvariantIsKept.{tickets, step_reached}
 use Rattle.delivery.proofs.Machine.SpanSteps.{step_tells}
@@ -163,14 +146,14 @@ lagged_before r e s end (Some left) c d cause =
 -- ---- a step
 
 -- a lag is told of a subscription with the same topic, beginning and queue, and of a longer account
-lag_stays : (capacity more s : ℕ) (o : Answer) (past : List Answer) (q p : QueueReport) (end : Stamp) → more ≡ capacity → p.topic ≡ q.topic → p.from ≡ q.from → p.queued ≡ q.queued
+lag_stays : (capacity more s : ℕ) (o : Answer) (past : List Answer) (q p : QueueReport) (end : Stamp) → more ≡ capacity → p.span.topic ≡ q.span.topic → p.span.from ≡ q.span.from → p.queued ≡ q.queued
     → LagsAsAnswered capacity s past q end → LagsAsAnswered more s (o ∷ past) p end
 lag_stays capacity more s o past q p end same topic from items h = record {
   later = o ∷ h.later;
   by = h.by;
   before = h.before;
   account_is = ap (λ z. o ∷ z) h.account_is;
-  last = h.last ∙ (ap (λ z. last_queued z q.queued) (sym from) ∙ ap (λ z. last_queued p.from z) (sym items));
+  last = h.last ∙ (ap (λ z. last_queued z q.queued) (sym from) ∙ ap (λ z. last_queued p.span.from z) (sym items));
   reached = subst (λ (t : Topic). stamp_lt end (released_frontier t h.before) ≡ false) (sym topic) h.reached;
   passed = subst (λ (t : Topic). stamp_lt end (released_frontier t (h.by ∷ h.before)) ≡ true) (sym topic) h.passed;
   full = ap (λ (xs : List Item). length xs) items ∙ (h.full ∙ ap (λ n. length (delivered_items s h.before) + n) (sym same));
@@ -266,11 +249,11 @@ lags_are =
 lag_said : (capacity s : ℕ) (past : List Answer) (q : QueueReport) (end : Stamp) → LagsAsAnswered capacity s past q end → LagsAsAnswered capacity s (said past) q end
 lag_said capacity s past q end h = by_case (is_said h.by) refl
   where
-    reached : stamp_lt end (released_frontier q.topic (said h.before)) ≡ false
-    reached = subst (λ z. stamp_lt end z ≡ false) (sym (released_frontier_said q.topic h.before)) h.reached
+    reached : stamp_lt end (released_frontier q.span.topic (said h.before)) ≡ false
+    reached = subst (λ z. stamp_lt end z ≡ false) (sym (released_frontier_said q.span.topic h.before)) h.reached
 
-    passed : stamp_lt end (released_frontier q.topic (said (h.by ∷ h.before))) ≡ true
-    passed = subst (λ z. stamp_lt end z ≡ true) (sym (released_frontier_said q.topic (h.by ∷ h.before))) h.passed
+    passed : stamp_lt end (released_frontier q.span.topic (said (h.by ∷ h.before))) ≡ true
+    passed = subst (λ z. stamp_lt end z ≡ true) (sym (released_frontier_said q.span.topic (h.by ∷ h.before))) h.passed
 
     by_case : (b : Bool) → is_said h.by ≡ b → LagsAsAnswered capacity s (said past) q end
     by_case true e = record {
@@ -280,11 +263,11 @@ lag_said capacity s past q end h = by_case (is_said h.by) refl
       account_is = ap said h.account_is ∙ (said_append h.later (h.by ∷ h.before) ∙ ap (λ z. said h.later ++ z) (said_kept h.by h.before e));
       last = h.last;
       reached = reached;
-      passed = subst (λ z. stamp_lt end (released_frontier q.topic z) ≡ true) (said_kept h.by h.before e) passed;
+      passed = subst (λ z. stamp_lt end (released_frontier q.span.topic z) ≡ true) (said_kept h.by h.before e) passed;
       full = h.full ∙ ap (λ (xs : List Item). length xs + capacity) (sym (delivered_said s h.before));
     }
     by_case false e =
-        absurd (true≢false (sym (subst (λ z. stamp_lt end (released_frontier q.topic z) ≡ true) (unsaid_same h.by h.before e) passed) ∙ reached))
+        absurd (true≢false (sym (subst (λ z. stamp_lt end (released_frontier q.span.topic z) ≡ true) (unsaid_same h.by h.before e) passed) ∙ reached))
 
 -- after each run, a span that has lagged ends so by the account
 pub lag_as_told : (r : Run) (s : ℕ) (end : Stamp) → cause_at (final_world r) s ≡ Some Lag → end_at (final_world r) s ≡ Some end

@@ -1,9 +1,8 @@
 -- What holds at each moment of a run: of all that was answered or told, and of what was before each part of it.
 use Rattle.std.proofs.Common.{◌≡◌, Bool, true, false, List, [], ◌∷◌, ◌++◌, refl, sym, ap, subst}
-use Rattle.delivery.specs.Machine.Moves.{Answer}
-use Rattle.delivery.specs.Machine.Runs.{txn_of_id}
-use Rattle.mcast_txn.specs.Agreed.{Transaction}
-use Rattle.delivery.specs.Core.Told.{Told}
+use Rattle.delivery.proofs.Words.Topics.{Transaction}
+use Rattle.delivery.proofs.Words.Machine.{Answer, txn_of_id}
+use Rattle.delivery.proofs.Words.Core.{Told}
 use Rattle.delivery.proofs.Core.Said.{said, is_said}
 use Rattle.delivery.proofs.Core.SaidParts.{said_kept, unsaid_same}
 use Rattle.delivery.proofs.Core.Tells.{tell}

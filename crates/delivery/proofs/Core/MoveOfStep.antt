@@ -1,40 +1,17 @@
 -- Which move of the machine a step of the core is.
 use Rattle.std.proofs.Common.{◌≡◌, ℕ, Bool, true, false, cond, not, ◌&&◌, ◌⊎◌, inl, inr, List, [], ◌∷◌, ◌++◌, length, Option, Some, None, refl, sym, ap, subst, ◌∙◌}
-use Rattle.std.specs.Prelude.{codes}
-use Rattle.std.specs.Option.{option_map_or, option_and_then, option_to_list}
-use Rattle.stomp_frame.specs.declared.raw_frame.RawFrame.{RawFrame}
-use Rattle.stomp_frame.specs.Cases.{case_fault}
-use Rattle.stomp_frame.specs.Reader.{Unread}
-use Rattle.mcast_txn.specs.declared.id.Topic.{Topic}
-use Rattle.mcast_txn.specs.declared.draft.sent_message.SentMessage.{SentMessage}
-use Rattle.mcast_txn.specs.Checks.{first_refusal}
-use Rattle.mcast_txn.specs.Lists.{In}
-use Rattle.mcast_group.proofs.Parts.{some_same}
-use Rattle.stomp_session.specs.declared.action.Action.{Action}
+use Rattle.delivery.proofs.Words.Std.{codes, option_map_or, option_and_then, option_to_list}
+use Rattle.delivery.proofs.Words.Topics.{Topic, SentMessage, first_refusal, In}
+use Rattle.delivery.proofs.Words.Frames.{RawFrame, case_fault, Unread, Action, action_by, is_known, field, has_destination, session_fault}
+use Rattle.delivery.proofs.Words.Lemmas.{some_same}
+use Rattle.delivery.proofs.Words.Machine.{Objection, refusal_of, World, topic_at, Move, Answer, needs_open, needs_idle, move_refusal, answer_to, world_after, commit_answer, end_now, run, move_topic}
+use Rattle.delivery.proofs.Words.Core.{Event, Outcome, ConnectionFault, Reading, number_by, has_effect, is_cut, Core, core_for, names_at, session_at, frame_move, is_faulted, is_no_memory, is_out_of_memory, moves, unread_at, outcome_of, move_outcome, unless, frame_no_memory, frame_fault, fault_outcomes, frame_outcome, reading_outcomes, cut_of, outcomes, accepted_outcomes, is_any, wants_memory, claim_fault, event_topic, claims_of, claimed_sender}
 use Rattle.stomp_session.specs.declared.action.Action.TheVariants as actions
-use Rattle.stomp_session.specs.Answers.{action_by}
-use Rattle.stomp_session.specs.Names.{is_known}
-use Rattle.stomp_session.specs.Frames.{field, has_destination}
-use Rattle.stomp_session.specs.Refusals.{session_fault}
-use Rattle.delivery.specs.declared.event.Event.{Event}
-use Rattle.delivery.specs.declared.outcome.Outcome.{Outcome}
-use Rattle.delivery.specs.declared.connection_fault.ConnectionFault.{ConnectionFault}
-use Rattle.delivery.specs.Machine.Objections.{Objection, refusal_of}
-use Rattle.delivery.specs.Machine.World.{World, topic_at}
-use Rattle.delivery.specs.Machine.Moves.{Move, Answer, needs_open, needs_idle, move_refusal, answer_to, world_after, commit_answer, end_now}
 use Rattle.delivery.specs.Machine.Moves.Move.{AddsTopic, Opens, Connects, Commits, Subscribes, Unsubscribes, Disconnects, Errs, Lost, Leaves, Proposes, Decides, Withdraws, Cancels, Learns, Releases, Turns, Takes}
-use Rattle.delivery.specs.Machine.Runs.{run}
-use Rattle.delivery.specs.Theorem.Laws.{move_topic}
-use Rattle.delivery.specs.Core.Steps.{Reading, number_by, has_effect}
-use Rattle.delivery.specs.Core.Output.{is_cut}
-use Rattle.delivery.specs.Core.State.{Core, core_for, names_at, session_at, frame_move, is_faulted, is_no_memory, is_out_of_memory, moves, unread_at}
-use Rattle.delivery.specs.Core.Outcomes.{outcome_of, move_outcome, unless, frame_no_memory, frame_fault, fault_outcomes, frame_outcome, reading_outcomes, cut_of, outcomes, accepted_outcomes, is_any, wants_memory, claim_fault}
-use Rattle.delivery.specs.Core.Stepped.{event_topic}
 use Rattle.delivery.proofs.Machine.Effects.{same_world}
 use Rattle.delivery.proofs.Machine.SenderSteps.{In-append_cases}
 use Rattle.delivery.proofs.Core.AccountOfRun.{in_option, refusal_some, replied, same_memory, was_wanted}
 use Rattle.delivery.proofs.Core.ReadingsShown.{effect_of}
-use Rattle.delivery.specs.Core.Claims.{claims_of, claimed_sender}
 use Rattle.delivery.proofs.Core.ClaimsStand.{unobjected}
 
 -- ---- the moves of an event

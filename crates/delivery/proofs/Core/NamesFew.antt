@@ -1,32 +1,13 @@
 -- There are never more topics than there may be.
 use Rattle.std.proofs.Common.{◌≡◌, ℕ, ◌<◌, ◌≤◌, Bool, true, false, cond, not, ◌&&◌, inl, inr, List, [], ◌∷◌, ◌++◌, length, Option, Some, None, refl, sym, ap, subst, ◌∙◌, arith}
-use Rattle.std.specs.Prelude.{codes, nat_lt}
-use Rattle.std.specs.Option.{option_map, option_map_or, option_or}
-use Rattle.std.proofs.lemmas.Bool.{false≢true, true≢false, ltb-true}
-use Rattle.std.proofs.lemmas.List.{length-append}
-use Rattle.stomp_frame.specs.declared.case_fault.CaseFault.{CaseFault}
-use Rattle.stomp_frame.specs.declared.command.Command.{Command}
+use Rattle.delivery.proofs.Words.Std.{codes, nat_lt, option_map, option_map_or, option_or, false≢true, true≢false, ltb-true, length-append}
+use Rattle.delivery.proofs.Words.Topics.{first_refusal, In}
+use Rattle.delivery.proofs.Words.Frames.{CaseFault, Command, RawFrame, case_fault, Unread, SessionFault, field, has_destination, id_of, with_destination, is_known, max_topics, Held, is_closed, is_new, is_open, open_refusals, session_fault}
+use Rattle.delivery.proofs.Words.Machine.{Objection, refusal_of, needs_idle}
+use Rattle.delivery.proofs.Words.Core.{TopicList, ConnectionFault, Event, Outcome, CoreStep, Reading, frame_in, has_effect, names_after, Core, core_of, names_at, session_at, IsCoreRun, IsReadAt, accepted_outcomes, fault_outcomes, frame_fault, outcomes, reading_outcomes, unless}
 use Rattle.stomp_frame.specs.declared.command.Command.TheVariants as commands
-use Rattle.stomp_frame.specs.declared.raw_frame.RawFrame.{RawFrame}
-use Rattle.stomp_frame.specs.Cases.{case_fault}
-use Rattle.stomp_frame.specs.Reader.{Unread}
-use Rattle.mcast_txn.specs.Checks.{first_refusal}
-use Rattle.mcast_txn.specs.Lists.{In}
-use Rattle.stomp_session.specs.declared.fault.SessionFault.{SessionFault}
 use Rattle.stomp_session.specs.declared.fault.SessionFault.TheVariants as faults
-use Rattle.stomp_session.specs.Frames.{field, has_destination, id_of, with_destination}
-use Rattle.stomp_session.specs.Names.{is_known, max_topics}
-use Rattle.stomp_session.specs.Open.{Held}
-use Rattle.stomp_session.specs.Refusals.{has_bad_destination, has_one_topic_too_many, has_other_ack, is_closed, is_full, is_in_full_transaction, is_in_no_transaction, is_new, is_open, open_refusals, session_fault}
-use Rattle.delivery.specs.Topics.{TopicList}
-use Rattle.delivery.specs.declared.connection_fault.ConnectionFault.{ConnectionFault}
-use Rattle.delivery.specs.declared.event.Event.{Event}
-use Rattle.delivery.specs.declared.outcome.Outcome.{Outcome}
-use Rattle.delivery.specs.Machine.Objections.{Objection, refusal_of}
-use Rattle.delivery.specs.Machine.Moves.{needs_idle}
-use Rattle.delivery.specs.Core.Steps.{CoreStep, Reading, frame_in, has_effect, names_after}
-use Rattle.delivery.specs.Core.State.{Core, core_of, names_at, session_at}
-use Rattle.delivery.specs.Core.Outcomes.{IsCoreRun, IsReadAt, accepted_outcomes, fault_outcomes, frame_fault, outcomes, reading_outcomes, unless}
+use Rattle.stomp_session.specs.Refusals.{has_bad_destination, has_one_topic_too_many, has_other_ack, is_full, is_in_full_transaction, is_in_no_transaction}
 use Rattle.delivery.proofs.Core.AccountOfRun.{core_is, in_option, refusal_some}
 
 -- ---- a frame that its session accepts

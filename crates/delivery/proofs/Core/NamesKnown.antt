@@ -1,15 +1,12 @@
 -- The destination of each accepted frame is one of the names so far.
 use Rattle.std.proofs.Common.{◌≡◌, ℕ, Bool, true, false, cond, inl, inr, List, [], ◌∷◌, ◌++◌, length, Option, Some, None, sym, ap, subst, ◌∙◌, append_assoc}
-use Rattle.std.specs.Prelude.{take}
-use Rattle.std.proofs.Math.Seq.{take-append_seam}
-use Rattle.std.specs.Option.{option_map_or, option_to_list}
-use Rattle.std.proofs.lemmas.List.{append-nil}
-use Rattle.stomp_frame.specs.declared.raw_frame.RawFrame.{RawFrame}
-use Rattle.mcast_txn.specs.Lists.{In}
-use Rattle.stomp_session.specs.Frames.{with_destination}
-use Rattle.stomp_session.specs.Open.{IsKnownTo, held_after, state_of, subscriptions_left}
-use Rattle.stomp_session.proofs.Later.{Grown, SameTopic, state-later, subscriptions_left-same, topic-later, topic-with_destination, is_known_to-later, known-with_destination, with_destination-grows}
-use Rattle.delivery.specs.Core.Steps.{CoreStep, accepted_of, frame_in, frame_from, has_effect, is_next, names_after, names_with}
+use Rattle.delivery.proofs.Words.Std.{take, take-append_seam, option_map_or, option_to_list, append-nil}
+use Rattle.delivery.proofs.Words.Topics.{In}
+use Rattle.delivery.proofs.Words.Frames.{RawFrame, with_destination, IsKnownTo, held_after, state_of, subscriptions_left}
+use Rattle.delivery.proofs.Words.Lemmas.{state-later, topic-with_destination, known-with_destination, with_destination-grows}
+use Rattle.delivery.proofs.Words.Core.{CoreStep, accepted_of, frame_in, frame_from, has_effect, is_next, names_after}
+use Rattle.stomp_session.proofs.Later.{Grown, SameTopic, subscriptions_left-same, topic-later, is_known_to-later}
+use Rattle.delivery.specs.Core.Steps.{names_with}
 use Rattle.delivery.proofs.Machine.SenderSteps.{In-append_cases}
 
 -- with the destination of a frame, if there is one, the names have grown

@@ -1,25 +1,13 @@
 -- The item that is handed on is the next that is due, as the account counts.
 use Rattle.std.proofs.Common.{◌≡◌, ℕ, zero, suc, ◌<◌, Bool, true, false, cond, not, ◌&&◌, List, [], ◌∷◌, map, length, Option, Some, None, refl, sym, ap, subst, ◌∙◌}
-use Rattle.std.proofs.lemmas.List.{take-map}
-use Rattle.std.proofs.lemmas.Option.{get_or_from_slice_get}
-use Rattle.std.specs.Prelude.{take, slice_get}
+use Rattle.delivery.proofs.Words.Std.{take-map, get_or_from_slice_get, take, slice_get}
+use Rattle.delivery.proofs.Words.Topics.{Topic, Stamp, stamp_lt, CommitRow, agreed, stamp_of, Rises, Item, topics_of}
+use Rattle.delivery.proofs.Words.Lemmas.{Rises-sorted, none_some}
+use Rattle.delivery.proofs.Words.Machine.{due, is_due, item_at, Run, answers_of, final_world, accepted_at, end_at, frontier_at, subscription_at, commits_of, delivered_items}
+use Rattle.delivery.proofs.Words.Core.{Beginning, no_item, beginning_of, next_item, released_frontier}
 use Rattle.std.specs.List.{filter}
-use Rattle.mcast_txn.specs.declared.id.Topic.{Topic}
-use Rattle.mcast_txn.specs.declared.stamp.Stamp.{Stamp}
-use Rattle.mcast_txn.specs.Stamp.{stamp_lt}
-use Rattle.mcast_txn.specs.Agreed.{CommitRow, agreed, stamp_of}
-use Rattle.mcast_txn.specs.Lists.{Rises}
-use Rattle.mcast_txn.specs.Span.{Item}
-use Rattle.mcast_txn.specs.Transaction.{topics_of}
 use Rattle.mcast_txn.specs.TopicSet.{names as names_topic}
-use Rattle.mcast_txn.proofs.Sorting.{Rises-sorted}
-use Rattle.mcast_group.proofs.Parts.{none_some}
-use Rattle.delivery.specs.Theorem.Due.{due, is_due, item_at}
-use Rattle.delivery.specs.Theorem.Laws.{Run, answers_of, final_world}
-use Rattle.delivery.specs.Machine.Observed.{accepted_at, end_at, frontier_at}
-use Rattle.delivery.specs.Machine.World.{subscription_at}
-use Rattle.delivery.specs.Machine.Runs.{commits_of, delivered_items}
-use Rattle.delivery.specs.Core.Account.{Beginning, no_item, beginning_of, due_to, next_item, released_frontier}
+use Rattle.delivery.specs.Core.Account.{due_to}
 use Rattle.delivery.proofs.Theorem.AcceptedIsDue.{reached, accepted_is_due}
 use Rattle.delivery.proofs.Theorem.LogIsOfAnswers.{front}
 use Rattle.delivery.proofs.Theorem.SpansAsAnswered.{handing}

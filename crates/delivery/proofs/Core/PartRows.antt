@@ -1,17 +1,13 @@
 -- Worked rows, computed: MESSAGEs that say which of their transaction's they are, to who asked for it and to who didn't, and
 -- ERRORs that say our version.
-use Rattle.std.specs.Prelude.{◌≡◌, ℕ, true, false, List, [], ◌∷◌, ◌++◌, codes, Some}
+use Rattle.delivery.proofs.Words.Std.{◌≡◌, ℕ, true, false, List, [], ◌∷◌, ◌++◌, codes, Some}
+use Rattle.delivery.proofs.Words.Frames.{RawFrame}
+use Rattle.delivery.proofs.Words.Core.{ConnectionFault, Event, says_version, sub_parts, Core, new_core, report_of}
 use Rattle.std.specs.Fmt.{digits}
 use Rattle.std.proofs.Common.{refl}
 use Rattle.stomp_frame.specs.declared.case_fault.CaseFault.TheVariants as cases
 use Rattle.stomp_frame.specs.declared.case_fault.RequiredHeader.{RequiredHeader}
 use Rattle.stomp_frame.specs.declared.command.Command.TheVariants as commands
-use Rattle.stomp_frame.specs.declared.raw_frame.RawFrame.{RawFrame}
-use Rattle.delivery.specs.declared.connection_fault.ConnectionFault.{ConnectionFault}
-use Rattle.delivery.specs.declared.event.Event.{Event}
-use Rattle.delivery.specs.Core.Output.{says_version, sub_parts}
-use Rattle.delivery.specs.Core.State.{Core, new_core}
-use Rattle.delivery.specs.Core.Reports.{report_of}
 use Rattle.delivery.proofs.Core.Acts.{topic_list, act, reads, played, frame, subscribe, begin, send_in, commit, opens, propose, turn, A, B}
 
 -- ---- parts

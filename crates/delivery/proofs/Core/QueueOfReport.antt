@@ -1,14 +1,13 @@
 -- The subscription of a number in a report.
 use Rattle.std.proofs.Common.{◌≡◌, ℕ, ◌<◌, [], length, get_or, Some, None}
-use Rattle.std.specs.Prelude.{slice_get}
-use Rattle.std.proofs.lemmas.Option.{slice_get-get_or}
-use Rattle.mcast_txn.specs.Stamp.{zero_stamp}
-use Rattle.delivery.specs.Core.Reports.{QueueReport, Report}
+use Rattle.delivery.proofs.Words.Std.{slice_get, slice_get-get_or}
+use Rattle.delivery.proofs.Words.Topics.{zero_stamp}
+use Rattle.delivery.proofs.Words.Core.{QueueReport, Report}
 
 -- what stands for a subscription that isn't reported
 abbrev pub no_queue : QueueReport
 no_queue =
-    record { topic = record { 0 = 0 }; from = zero_stamp; to = None; cause = None; queued = []; handed = [] }
+    record { span = record { topic = record { 0 = 0 }; from = zero_stamp; to = None }; cause = None; queued = []; handed = [] }
 
 -- the subscription of this number
 abbrev pub queue_in : Report → ℕ → QueueReport

@@ -1,35 +1,17 @@
 -- A step shows whether it read a frame: its outcome says so.
 use Rattle.std.proofs.Common.{◌≡◌, ℕ, Bool, true, false, cond, not, ◌&&◌, inl, inr, List, [], ◌∷◌, length, Option, Some, None, refl, sym, ap, subst, ◌∙◌}
-use Rattle.std.specs.List.{list_all}
-use Rattle.std.specs.Option.{is_some, option_map, option_map_or, option_and_then, option_or, option_to_list}
-use Rattle.stomp_frame.specs.declared.raw_frame.RawFrame.{RawFrame}
-use Rattle.stomp_frame.specs.declared.case_fault.CaseFault.{CaseFault}
-use Rattle.stomp_frame.specs.Cases.{case_fault}
-use Rattle.stomp_frame.specs.Reader.{Unread}
-use Rattle.mcast_txn.specs.declared.draft.sent_message.SentMessage.{SentMessage}
-use Rattle.mcast_txn.specs.Checks.{first_refusal}
-use Rattle.mcast_txn.specs.Lists.{In}
-use Rattle.mcast_group.proofs.Parts.{some_same, none_some}
-use Rattle.stomp_session.specs.declared.action.Action.{Action}
+use Rattle.delivery.proofs.Words.Std.{list_all, is_some, option_map, option_map_or, option_and_then, option_or, option_to_list}
+use Rattle.delivery.proofs.Words.Topics.{SentMessage, first_refusal, In}
+use Rattle.delivery.proofs.Words.Frames.{RawFrame, CaseFault, case_fault, Unread, Action, SessionFault, action_by, session_fault}
+use Rattle.delivery.proofs.Words.Lemmas.{some_same, none_some}
+use Rattle.delivery.proofs.Words.Machine.{Objection, refusal_of, World, topic_at, is_in_use, Move, needs_idle, move_refusal, move_answer, answer_to, commit_answer, end_now}
+use Rattle.delivery.proofs.Words.Core.{TopicList, Event, Outcome, ConnectionFault, CoreStep, Reading, frame_in, reads_frame, number_by, Core, core_of, IsReadBy, unread_at, session_at, frame_move, core_for, outcome_of, move_outcome, unless, frame_no_memory, frame_fault, fault_outcomes, frame_outcome, reading_outcomes, outcomes, IsReadAt, IsCoreRun, accepted_outcomes, is_any, wants_memory, claim_fault, claims_of, claimed_sender, is_one_too_many}
 use Rattle.stomp_session.specs.declared.action.Action.TheVariants as actions
-use Rattle.stomp_session.specs.declared.fault.SessionFault.{SessionFault}
-use Rattle.stomp_session.specs.Answers.{action_by}
-use Rattle.stomp_session.specs.Refusals.{session_fault}
-use Rattle.delivery.specs.Topics.{TopicList}
-use Rattle.delivery.specs.declared.event.Event.{Event}
-use Rattle.delivery.specs.declared.outcome.Outcome.{Outcome}
-use Rattle.delivery.specs.declared.connection_fault.ConnectionFault.{ConnectionFault}
-use Rattle.delivery.specs.Machine.Objections.{Objection, refusal_of}
-use Rattle.delivery.specs.Machine.World.{World, topic_at, is_in_use}
-use Rattle.delivery.specs.Machine.Moves.{Move, needs_idle, move_refusal, move_answer, answer_to, commit_answer, end_now}
 use Rattle.delivery.specs.Machine.Moves.Move.{Connects, Commits, Subscribes, Unsubscribes, Disconnects}
-use Rattle.delivery.specs.Core.Steps.{CoreStep, Reading, frame_in, has_frame, says_frame, reads_as_said, shows_reading, number_by}
-use Rattle.delivery.specs.Core.State.{Core, core_of, IsReadBy, unread_at, session_at, frame_move, core_for}
-use Rattle.delivery.specs.Core.Outcomes.{outcome_of, move_outcome, unless, frame_no_memory, frame_fault, fault_outcomes, frame_outcome, reading_outcomes, outcomes, IsReadAt, IsCoreRun, accepted_outcomes, is_any, wants_memory, claim_fault}
+use Rattle.delivery.proofs.Core.ShownReadings.{has_frame, says_frame, reads_as_said, shows_reading}
 use Rattle.delivery.proofs.Machine.Effects.{made_answer}
 use Rattle.delivery.proofs.Machine.SenderSteps.{In-append_cases}
 use Rattle.delivery.proofs.Core.AccountOfRun.{in_option, refusal_some, was_wanted}
-use Rattle.delivery.specs.Core.Claims.{claims_of, claimed_sender, is_one_too_many}
 use Rattle.delivery.proofs.Core.ClaimsStand.{unobjected}
 
 -- a Next that read this shows it
@@ -84,10 +66,17 @@ read : (rd : Reading) (o : Outcome) (b : Bool) → says_frame o ≡ b → is_som
 read rd o true e f = ap (λ b. cond b (is_some (frame_in rd)) (not (is_some (frame_in rd)))) e ∙ f
 read rd o false e f = ap (λ b. cond b (is_some (frame_in rd)) (not (is_some (frame_in rd)))) e ∙ ap not f
 
+-- whether its reply was left out says nothing of what was read
+either_cut : (fault : ConnectionFault) (cut : Bool) → says_frame (Outcome.Faulted fault cut) ≡ has_frame fault
+either_cut (ConnectionFault.Stream k) cut = refl
+either_cut ConnectionFault.Lagged cut = refl
+either_cut ConnectionFault.ReaderNoMemory cut = refl
+either_cut _ cut = refl
+
 faulted : (rd : Reading) (fault : ConnectionFault) (o : Outcome) → has_frame fault ≡ is_some (frame_in rd) → In o (fault_outcomes fault) → Shows rd o
 faulted rd fault o h i = elim i [
-  | inl e ↦ read rd o (is_some (frame_in rd)) (ap says_frame (sym e) ∙ h) refl
-  | inr j ↦ elim j [ inl e ↦ read rd o (is_some (frame_in rd)) (ap says_frame (sym e) ∙ h) refl | inr k ↦ absurd k ]
+  | inl e ↦ read rd o (is_some (frame_in rd)) (ap says_frame (sym e) ∙ (either_cut fault false ∙ h)) refl
+  | inr j ↦ elim j [ inl e ↦ read rd o (is_some (frame_in rd)) (ap says_frame (sym e) ∙ (either_cut fault true ∙ h)) refl | inr k ↦ absurd k ]
 ]
 
 found : (k : Core) (c : ℕ) (f : RawFrame) (left : Unread) (o : Outcome) (why : Option ConnectionFault) → frame_fault k c f ≡ why
@@ -127,8 +116,18 @@ next_shows k c rd o (Some why) h i =
 nothing_read : (e : Event) (rd : Reading) (o : Outcome) → rd ≡ Reading.Nothing → reads_as_said e false o ≡ true → reads_as_said e (is_some (frame_in rd)) o ≡ true
 nothing_read e rd o h g = subst (λ z. reads_as_said e (is_some (frame_in z)) o ≡ true) (sym h) g
 
+-- nor does whose Next it is
+next_says : (c : ℕ) (o : Outcome) → reads_frame (Event.Next c) o ≡ says_frame o
+next_says c (Outcome.Faulted (ConnectionFault.Stream k) cut) = refl
+next_says c (Outcome.Faulted ConnectionFault.Lagged cut) = refl
+next_says c (Outcome.Faulted ConnectionFault.ReaderNoMemory cut) = refl
+next_says c (Outcome.Faulted _ cut) = refl
+next_says c _ = refl
+
 event_shows : (k : Core) (e : Event) (rd : Reading) (o : Outcome) → IsReadAt k e rd → In o (outcomes k e rd) → reads_as_said e (is_some (frame_in rd)) o ≡ true
-event_shows k (Event.Next c) rd o h i = next_shows k c rd o (first_refusal (needs_idle k.world c)) h i
+event_shows k (Event.Next c) rd o h i =
+    subst (λ (b : Bool). cond b (is_some (frame_in rd)) (not (is_some (frame_in rd))) ≡ true) (sym (next_says c o))
+    (next_shows k c rd o (first_refusal (needs_idle k.world c)) h i)
 event_shows k event rd o h i = nothing_read event rd o h refl
 
 -- each step of a run shows what it read

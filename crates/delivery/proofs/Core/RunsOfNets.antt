@@ -1,30 +1,14 @@
 -- A net is a run of the machine, so that the laws of the machine's runs are laws of nets.
 use Rattle.std.proofs.Common.{◌≡◌, ℕ, Bool, true, false, List, [], ◌∷◌, ◌++◌, Option, Some, None, refl, sym, ap, subst, ◌∙◌, zero, suc, not, ◌&&◌}
 use Rattle.std.specs.List.{filter}
-use Rattle.std.specs.Prelude.{codes, get_or, if◌then◌else◌}
-use Rattle.std.specs.Option.{option_to_list, option_map_or}
-use Rattle.stomp_frame.specs.declared.raw_frame.RawFrame.{RawFrame}
-use Rattle.mcast_txn.specs.Lists.{In}
-use Rattle.mcast_group.specs.declared.fault.ProposeFault.{ProposeFault}
-use Rattle.mcast_group.specs.Sound.{IsSound}
-use Rattle.stomp_session.specs.declared.action.Action.{Action}
+use Rattle.delivery.proofs.Words.Std.{codes, if◌then◌else◌, option_to_list, option_map_or}
+use Rattle.delivery.proofs.Words.Topics.{In, ProposeFault, IsSound}
+use Rattle.delivery.proofs.Words.Frames.{RawFrame, Action, action_by, is_known, field, has_destination}
+use Rattle.delivery.proofs.Words.Machine.{World, topic_at, Move, Answer, answers_of, final_world, added_clocks}
+use Rattle.delivery.proofs.Words.Core.{Event, Outcome, TopicList, account_of, CoreStep, Reading, frame_in, has_effect, Core, core_of, moves, names_at, session_at, frame_move, topic_moves, is_faulted, is_no_memory, is_cut, KeptRun}
+use Rattle.std.specs.Prelude.{get_or}
 use Rattle.stomp_session.specs.declared.action.Action.TheVariants as actions
-use Rattle.stomp_session.specs.Answers.{action_by}
-use Rattle.stomp_session.specs.Names.{is_known}
-use Rattle.stomp_session.specs.Frames.{field, has_destination}
-use Rattle.delivery.specs.declared.event.Event.{Event}
-use Rattle.delivery.specs.declared.outcome.Outcome.{Outcome}
-use Rattle.delivery.specs.Topics.{TopicList}
-use Rattle.delivery.specs.Machine.World.{World, topic_at}
-use Rattle.delivery.specs.Machine.Moves.{Move, Answer}
 use Rattle.delivery.specs.Machine.Moves.Move.{Errs, Lost}
-use Rattle.delivery.specs.Theorem.Laws.{answers_of, final_world}
-use Rattle.delivery.specs.Core.Account.{account_of}
-use Rattle.delivery.specs.Theorem.Tied.{added_clocks}
-use Rattle.delivery.specs.Core.Steps.{CoreStep, Reading, frame_in, has_effect}
-use Rattle.delivery.specs.Core.State.{Core, core_of, moves, names_at, session_at, frame_move, topic_moves, is_faulted, is_no_memory}
-use Rattle.delivery.specs.Core.Output.{is_cut}
-use Rattle.delivery.specs.Nets.{KeptRun}
 use Rattle.delivery.specs.NetLaws.{moves_of, run_of_net, is_told, NetsAreRuns, NetsAreTied, NetsAreSound, NothingOddComes, NoneFailsTwice}
 use Rattle.delivery.proofs.Theorem.NeverRefused.{none_is_pending_twice}
 use Rattle.delivery.proofs.Theorem.StepLaws.{odd_never_comes}

@@ -1,25 +1,12 @@
 -- The readers of an account take nothing from refusals, nor from what was merely done: they read the same of
 -- all that a machine answered and of what of it an account says.
 use Rattle.std.proofs.Common.{◌≡◌, ℕ, ◌+◌, ◌==◌, Bool, true, false, cond, ◌||◌, List, [], ◌∷◌, ◌++◌, refl, ap, subst, ◌∙◌, inl, inr}
-use Rattle.std.proofs.lemmas.Bool.{false≢true}
-use Rattle.mcast_txn.specs.declared.id.Topic.{Topic}
-use Rattle.mcast_txn.specs.declared.id.TxnId.{TxnId}
-use Rattle.mcast_txn.specs.declared.stamp.Stamp.{Stamp}
-use Rattle.mcast_txn.specs.Stamp.{zero_stamp}
-use Rattle.mcast_txn.specs.Agreed.{CommitRow, Transaction}
-use Rattle.mcast_txn.specs.Ids.{same_id}
-use Rattle.mcast_txn.specs.Lists.{In}
-use Rattle.mcast_txn.specs.Span.{Item, LogRow, last_stamp}
-use Rattle.mcast_txn.specs.Transaction.{topics_of}
-use Rattle.mcast_txn.specs.TopicSet.{names}
-use Rattle.delivery.specs.Machine.Moves.{Answer}
-use Rattle.delivery.specs.Machine.Runs.{txn_of_id, commits_of, txn_count, delivered_items, released_at}
-use Rattle.delivery.specs.Theorem.Laws.{agreed_rows}
-use Rattle.delivery.specs.Theorem.Settled.{IsResolved, AllResolved, IsSettled, IsSilent, SilentAfterClose, is_at, closes}
-use Rattle.delivery.specs.Core.Account.{Beginning, beginning_of, released_log, released_frontier}
-use Rattle.delivery.specs.Core.Output.{has_closed}
+use Rattle.delivery.proofs.Words.Std.{false≢true, take}
+use Rattle.delivery.proofs.Words.Topics.{Topic, TxnId, Stamp, zero_stamp, CommitRow, Transaction, same_id, In, Item, LogRow, last_stamp, topics_of, names}
+use Rattle.delivery.proofs.Words.Machine.{Answer, txn_of_id, commits_of, txn_count, delivered_items, released_at, agreed_rows, IsResolved, AllResolved, IsSettled, IsSilent, SilentAfterClose, closes}
+use Rattle.delivery.proofs.Words.Core.{Beginning, beginning_of, released_log, released_frontier, has_closed}
+use Rattle.delivery.specs.Theorem.Settled.{is_at}
 use Rattle.delivery.specs.Core.Answered.{begun_in}
-use Rattle.std.specs.Prelude.{take}
 
 -- an account says it
 abbrev pub is_said : Answer → Bool

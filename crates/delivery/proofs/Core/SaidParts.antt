@@ -1,7 +1,7 @@
 -- What an account says of a part of the answers.
 use Rattle.std.proofs.Common.{◌≡◌, true, false, List, [], ◌∷◌, ◌++◌, refl, ap}
-use Rattle.std.proofs.lemmas.Bool.{true≢false, false≢true}
-use Rattle.delivery.specs.Machine.Moves.{Answer}
+use Rattle.delivery.proofs.Words.Std.{true≢false, false≢true}
+use Rattle.delivery.proofs.Words.Machine.{Answer}
 use Rattle.delivery.proofs.Core.Said.{said, is_said}
 
 -- of two lists what it says of each

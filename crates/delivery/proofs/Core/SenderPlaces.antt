@@ -1,9 +1,8 @@
 -- The senders that claims have begun, listed: a client-id is among them where it is kept, at its sender's number.
 use Rattle.std.proofs.Common.{◌≡◌, ℕ, suc, ◌+◌, Bool, true, false, cond, not, ◌&&◌, ◌||◌, List, [], ◌∷◌, ◌++◌, length, Option, Some, None, refl, sym, ap, subst, ◌∙◌, arith, length-append, true≢false}
-use Rattle.std.specs.List.{list_any, position_or_len}
-use Rattle.std.specs.Str.{bytes_eq}
-use Rattle.sender_gate.proofs.KeptLemmas.{same_octets}
-use Rattle.delivery.specs.Core.Claims.{Claim, is_kept, begun_count, kept_sender, is_one_client, senders_of}
+use Rattle.delivery.proofs.Words.Std.{list_any, position_or_len, bytes_eq}
+use Rattle.delivery.proofs.Words.Lemmas.{same_octets}
+use Rattle.delivery.proofs.Words.Core.{Claim, is_kept, begun_count, kept_sender, is_one_client, senders_of}
 
 -- ---- lists
 

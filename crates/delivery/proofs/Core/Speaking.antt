@@ -1,26 +1,13 @@
 -- What every run keeps of connections and their senders: a sender's number of transactions, whose its undecided
 -- transaction and its leftover tickets are, and that a connection which isn't open was closed.
 use Rattle.std.proofs.Common.{◌≡◌, ℕ, ◌+◌, ◌<◌, ◌==◌, Bool, true, false, cond, ◌||◌, inl, inr, List, [], ◌∷◌, ◌++◌, map, length, get_or, set, Option, Some, None, refl, sym, ap, subst, ◌∙◌, true≢false, arith}
-use Rattle.std.proofs.lemmas.Bool.{eqb-true, eq-eqb, or_parts, or_right, not-false}
-use Rattle.std.proofs.lemmas.List.{length_push}
-use Rattle.mcast_txn.specs.declared.id.Topic.{Topic}
-use Rattle.mcast_txn.specs.declared.id.TxnId.{TxnId}
-use Rattle.mcast_txn.specs.declared.draft.sent_message.SentMessage.{SentMessage}
-use Rattle.mcast_txn.specs.Agreed.{Transaction}
-use Rattle.mcast_txn.specs.Ballot.{Decision}
-use Rattle.mcast_txn.specs.Lists.{In}
-use Rattle.mcast_txn.specs.Span.{Item}
-use Rattle.mcast_txn.proofs.Members.{at_set, at_set_within, In-map_cases}
-use Rattle.mcast_group.specs.declared.fault.ProposeFault.{ProposeFault}
-use Rattle.mcast_group.specs.Machine.{Pending, Entry, due_part}
-use Rattle.mcast_group.proofs.Parts.{some_same, none_some, not_true}
-use Rattle.delivery.specs.Machine.World.{World, Connection, Undecided, Leftover, SenderState, Standing, is_reading, nobody, new_sender, topic_at, connection_at, subscription_at, speaker, entry_at, start, speaker_number, speaks_for, is_in_use}
-use Rattle.delivery.specs.Machine.Moves.{Move, Answer, world_after, answer_to, move_refusal, move_effect, move_answer, undecided_at, find_leftover, leftover, find_verdict, oldest_live, next_txn, connect_effect, commit_effect, commit_answer, proposal_fault, propose_effect, propose_answer, cancel_effect, cancel_answer, learn_effect, release_answer, take_effect, take_answer, leave_effect, leave_answer, close_effect_of}
+use Rattle.delivery.proofs.Words.Std.{eqb-true, eq-eqb, or_parts, or_right, not-false, length_push}
+use Rattle.delivery.proofs.Words.Topics.{Topic, TxnId, SentMessage, Transaction, Decision, In, Item, ProposeFault, Pending, Entry, due_part}
+use Rattle.delivery.proofs.Words.Lemmas.{at_set, at_set_within, In-map_cases, some_same, none_some, not_true}
+use Rattle.delivery.proofs.Words.Machine.{World, Connection, Undecided, Leftover, SenderState, Standing, is_reading, nobody, new_sender, topic_at, connection_at, subscription_at, speaker, entry_at, start, speaker_number, speaks_for, is_in_use, Move, Answer, world_after, answer_to, move_refusal, move_effect, move_answer, undecided_at, find_leftover, leftover, find_verdict, oldest_live, next_txn, connect_effect, commit_effect, commit_answer, proposal_fault, propose_effect, propose_answer, cancel_effect, cancel_answer, learn_effect, release_answer, take_effect, take_answer, leave_effect, leave_answer, close_effect_of, run, answers_from, txn_count, closes}
+use Rattle.delivery.proofs.Words.Core.{has_closed}
 use Rattle.delivery.specs.Machine.Moves.Move.{AddsTopic, Opens, Connects, Commits, Subscribes, Unsubscribes, Disconnects, Errs, Lost, Leaves, Proposes, Decides, Withdraws, Cancels, Learns, Releases, Turns, Takes}
 use Rattle.delivery.specs.Machine.Moves.Answer.{Refused, Done, Opened}
-use Rattle.delivery.specs.Machine.Runs.{run, answers_from, txn_count}
-use Rattle.delivery.specs.Theorem.Settled.{closes}
-use Rattle.delivery.specs.Core.Output.{has_closed}
 use Rattle.delivery.proofs.Machine.Invariant.{sender_in}
 use Rattle.delivery.proofs.Machine.SenderSteps.{In-append_cases, In-drop}
 use Rattle.delivery.proofs.Machine.SubscriptionSteps.{at_push, at_end, at_push_two, set_length}

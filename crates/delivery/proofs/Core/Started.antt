@@ -1,27 +1,14 @@
 -- What every run keeps of subscriptions, beside its answers: how each began, and where one that was asked to end
 -- has ended.
 use Rattle.std.proofs.Common.{◌≡◌, ℕ, zero, suc, ◌+◌, ◌<◌, ◌==◌, Bool, cond, ◌⊎◌, inl, inr, List, [], ◌∷◌, ◌++◌, map, length, get_or, set, Option, Some, None, refl, sym, ap, ◌∙◌, arith}
-use Rattle.std.proofs.lemmas.Bool.{eqb-true, eq-eqb}
-use Rattle.mcast_txn.specs.declared.id.Topic.{Topic}
-use Rattle.mcast_txn.specs.declared.id.TxnId.{TxnId}
-use Rattle.mcast_txn.specs.declared.draft.sent_message.SentMessage.{SentMessage}
-use Rattle.mcast_txn.specs.declared.stamp.Stamp.{Stamp}
-use Rattle.mcast_txn.specs.Stamp.{zero_stamp}
-use Rattle.mcast_txn.specs.Ballot.{Decision}
-use Rattle.mcast_txn.specs.Span.{LogRow, Item, last_stamp}
+use Rattle.delivery.proofs.Words.Std.{eqb-true, eq-eqb}
+use Rattle.delivery.proofs.Words.Topics.{Topic, TxnId, SentMessage, Stamp, zero_stamp, Decision, LogRow, Item, last_stamp, ProposeFault, Pending, Entry, EntryEnd, due_part}
+use Rattle.delivery.proofs.Words.Lemmas.{some_same, none_some, not_true}
+use Rattle.delivery.proofs.Words.Machine.{World, Leftover, Subscription, no_subscription, topic_at, subscription_at, speaker, entry_at, frontier_at, end_at, Objection, Move, Answer, world_after, answer_to, move_refusal, move_effect, move_answer, find_leftover, find_verdict, oldest_live, commit_effect, commit_answer, proposal_fault, propose_effect, propose_answer, cancel_effect, cancel_answer, learn_effect, release_answer, take_effect, take_answer, leave_effect, leave_answer, close_effect_of, Run, answers_of, final_world, cause_of}
+use Rattle.delivery.proofs.Words.Core.{Beginning, no_beginning, beginning_of, released_frontier}
 use Rattle.mcast_group.specs.declared.cause.Cause.TheVariants.{Asked}
-use Rattle.mcast_group.specs.declared.fault.ProposeFault.{ProposeFault}
-use Rattle.mcast_group.specs.Machine.{Pending, Entry, EntryEnd, due_part}
-use Rattle.mcast_group.proofs.Parts.{some_same, none_some, not_true}
-use Rattle.delivery.specs.Machine.World.{World, Leftover, Subscription, no_subscription, topic_at, subscription_at, speaker, entry_at}
-use Rattle.delivery.specs.Machine.Observed.{frontier_at, end_at}
-use Rattle.delivery.specs.Machine.Objections.{Objection}
-use Rattle.delivery.specs.Machine.Moves.{Move, Answer, world_after, answer_to, move_refusal, move_effect, move_answer, find_leftover, find_verdict, oldest_live, commit_effect, commit_answer, proposal_fault, propose_effect, propose_answer, cancel_effect, cancel_answer, learn_effect, release_answer, take_effect, take_answer, leave_effect, leave_answer, close_effect_of}
 use Rattle.delivery.specs.Machine.Moves.Move.{AddsTopic, Commits, Subscribes, Unsubscribes, Leaves, Proposes, Cancels, Learns, Releases, Takes}
 use Rattle.delivery.specs.Machine.Moves.Answer.{Refused, Done}
-use Rattle.delivery.specs.Theorem.Laws.{Run, answers_of, final_world}
-use Rattle.delivery.specs.Theorem.Spans.{cause_of}
-use Rattle.delivery.specs.Core.Account.{Beginning, no_beginning, beginning_of, released_frontier}
 use Rattle.delivery.specs.Core.Answered.{begun_in}
 use Rattle.delivery.proofs.Machine.SubscriptionSteps.{at_push_two}
 use Rattle.delivery.proofs.Machine.InvariantIsKept.{tickets, by_refusal, checked}

@@ -1,6 +1,9 @@
 -- Worked rows of single rules: whom octets are fed to, faults of a stream, learns and releases, the order of a frame's checks,
 -- and a lag of another connection than that of the same number.
-use Rattle.std.specs.Prelude.{◌≡◌, false, true, List, [], ◌∷◌, ◌++◌, map, codes, Some, None}
+use Rattle.delivery.proofs.Words.Std.{◌≡◌, false, true, List, [], ◌∷◌, ◌++◌, map, codes, Some, None}
+use Rattle.delivery.proofs.Words.Frames.{Unread, unread_of}
+use Rattle.delivery.proofs.Words.Machine.{shared_marks, Answer, new_sender}
+use Rattle.delivery.proofs.Words.Core.{Event, Refusal, ConnectionFault, CoreStep, Reading, reader_limits, fed_octets, frames_of, account_of, released_frontier, outcomes, Core, new_core, unread_at, report_of}
 use Rattle.std.proofs.Common.{refl}
 use Rattle.std.specs.Fmt.{digits}
 use Rattle.mcast_group.specs.declared.cause.Cause.TheVariants.{Asked, Lag}
@@ -9,19 +12,8 @@ use Rattle.stomp_frame.specs.declared.command.Command.TheVariants as commands
 use Rattle.stomp_frame.specs.declared.case_fault.CaseFault.TheVariants as cases
 use Rattle.stomp_frame.specs.declared.fault.Check.TheVariants as checks
 use Rattle.stomp_session.specs.declared.fault.SessionFault.TheVariants as sessions
-use Rattle.delivery.specs.declared.event.Event.{Event}
 use Rattle.delivery.specs.declared.outcome.Outcome.TheVariants.{Opened, Failed, Withdrawn, Fed, Done, Subscribed, Unsubscribed, Flying, Proposed, Decided, Learnt, Released, Turned, Handed, Faulted, Leaving, Gone, Refused}
-use Rattle.delivery.specs.declared.refusal.Refusal.{Refusal}
-use Rattle.delivery.specs.declared.connection_fault.ConnectionFault.{ConnectionFault}
-use Rattle.delivery.specs.Core.Steps.{CoreStep, Reading, reader_limits, shows_reading, fed_octets, frames_of}
-use Rattle.delivery.specs.Core.Account.{account_of, released_frontier}
-use Rattle.delivery.specs.Theorem.Laws.{shared_marks}
-use Rattle.delivery.specs.Machine.Moves.{Answer}
-use Rattle.stomp_frame.specs.Reader.{Unread, unread_of}
-use Rattle.delivery.specs.Machine.World.{new_sender}
-use Rattle.delivery.specs.Core.Outcomes.{outcomes}
-use Rattle.delivery.specs.Core.State.{Core, new_core, unread_at}
-use Rattle.delivery.specs.Core.Reports.{report_of}
+use Rattle.delivery.proofs.Core.ShownReadings.{shows_reading}
 use Rattle.delivery.proofs.Core.QueueOfReport.{queue_in}
 use Rattle.delivery.proofs.Core.Agreement.{agreements, all_agree}
 use Rattle.delivery.proofs.Core.Acts.{send, Act, topic_list, without, frame, topic, stamp, id, act, reads, fails, waits, played, shown_outcomes, seen, connect, subscribe, begin, send_in, commit, opens, propose, turn, A, B}
@@ -293,7 +285,7 @@ spent_outcomes = refl
 
 -- ---- a subscription that isn't closed has no end, or ends by lag
 
-crossing_open : ((queue_in (report_of crossing) 0).cause ≡ None) × ((queue_in (report_of crossing) 0).to ≡ None)
+crossing_open : ((queue_in (report_of crossing) 0).cause ≡ None) × ((queue_in (report_of crossing) 0).span.to ≡ None)
 crossing_open = (refl, refl)
 
 lagging_queues : map seen (report_of (played narrow (opens 0 (reads 0 (subscribe (codes "s") A) ∷ sends_one 0 (codes "1") (sends_one 0 (codes "2") (sends_one 0 (codes "3") [])))))).subscriptions

@@ -1,36 +1,22 @@
 -- The steps of a run are a function of its events and outcomes.
 use Rattle.std.proofs.Common.{◌≡◌, ℕ, Bool, true, false, cond, inl, inr, List, [], ◌∷◌, map, Option, Some, None, Result, Ok, Err, refl, sym, ap, ◌∙◌}
-use Rattle.std.proofs.lemmas.Bool.{false≢true}
+use Rattle.delivery.proofs.Words.Std.{false≢true, reverse, option_map}
+use Rattle.delivery.proofs.Words.Topics.{first_refusal, In}
+use Rattle.delivery.proofs.Words.Frames.{RawFrame, Check, fault_of, Unread, ReadsNext, Halt}
+use Rattle.delivery.proofs.Words.Lemmas.{answers_none, one_answer, some_same, none_some}
+use Rattle.delivery.proofs.Words.Machine.{Objection, refusal_of, needs_idle}
+use Rattle.delivery.proofs.Words.Core.{TopicList, Event, Outcome, Refusal, ConnectionFault, Kept, CoreStep, Reading, kept_of, reader_limits, Core, core_of, IsReadBy, unread_at, kept_run, unless, fault_outcomes, reading_outcomes, outcomes, IsReadAt, IsCoreRun, is_any}
+use Rattle.delivery.proofs.Words.Views.{reading_at, steps_of}
 use Rattle.std.proofs.lemmas.List.{reverse-reverse}
-use Rattle.std.specs.Prelude.{reverse}
-use Rattle.std.specs.Option.{option_map}
-use Rattle.stomp_frame.specs.declared.raw_frame.RawFrame.{RawFrame}
-use Rattle.stomp_frame.specs.declared.fault.Check.{Check}
-use Rattle.stomp_frame.specs.Faults.{fault_of}
-use Rattle.stomp_frame.specs.Reader.{Unread, ReadsNext}
-use Rattle.stomp_frame.specs.Inner.Parser.{Halt, after_eols, frame_at}
+use Rattle.stomp_frame.specs.Inner.Parser.{after_eols, frame_at}
 use Rattle.stomp_frame.proofs.Pieces.{fault_of-only}
-use Rattle.stomp_frame.proofs.Whole.{answers_frame, answers_none, answers_fault, one_answer}
-use Rattle.mcast_txn.specs.Checks.{first_refusal}
-use Rattle.mcast_txn.specs.Lists.{In}
-use Rattle.mcast_group.proofs.Parts.{some_same, none_some}
-use Rattle.delivery.specs.Topics.{TopicList}
-use Rattle.delivery.specs.declared.event.Event.{Event}
-use Rattle.delivery.specs.declared.outcome.Outcome.{Outcome}
-use Rattle.delivery.specs.declared.refusal.Refusal.{Refusal}
-use Rattle.delivery.specs.declared.connection_fault.ConnectionFault.{ConnectionFault}
-use Rattle.delivery.specs.declared.kept.Kept.{Kept}
-use Rattle.delivery.specs.Machine.Objections.{Objection, refusal_of}
-use Rattle.delivery.specs.Machine.Moves.{needs_idle}
-use Rattle.delivery.specs.Core.Steps.{CoreStep, Reading, says_frame, kept_of, reader_limits}
-use Rattle.delivery.specs.Core.State.{Core, core_of, IsReadBy, unread_at}
-use Rattle.delivery.specs.Inner.Readings.{reading_of, reads_nothing, reading_at, steps_of}
-use Rattle.delivery.specs.Core.Delivery.{kept_run, StepsAreKept}
-use Rattle.delivery.specs.Core.Outcomes.{unless, fault_outcomes, reading_outcomes, outcomes, IsReadAt, IsCoreRun}
+use Rattle.stomp_frame.proofs.Whole.{answers_frame, answers_fault}
+use Rattle.delivery.proofs.Core.ShownReadings.{says_frame}
+use Rattle.delivery.specs.Inner.Readings.{reading_of, reads_nothing}
+use Rattle.delivery.specs.Core.Delivery.{StepsAreKept}
 use Rattle.delivery.proofs.Core.AccountOfRun.{in_option, core_is}
 use Rattle.delivery.proofs.Core.FramesRead.{limits_are}
 use Rattle.delivery.proofs.Core.ReadingsShown.{ReadsUnless, idle}
-use Rattle.delivery.specs.Core.Outcomes.{is_any}
 use Rattle.delivery.proofs.Core.AccountOfRun.{was_wanted}
 
 -- a refusal of the machine's isn't that there is no frame

@@ -1,44 +1,14 @@
 -- What each step of the core makes of it: a refusal nothing, a ticket, a stamp, an item, the end of a span.
 use Rattle.std.proofs.Common.{◌≡◌, ◌≢◌, ℕ, zero, suc, ◌+◌, ◌<◌, ◌≤◌, ◌==◌, ◌||◌, Bool, true, false, cond, ◌⊎◌, inl, inr, List, [], ◌∷◌, ◌++◌, map, length, get_or, set, Option, Some, None, refl, sym, ap, subst, ◌∙◌, arith}
-use Rattle.std.specs.Prelude.{slice_get}
-use Rattle.std.specs.List.{list_all, find}
-use Rattle.std.specs.Option.{option_map, option_to_list, unwrap_or}
-use Rattle.std.proofs.lemmas.Bool.{true≢false, false≢true, and_parts, ltb-true, not-false, cases_lt}
-use Rattle.std.proofs.lemmas.List.{get_or_past, length_push}
-use Rattle.mcast_txn.specs.declared.id.Topic.{Topic}
-use Rattle.mcast_txn.specs.declared.id.TxnId.{TxnId}
-use Rattle.mcast_txn.specs.declared.draft.sent_message.SentMessage.{SentMessage}
-use Rattle.mcast_txn.specs.declared.stamp.Stamp.{Stamp}
-use Rattle.mcast_txn.specs.Stamp.{greatest}
-use Rattle.mcast_txn.specs.Part.{part_at}
-use Rattle.mcast_txn.specs.Ballot.{row_at, ticket_rows}
-use Rattle.mcast_txn.specs.Lists.{In}
-use Rattle.mcast_txn.specs.Span.{Item}
-use Rattle.mcast_txn.specs.Transaction.{topics_of}
-use Rattle.mcast_txn.specs.TopicSet.{names}
-use Rattle.mcast_txn.proofs.Members.{at_set, at_set_within}
-use Rattle.mcast_group.specs.declared.fault.ProposeFault.{ProposeFault}
-use Rattle.mcast_group.specs.Machine.{Entry, TopicState, new_topic, after_propose}
-use Rattle.mcast_group.proofs.Parts.{some_same, none_some}
-use Rattle.delivery.specs.declared.event.Event.{Event}
-use Rattle.delivery.specs.declared.outcome.Outcome.{Outcome}
-use Rattle.delivery.specs.declared.refusal.Refusal.{Refusal}
-use Rattle.delivery.specs.Machine.Objections.{Objection, refusal_of}
-use Rattle.delivery.specs.Machine.World.{World, Undecided, SenderState, Connection, Subscription, nobody, no_subscription, new_sender, topic_at, sender_at, connection_at, speaker, subscription_at, entry_at, start, speaker_number}
-use Rattle.delivery.specs.Machine.Observed.{accepted_at, end_at, log_at}
-use Rattle.delivery.specs.Machine.Moves.{Move, Answer, world_after, answer_to, move_refusal, undecided_or_none, undecided_at, has_ticket, insert_ticket, is_complete, next_ticket, proposal_fault, propose_effect, propose_answer, decide_effect, take_effect, commit_effect, close_effect_of}
+use Rattle.delivery.proofs.Words.Std.{slice_get, list_all, option_map, option_to_list, unwrap_or, true≢false, false≢true, and_parts, ltb-true, not-false, cases_lt, get_or_past, length_push}
+use Rattle.delivery.proofs.Words.Topics.{Topic, TxnId, SentMessage, Stamp, greatest, part_at, row_at, ticket_rows, In, Item, topics_of, names, ProposeFault, Entry, TopicState, new_topic, after_propose}
+use Rattle.delivery.proofs.Words.Lemmas.{at_set, at_set_within, some_same, none_some}
+use Rattle.delivery.proofs.Words.Machine.{Objection, refusal_of, World, Undecided, SenderState, Connection, Subscription, nobody, no_subscription, new_sender, topic_at, sender_at, connection_at, speaker, subscription_at, entry_at, start, speaker_number, accepted_at, end_at, log_at, Move, Answer, world_after, answer_to, move_refusal, undecided_or_none, undecided_at, has_ticket, insert_ticket, is_complete, next_ticket, proposal_fault, propose_effect, propose_answer, decide_effect, take_effect, commit_effect, close_effect_of, IsAnswer, Run, final_world, answers_of, move_topic, EndsBeforeRow, delivered_items}
+use Rattle.delivery.proofs.Words.Core.{Event, Outcome, Refusal, Reading, has_effect, is_cut, Core, core_of, core_after, is_faulted, is_no_memory, outcome_of, cut_of, event_topic, GivesTicket, GivesStamp, DeliversNext, LagsFull, IsNewTopic}
+use Rattle.delivery.proofs.Words.Views.{IsReached}
+use Rattle.std.specs.List.{find}
 use Rattle.delivery.specs.Machine.Moves.Move.{AddsTopic, Connects, Commits, Subscribes, Unsubscribes, Disconnects, Errs, Lost, Proposes, Decides, Releases, Turns, Takes}
-use Rattle.delivery.specs.Theorem.Answers.{IsAnswer}
-use Rattle.delivery.specs.Theorem.Laws.{Run, final_world, answers_of, move_topic}
-use Rattle.delivery.specs.Theorem.Spans.{EndsBeforeRow}
-use Rattle.delivery.specs.Machine.Runs.{delivered_items}
-use Rattle.delivery.specs.Core.Steps.{Reading, has_effect}
-use Rattle.delivery.specs.Core.Output.{is_cut}
-use Rattle.delivery.specs.Core.State.{Core, core_of, core_after, is_faulted, is_no_memory}
-use Rattle.delivery.specs.Core.Outcomes.{outcome_of, cut_of}
 use Rattle.delivery.specs.Core.Stepped
-use Rattle.delivery.specs.Core.Stepped.{event_topic, GivesTicket, GivesStamp, DeliversNext, LagsFull, IsNewTopic}
-use Rattle.delivery.specs.Inner.Stands.{IsReached}
 use Rattle.delivery.proofs.Machine.Invariant.{topic_in}
 use Rattle.delivery.proofs.Machine.InvariantIsKept.{by_refusal, checked, in_flight, asks_of, Asks}
 use Rattle.delivery.proofs.Theorem.MovesAreAnswered.{events_are_answered}

@@ -1,22 +1,14 @@
 -- What is told of the machine's answers, in the account's fewer words, and what a reader takes from it: the same as from the
 -- answers.
-use Rattle.std.proofs.Common.{◌≡◌, ℕ, ◌+◌, ◌==◌, Bool, true, false, cond, inl, inr, List, [], ◌∷◌, ◌++◌, length, refl, sym, ap, subst, ◌∙◌, append_assoc}
-use Rattle.std.proofs.lemmas.List.{length-append}
-use Rattle.std.specs.Prelude.{take}
-use Rattle.mcast_txn.specs.declared.id.Topic.{Topic}
-use Rattle.mcast_txn.specs.declared.stamp.Stamp.{Stamp}
-use Rattle.mcast_txn.specs.Stamp.{zero_stamp}
-use Rattle.mcast_txn.specs.Agreed.{CommitRow}
-use Rattle.mcast_txn.specs.Lists.{In}
-use Rattle.mcast_txn.specs.Span.{Item, LogRow, last_stamp}
-use Rattle.mcast_txn.proofs.Members.{In-append_left}
-use Rattle.delivery.specs.Machine.Moves.{Answer}
-use Rattle.delivery.specs.Machine.Runs.{txn_of_id, commits_of, delivered_items, released_at}
-use Rattle.delivery.specs.Theorem.Laws.{agreed_rows}
-use Rattle.delivery.specs.Core.Account.{Beginning, beginning_of, released_log, released_frontier}
+use Rattle.std.proofs.Common.{◌≡◌, ℕ, ◌+◌, ◌==◌, Bool, true, false, cond, inl, inr, List, [], ◌∷◌, ◌++◌, length, refl, sym, ap, subst, ◌∙◌, append_assoc, arith}
+use Rattle.delivery.proofs.Words.Std.{length-append, take}
+use Rattle.delivery.proofs.Words.Topics.{Topic, Stamp, zero_stamp, CommitRow, In, Item, LogRow, last_stamp}
+use Rattle.delivery.proofs.Words.Lemmas.{In-append_left}
+use Rattle.delivery.proofs.Words.Machine.{Answer, txn_of_id, commits_of, delivered_items, released_at, agreed_rows}
+use Rattle.delivery.proofs.Words.Core.{Beginning, beginning_of, released_log, released_frontier, Told, committed, frontier_of, handed_count}
 use Rattle.delivery.specs.Core.Answered.{begun_in as begun_answers}
 use Rattle.delivery.specs.Core.Delivery.{begun_in}
-use Rattle.delivery.specs.Core.Told.{Told, committed, released_count, told_log, frontier_of, handed_count, owner_of}
+use Rattle.delivery.specs.Core.Told.{released_count, told_log, owner_of}
 use Rattle.delivery.proofs.Machine.SenderSteps.{In-append_cases}
 
 -- what is told of an answer, after these
@@ -47,10 +39,15 @@ committed_told [] = refl
 committed_told (Answer.Decided id stamp ∷ past) = ap (λ (z : List CommitRow). z ++ record { txn = txn_of_id id past; stamp = stamp } ∷ []) (committed_told past)
 committed_told (_ ∷ past) = committed_told past
 
+-- what is added where b holds, and else nothing
+added : (b : Bool) (k m n : ℕ) → k ≡ m → k + cond b n 0 ≡ cond b (m + n) m
+added true k m n e = ap (λ (i : ℕ). i + n) e
+added false k m n e = let same : k + 0 ≡ m = omega (arith, e) in same
+
 released_told : (t : Topic) (past : List Answer) → released_count t (tell past) ≡ released_at t past
 released_told t [] = refl
-released_told t (Answer.Released u id ∷ past) = ap (λ (k : ℕ). cond (u.0 == t.0) (k + 1) k) (released_told t past)
-released_told t (Answer.Turned u n ∷ past) = ap (λ (k : ℕ). cond (u.0 == t.0) (k + n) k) (released_told t past)
+released_told t (Answer.Released u id ∷ past) = added (u.0 == t.0) (released_count t (tell past)) (released_at t past) 1 (released_told t past)
+released_told t (Answer.Turned u n ∷ past) = added (u.0 == t.0) (released_count t (tell past)) (released_at t past) n (released_told t past)
 released_told t (_ ∷ past) = released_told t past
 
 pub log_told : (t : Topic) (past : List Answer) → told_log t (tell past) ≡ released_log t past
@@ -61,9 +58,9 @@ log_told t past =
 pub frontier_told : (t : Topic) (past : List Answer) → frontier_of t (tell past) ≡ released_frontier t past
 frontier_told t past = ap (λ (z : List LogRow). last_stamp zero_stamp z) (log_told t past)
 
-one_more : (b : Bool) (k : ℕ) (xs : List Item) (item : Item) → k ≡ length xs → cond b (k + 1) k ≡ length (cond b (xs ++ item ∷ []) xs)
+one_more : (b : Bool) (k : ℕ) (xs : List Item) (item : Item) → k ≡ length xs → k + cond b 1 0 ≡ length (cond b (xs ++ item ∷ []) xs)
 one_more true k xs item e = ap (λ n. n + 1) e ∙ sym (length-append xs (item ∷ []))
-one_more false k xs item e = e
+one_more false k xs item e = let same : k + 0 ≡ length xs = omega (arith, e) in same
 
 pub handed_told : (s : ℕ) (past : List Answer) → handed_count s (tell past) ≡ length (delivered_items s past)
 handed_told s [] = refl

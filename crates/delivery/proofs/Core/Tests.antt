@@ -1,7 +1,7 @@
 -- What the refusals of a move say, where none of them holds.
 use Rattle.std.proofs.Common.{◌≡◌, ℕ, ◌<◌, not, false, length, ltb}
-use Rattle.std.proofs.lemmas.Bool.{ltb-true, not-false}
-use Rattle.delivery.specs.Machine.World.{World}
+use Rattle.delivery.proofs.Words.Std.{ltb-true, not-false}
+use Rattle.delivery.proofs.Words.Machine.{World}
 
 -- its connection is there
 pub connection_there : (w : World) (c : ℕ) → not (ltb c (length w.connections)) ≡ false → c < length w.connections

@@ -1,16 +1,11 @@
 -- The ends of spans that an account tells, listed: so that a row's account has no other. And that nothing is delivered after a
 -- close, said of each delivery.
 use Rattle.std.proofs.Common.{◌≡◌, ℕ, ◌==◌, Bool, true, false, cond, inl, inr, List, [], ◌∷◌, ◌++◌, refl, sym, subst, ◌∙◌}
-use Rattle.std.proofs.lemmas.Bool.{eq-eqb, eqb-true, true≢false}
-use Rattle.mcast_group.proofs.Parts.{not_true}
-use Rattle.std.specs.Prelude.{if◌then◌else◌}
-use Rattle.mcast_txn.specs.declared.stamp.Stamp.{Stamp}
-use Rattle.mcast_txn.specs.Lists.{In}
-use Rattle.mcast_txn.specs.Span.{Item}
-use Rattle.mcast_txn.proofs.Members.{any_from}
-use Rattle.delivery.specs.Machine.Moves.{Answer}
-use Rattle.delivery.specs.Theorem.Settled.{IsSilent, SilentAfterClose, closes}
-use Rattle.delivery.specs.Core.Output.{has_closed}
+use Rattle.delivery.proofs.Words.Std.{eq-eqb, eqb-true, true≢false, if◌then◌else◌}
+use Rattle.delivery.proofs.Words.Topics.{Stamp, In, Item}
+use Rattle.delivery.proofs.Words.Lemmas.{not_true, any_from}
+use Rattle.delivery.proofs.Words.Machine.{Answer, IsSilent, SilentAfterClose, closes}
+use Rattle.delivery.proofs.Words.Core.{has_closed}
 
 -- another number is none
 pub no_match : (k n : ℕ) → (k ≡ n → Prim.⊥) → (k == n) ≡ false

@@ -1,20 +1,12 @@
 -- What a run's steps tell is what is told of its account.
 use Rattle.std.proofs.Common.{◌≡◌, ℕ, ◌+◌, ◌==◌, Bool, true, false, cond, ◌&&◌, List, [], ◌∷◌, ◌++◌, Option, Some, refl, sym, ap, ◌∙◌}
-use Rattle.std.proofs.lemmas.Bool.{eqb-true}
-use Rattle.stomp_frame.specs.declared.raw_frame.RawFrame.{RawFrame}
-use Rattle.mcast_txn.specs.declared.id.TxnId.{TxnId}
-use Rattle.mcast_txn.specs.declared.draft.sent_message.SentMessage.{SentMessage}
-use Rattle.mcast_txn.specs.Agreed.{Transaction}
-use Rattle.mcast_txn.specs.Ids.{same_id}
-use Rattle.mcast_txn.proofs.Orders.{id_same}
-use Rattle.delivery.specs.declared.event.Event.{Event}
-use Rattle.delivery.specs.declared.outcome.Outcome.{Outcome}
-use Rattle.delivery.specs.Machine.Moves.{Answer}
-use Rattle.delivery.specs.Machine.Runs.{txn_of_id, txn_count}
-use Rattle.delivery.specs.Core.Claims.{claims_of, sender_of}
-use Rattle.delivery.specs.Core.Steps.{CoreStep, frame_in, accepted_of, names_after}
-use Rattle.delivery.specs.Core.Account.{account_of, account_of_step}
-use Rattle.delivery.specs.Core.Told.{Told, last_by, sends_by, told_by, told_of}
+use Rattle.delivery.proofs.Words.Std.{eqb-true}
+use Rattle.delivery.proofs.Words.Topics.{TxnId, SentMessage, Transaction, same_id}
+use Rattle.delivery.proofs.Words.Frames.{RawFrame}
+use Rattle.delivery.proofs.Words.Lemmas.{id_same}
+use Rattle.delivery.proofs.Words.Machine.{Answer, txn_of_id, txn_count}
+use Rattle.delivery.proofs.Words.Core.{Event, Outcome, claims_of, sender_of, CoreStep, frame_in, accepted_of, names_after, account_of, account_of_step, Told, sends_by, told_of}
+use Rattle.delivery.specs.Core.Told.{last_by, told_by}
 use Rattle.delivery.proofs.Core.Tells.{tell, owner_told}
 
 -- the transaction of this sender and number

@@ -1,16 +1,12 @@
 -- What is told of the machine's answers comes of one of them. So a topic that is settled, and a subscription that is silent, by what
 -- is told of the answers is so by the answers.
 use Rattle.std.proofs.Common.{◌≡◌, ◌⊎◌, ℕ, true, inl, inr, List, [], ◌∷◌, ◌++◌, refl, sym, ap, subst, ◌∙◌}
-use Rattle.std.proofs.lemmas.Bool.{eq-eqb}
-use Rattle.mcast_txn.specs.declared.id.Topic.{Topic}
-use Rattle.mcast_txn.specs.declared.id.TxnId.{TxnId}
-use Rattle.mcast_txn.specs.declared.stamp.Stamp.{Stamp}
-use Rattle.mcast_txn.specs.Agreed.{Transaction}
-use Rattle.mcast_txn.specs.Lists.{In}
-use Rattle.delivery.specs.Machine.Moves.{Answer}
-use Rattle.delivery.specs.Machine.Runs.{txn_of_id}
+use Rattle.delivery.proofs.Words.Std.{eq-eqb}
+use Rattle.delivery.proofs.Words.Topics.{Topic, TxnId, Stamp, Transaction, In}
+use Rattle.delivery.proofs.Words.Machine.{Answer, txn_of_id}
+use Rattle.delivery.proofs.Words.Core.{Told}
 use Rattle.delivery.specs.Theorem.Settled.{closes, SilentAfterClose, IsResolved as Resolved, AllResolved as Resolving, IsSettled as Settled, IsSilent as Silent}
-use Rattle.delivery.specs.Core.Told.{Told, AllResolved, IsSettled, IsSilent}
+use Rattle.delivery.specs.Core.Told.{AllResolved, IsSettled, IsSilent}
 use Rattle.delivery.proofs.Machine.AnswerLemmas.{made_id}
 use Rattle.delivery.proofs.Core.Tells.{tells, tell, source, told_in}
 

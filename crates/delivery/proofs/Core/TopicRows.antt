@@ -1,15 +1,10 @@
 -- Worked rows of topics that are made on first use.
-use Rattle.std.specs.Prelude.{◌≡◌, List, [], ◌∷◌, ◌++◌, map, codes}
-use Rattle.std.specs.List.{range_with_len}
+use Rattle.delivery.proofs.Words.Std.{◌≡◌, List, [], ◌∷◌, ◌++◌, map, codes, range_with_len}
+use Rattle.delivery.proofs.Words.Core.{Event, Refusal, ConnectionFault, Core, new_core, names_at, report_of}
 use Rattle.std.proofs.Common.{false, refl}
 use Rattle.stomp_frame.specs.declared.command.Command.TheVariants as commands
 use Rattle.stomp_session.specs.declared.fault.SessionFault.TheVariants as sessions
-use Rattle.delivery.specs.declared.event.Event.{Event}
-use Rattle.delivery.specs.declared.refusal.Refusal.{Refusal}
-use Rattle.delivery.specs.declared.connection_fault.ConnectionFault.{ConnectionFault}
 use Rattle.delivery.specs.declared.outcome.Outcome.TheVariants.{Opened, Done, Subscribed, Flying, Proposed, Decided, Turned, Handed, Faulted, Refused}
-use Rattle.delivery.specs.Core.State.{Core, new_core, names_at}
-use Rattle.delivery.specs.Core.Reports.{report_of}
 use Rattle.delivery.proofs.Core.Agreement.{agreements, all_agree}
 use Rattle.delivery.proofs.Core.Rows.{greeting, one}
 use Rattle.delivery.proofs.Core.Acts.{topic_list, Act, frame, topic, stamp, id, log_row, act, reads, without, played, shown_outcomes, subscribe, begin, send, send_in, commit, opens, propose, turn, A, B}
@@ -69,7 +64,7 @@ aborted_outcomes = refl
 aborted_names : names_at aborted ≡ A ∷ codes "b" ∷ codes "d" ∷ B ∷ []
 aborted_names = refl
 
-aborted_topics : map (λ q. q.topic) (report_of aborted).subscriptions ≡ topic 2 ∷ topic 1 ∷ topic 3 ∷ []
+aborted_topics : map (λ q. q.span.topic) (report_of aborted).subscriptions ≡ topic 2 ∷ topic 1 ∷ topic 3 ∷ []
 aborted_topics = refl
 
 aborted_agrees : agreements one aborted_acts ≡ all_agree

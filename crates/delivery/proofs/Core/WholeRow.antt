@@ -1,44 +1,22 @@
 -- One whole delivery: a connection subscribes to two topics, commits a transaction to both, is delivered an item of the first,
 -- and unsubscribes from it; its queue of the second, which takes one item, lags as a second transaction comes.
 use Rattle.std.proofs.Common.{inl, inr, refl, sym, ap, subst, ◌∙◌, arith, cond}
-use Rattle.std.specs.Prelude.{◌≡◌, ℕ, zero, suc, nat_lt, ◌==◌, ◌<◌, ◌≤◌, ◌+◌, ◌++◌, ◌||◌, length, map, take, Bool, true, false, if◌then◌else◌, slice_get, List, [], ◌∷◌, codes, Ok, Some}
+use Rattle.delivery.proofs.Words.Std.{◌≡◌, ℕ, zero, suc, nat_lt, ◌==◌, ◌<◌, ◌≤◌, ◌+◌, ◌++◌, ◌||◌, length, map, take, Bool, true, false, if◌then◌else◌, slice_get, List, [], ◌∷◌, codes, Ok, Some, option_to_list, false≢true, true≢false}
+use Rattle.delivery.proofs.Words.Topics.{Topic, TxnId, Stamp, CommitRow, Transaction, committed_id, stamp_of, agreed, EachOnce, SenderOrder, In, Item, LogRow, names, topics_of}
+use Rattle.delivery.proofs.Words.Frames.{RawFrame}
+use Rattle.delivery.proofs.Words.Lemmas.{some_same, none_some}
+use Rattle.delivery.proofs.Words.Machine.{log_row, item_at, is_due, shared_marks, SilentAfterClose, Answer, commits_of, delivered_items}
+use Rattle.delivery.proofs.Words.Core.{Event, Outcome, TopicList, CoreStep, BeginsWithFrames, fed_octets, frames_of, frame_in, reader_limits, account_of, released_log, released_frontier, text_out, new_core, QueueReport, Report, report_of, log_in, out_in, Told, told_of, Delivery, IsAsAnswered, DeliversAnswers}
 use Rattle.std.specs.Fmt.{digits}
-use Rattle.std.specs.Option.{option_to_list}
 use Rattle.std.specs.Str.{is_utf8, chars}
 use Rattle.std.specs.Char.{encode_utf8}
-use Rattle.std.proofs.lemmas.Bool.{false≢true, true≢false}
 use Rattle.stomp_escape.specs.Inner.Unescaping.{unescaped_from}
-use Rattle.stomp_frame.specs.declared.raw_frame.RawFrame.{RawFrame}
 use Rattle.stomp_frame.specs.declared.command.Command.TheVariants as commands
 use Rattle.stomp_frame.specs.Inner.Parser.{checked, line_at, after_eols, command_of, field_of, header_of, headers_at, counted_at, uncounted_at, body_at, frame_at}
 use Rattle.stomp_frame.proofs.Whole.{begins}
-use Rattle.mcast_txn.specs.declared.id.Topic.{Topic}
-use Rattle.mcast_txn.specs.declared.id.TxnId.{TxnId}
-use Rattle.mcast_txn.specs.declared.stamp.Stamp.{Stamp}
-use Rattle.mcast_txn.specs.Agreed.{CommitRow, Transaction, committed_id, stamp_of, agreed, EachOnce, SenderOrder}
-use Rattle.mcast_txn.specs.Lists.{In}
-use Rattle.mcast_txn.specs.Span.{Item, LogRow}
-use Rattle.mcast_txn.specs.TopicSet.{names}
-use Rattle.mcast_txn.specs.Transaction.{topics_of}
 use Rattle.mcast_group.specs.declared.cause.Cause.TheVariants.{Asked, Lag}
-use Rattle.mcast_group.proofs.Parts.{some_same, none_some}
-use Rattle.delivery.specs.declared.event.Event.{Event}
-use Rattle.delivery.specs.declared.outcome.Outcome.{Outcome}
 use Rattle.delivery.specs.declared.outcome.Outcome.TheVariants.{Opened, Fed, Done, Subscribed, Unsubscribed, Flying, Proposed, Decided, Turned, Handed}
-use Rattle.delivery.specs.Topics.{TopicList}
-use Rattle.delivery.specs.Theorem.Due.{log_row, item_at, is_due}
-use Rattle.delivery.specs.Theorem.Laws.{shared_marks}
-use Rattle.delivery.specs.Theorem.Settled.{SilentAfterClose}
-use Rattle.delivery.specs.Machine.Moves.{Answer}
-use Rattle.delivery.specs.Machine.Runs.{commits_of, delivered_items}
-use Rattle.delivery.specs.Core.Steps.{CoreStep, BeginsWithFrames, fed_octets, frames_of, frame_in, reader_limits}
-use Rattle.delivery.specs.Core.Account.{account_of, released_log, released_frontier}
-use Rattle.delivery.specs.Core.Output.{text_out}
-use Rattle.delivery.specs.Core.State.{new_core}
-use Rattle.delivery.specs.Core.Reports.{QueueReport, Report, report_of, log_in, out_in, span_of}
-use Rattle.delivery.specs.Core.Told.{Told, told_of}
-use Rattle.delivery.specs.Core.Delivery.{Delivery}
-use Rattle.delivery.specs.Core.Answered.{IsAsAnswered, DeliversAnswers}
+use Rattle.delivery.proofs.Core.ShownReadings.{shown_each}
 use Rattle.delivery.proofs.Core.Acts.{Act, topic_list, played, act, reads, frame, connect, subscribe, begin, send_in, send, commit, propose, turn, topic, stamp, id, made, part, x_to, shown_outcomes, log_row as row, A, B}
 use Rattle.delivery.proofs.Core.ToldEnds.{no_match, in_ends, not_silent, silent_at}
 use Rattle.delivery.proofs.Core.DeliveredAsTold.{EndsAt, delivered_told}
@@ -240,10 +218,10 @@ steps_tell = refl
 
 -- its two subscriptions
 abbrev closed : QueueReport
-closed = record { topic = topic 0; from = stamp 0 0; to = Some (stamp 1 1); cause = Some Asked; queued = at_a ∷ []; handed = at_a ∷ [] }
+closed = record { span = record { topic = topic 0; from = stamp 0 0; to = Some (stamp 1 1) }; cause = Some Asked; queued = at_a ∷ []; handed = at_a ∷ [] }
 
 abbrev lagged : QueueReport
-lagged = record { topic = topic 1; from = stamp 0 0; to = Some (stamp 1 1); cause = Some Lag; queued = at_b ∷ []; handed = at_b ∷ [] }
+lagged = record { span = record { topic = topic 1; from = stamp 0 0; to = Some (stamp 1 1) }; cause = Some Lag; queued = at_b ∷ []; handed = at_b ∷ [] }
 
 abbrev report : Report
 report = record {
@@ -314,7 +292,7 @@ closed_told = record {
   handed = refl;
   handed_prefix = ([], refl);
   bounded = λ later before e.
-      one_due (is_due (span_of closed) (released_frontier (topic 0) before) first_row) first_row (topic 0) (length (delivered_items 0 before));
+      one_due (is_due closed.span (released_frontier (topic 0) before) first_row) first_row (topic 0) (length (delivered_items 0 before));
 }
 
 lagged_told : IsAsAnswered 1 1 told report lagged
@@ -340,7 +318,7 @@ lagged_told = record {
   handed = refl;
   handed_prefix = ([], refl);
   bounded = λ later before e.
-      one_due (is_due (span_of lagged) (released_frontier (topic 1) before) first_row) first_row (topic 1) (length (delivered_items 1 before));
+      one_due (is_due lagged.span (released_frontier (topic 1) before) first_row) first_row (topic 1) (length (delivered_items 1 before));
 }
 
 queues_told : (s : ℕ) (q : QueueReport) → slice_get report.subscriptions s ≡ Some q → IsAsAnswered 1 s told report q
@@ -398,9 +376,9 @@ by_answers = record {
   silent_after_close = silent_at told silent;
 }
 
-asked_at : (s : ℕ) (q : QueueReport) → slice_get report.subscriptions s ≡ Some q → q.cause ≡ Some Asked → EndsAt q.topic s told
+asked_at : (s : ℕ) (q : QueueReport) → slice_get report.subscriptions s ≡ Some q → q.cause ≡ Some Asked → EndsAt q.span.topic s told
 asked_at zero q e cause =
-    subst (λ (z : QueueReport). EndsAt z.topic 0 told) (some_same _ q e)
+    subst (λ (z : QueueReport). EndsAt z.span.topic 0 told) (some_same _ q e)
     (Answer.Handed 1 at_b ∷ Answer.Turned (topic 1) 1 ∷ since_close, before_close, stamp 1 1, refl, refl)
 asked_at (suc zero) q e cause =
     let same : Lag ≡ Asked = some_same Lag Asked (ap (λ (z : QueueReport). z.cause) (some_same _ q e) ∙ cause) in cc
@@ -413,7 +391,7 @@ outs (suc c) lt = absurd (omega arith)
 
 is_delivered : Delivery topics 1 steps report
 is_delivered = record {
-  read = record { shown = refl; first = first };
+  read = record { shown = shown_each steps refl; first = first };
   delivered = delivered_told 1 told report asked_at silent by_answers;
   written = record {
     output = outs;

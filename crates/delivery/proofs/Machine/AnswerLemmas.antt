@@ -1,20 +1,13 @@
 -- What stands in the list of outcomes.
 use Rattle.std.proofs.Common.{◌≡◌, Bool, true, false, cond, inl, inr, List, [], ◌∷◌, ◌++◌, refl, sym, ap, subst, ◌∙◌}
-use Rattle.std.proofs.lemmas.Bool.{true≢false}
-use Rattle.mcast_txn.specs.Stamp.{stamp_lt, greatest}
-use Rattle.mcast_txn.specs.Agreed.{Transaction, CommitRow}
-use Rattle.mcast_txn.specs.Ids.{same_id}
-use Rattle.mcast_txn.specs.Lists.{In}
-use Rattle.mcast_txn.specs.declared.id.TxnId.{TxnId}
-use Rattle.mcast_txn.specs.declared.stamp.Stamp.{Stamp}
-use Rattle.mcast_txn.proofs.Orders.{id_equal, id_same}
-use Rattle.mcast_txn.proofs.Members.{In-append_left, In-push, not_head}
+use Rattle.delivery.proofs.Words.Std.{true≢false}
+use Rattle.delivery.proofs.Words.Topics.{stamp_lt, greatest, Transaction, CommitRow, same_id, In, TxnId, Stamp}
+use Rattle.delivery.proofs.Words.Lemmas.{id_equal, id_same, In-append_left, In-push, not_head}
+use Rattle.delivery.proofs.Words.Machine.{Answer, txn_of_id, commits_of, answers_of, final_world}
 use Rattle.mcast_txn.proofs.Greatest.{is_greatest}
-use Rattle.delivery.specs.Machine.Moves.{Answer}
 use Rattle.delivery.specs.Machine.Moves.Answer.{Begun, Ticket, Decided}
-use Rattle.delivery.specs.Machine.Runs.{txn_of_id, commits_of, tickets_of}
+use Rattle.delivery.specs.Machine.Runs.{tickets_of}
 use Rattle.delivery.specs.Theorem.Laws
-use Rattle.delivery.specs.Theorem.Laws.{answers_of, final_world}
 use Rattle.delivery.proofs.Machine.Invariant.{row}
 use Rattle.delivery.proofs.Machine.InvariantIsKept.{tickets}
 use Rattle.delivery.proofs.Theorem.AcceptedIsDue.{reached}

@@ -1,82 +1,26 @@
 -- No event lowers a topic's clock.
-use Rattle.std.proofs.Common.{ℕ, ◌≤◌, List, [], ◌∷◌, set, Option, Some, None, arith}
-use Rattle.mcast_txn.specs.Part.{part_at}
-use Rattle.mcast_txn.specs.Ballot.{Decision}
-use Rattle.mcast_txn.specs.declared.id.Topic.{Topic}
-use Rattle.mcast_txn.specs.declared.id.TxnId.{TxnId}
-use Rattle.mcast_txn.specs.declared.draft.sent_message.SentMessage.{SentMessage}
-use Rattle.mcast_group.specs.declared.fault.ProposeFault.{ProposeFault}
-use Rattle.mcast_txn.specs.Span.{Item}
-use Rattle.mcast_group.specs.Machine.{TopicState, Entry, after_propose, after_cancel, after_learn, after_release, after_turn, after_unsubscribe, decided_stamp}
-use Rattle.mcast_group.proofs.Turning.{release_keeps, turn_keeps}
-use Rattle.delivery.specs.Machine.World.{World, Leftover, topic_at, speaker, subscription_at, entry_at}
-use Rattle.delivery.specs.Machine.Moves.{Move, world_after, move_effect, find_leftover, find_verdict, verdict_in, oldest_live, commit_effect, proposal_fault, propose_effect, cancel_effect, learn_effect, take_effect, undecided_at, leave_effect, close_effect_of, queue_has_room}
-use Rattle.delivery.specs.Machine.Moves.Move.{AddsTopic, Commits, Subscribes, Unsubscribes, Leaves, Proposes, Cancels, Learns, Releases, Turns, Takes}
-use Rattle.delivery.proofs.Machine.Invariant.{topic_in}
-use Rattle.delivery.proofs.Machine.TopicSteps.{at_topic_from}
-use Rattle.delivery.proofs.Machine.SubscriptionSteps.{at_added}
-use Rattle.delivery.proofs.Machine.InvariantIsKept.{by_refusal}
+use Rattle.std.proofs.Common.{◌≤◌, arith}
+use Rattle.delivery.proofs.Words.Topics.{Topic, TopicState}
+use Rattle.delivery.proofs.Words.Lemmas.{release_keeps, turn_keeps}
+use Rattle.delivery.proofs.Words.Machine.{World, topic_at, Move, world_after}
+use Rattle.delivery.proofs.Machine.TopicOfMove.{Steps, topic_after}
 
--- each clock is at least what it was
-abbrev Grow : List TopicState → List TopicState → Type 0
-Grow old new = (u : Topic) → (topic_in old u).clock ≤ (topic_in new u).clock
+abbrev Grows : TopicState → TopicState → Type 0
+Grows x y = x.clock ≤ y.clock
 
-grow_same : (topics : List TopicState) → Grow topics topics
-grow_same topics u = omega arith
-
-grow_topic : (topics : List TopicState) (t : Topic) (y : TopicState) → (topic_in topics t).clock ≤ y.clock → Grow topics (set topics t.0 y)
-grow_topic topics t y l u =
-    at_topic_from (λ v z. (topic_in topics v).clock ≤ z.clock) topics t u y (λ k. l) (omega arith)
-
-grow_proposed : (w : World) (c : ℕ) (t : Topic) (o : Option ProposeFault) → Grow w.topics (propose_effect w c t o).topics
-grow_proposed w c t None =
-    grow_topic w.topics t (after_propose (speaker w c).floor (part_at (undecided_at w c).txn.id (undecided_at w c).txn.sends t) (topic_at w t)) (omega arith)
-grow_proposed w c t (Some fault) = grow_same w.topics
-
-grow_cancelled : (w : World) (c : ℕ) (t : Topic) (o : Option Leftover) → Grow w.topics (cancel_effect w c t o).topics
-grow_cancelled w c t None = grow_same w.topics
-grow_cancelled w c t (Some k) = grow_topic w.topics t (after_cancel k.id (topic_at w t)) (omega arith)
-
-grow_learned : (w : World) (t : Topic) (id : TxnId) (o : Option Decision) → Grow w.topics (learn_effect w t id o).topics
-grow_learned w t id None = grow_same w.topics
-grow_learned w t id (Some v) = grow_topic w.topics t (after_learn id (decided_stamp v) (topic_at w t)) (omega arith)
-
-grow_closed : (w : World) (s : ℕ) (o : Option Entry) → Grow w.topics (close_effect_of w s o).topics
-grow_closed w s None = grow_same w.topics
-grow_closed w s (Some e) =
-    let t = (subscription_at w s).topic in grow_topic w.topics t (after_unsubscribe s (topic_at w t)) (omega arith)
-
-grow_left : (w : World) (c : ℕ) (o : Option ℕ) → Grow w.topics (leave_effect w c o).topics
-grow_left w c None = grow_same w.topics
-grow_left w c (Some s) = grow_closed w s (entry_at w s)
-
-grow_handed : (w : World) (s : ℕ) (o : Option Item) → Grow w.topics (take_effect w s o).topics
-grow_handed w s None = grow_same w.topics
-grow_handed w s (Some item) = grow_same w.topics
-
-grow_flown : (w : World) (c : ℕ) (sends : List SentMessage) → Grow w.topics (commit_effect w c sends).topics
-grow_flown w c [] = grow_same w.topics
-grow_flown w c (first ∷ others) = grow_same w.topics
-
-grow_effect : (w : World) (e : Move) → Grow w.topics (move_effect w e).topics
-grow_effect w (AddsTopic clock) u =
-    at_added (λ v z. (topic_in w.topics u).clock ≤ z.clock) w.topics w.log_limit clock u (λ k. let m : (topic_in w.topics u).clock ≤ 0 = k in omega arith) (omega arith)
-grow_effect w (Commits c sends) u = grow_flown w c sends u
-grow_effect w (Subscribes c t) u = grow_topic w.topics t _ (omega arith) u
-grow_effect w (Unsubscribes c s) u = grow_closed w s (entry_at w s) u
-grow_effect w (Leaves c) u = grow_left w c (oldest_live c 0 w.subscriptions) u
-grow_effect w (Proposes c t memory) u = grow_proposed w c t (proposal_fault w c t memory) u
-grow_effect w (Cancels c t) u = grow_cancelled w c t (find_leftover t (speaker w c).leftovers) u
-grow_effect w (Learns t id) u = grow_learned w t id (find_verdict id w.verdicts) u
-grow_effect w (Releases t) u =
-    grow_topic w.topics t (after_release (queue_has_room w) (topic_at w t))
-    (release_keeps (λ z. (topic_at w t).clock ≤ z.clock) (queue_has_room w) (topic_at w t) (omega arith) (λ p e. omega arith)) u
-grow_effect w (Turns t) u =
-    grow_topic w.topics t (after_turn (queue_has_room w) (verdict_in w) (topic_at w t))
-    (turn_keeps (λ z. (topic_at w t).clock ≤ z.clock) (queue_has_room w) (verdict_in w) (λ x id v f n k. omega arith) (λ x p e k. k) (topic_at w t) (omega arith)) u
-grow_effect w (Takes s) u = grow_handed w s _ u
-grow_effect w _ u = omega arith
+grows : Steps Grows
+grows = record {
+  same = λ x. omega arith;
+  subscribed = λ n x. omega arith;
+  unsubscribed = λ s x. omega arith;
+  proposed = λ floor part x. omega arith;
+  cancelled = λ id x. omega arith;
+  learned = λ id stamp x. omega arith;
+  released = λ takes x. release_keeps (λ z. x.clock ≤ z.clock) takes x (omega arith) (λ p e. omega arith);
+  turned = λ takes find x. turn_keeps (λ z. x.clock ≤ z.clock) takes find (λ y id v f n k. omega arith) (λ y p e k. k) x (omega arith);
+  added = λ x t log_limit clock k. (let m : x.clock ≤ 0 = k in omega arith);
+}
 
 -- no event lowers a topic's clock
 pub clock_grows : (w : World) (e : Move) (u : Topic) → (topic_at w u).clock ≤ (topic_at (world_after w e) u).clock
-clock_grows w e u = by_refusal (λ v o. (topic_at w u).clock ≤ (topic_at v u).clock) w e (λ why. omega arith) (λ n. grow_effect w e u)
+clock_grows w e u = topic_after Grows grows w e u

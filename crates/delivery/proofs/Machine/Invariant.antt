@@ -1,23 +1,9 @@
 -- What every world that a run leads to keeps.
 use Rattle.std.proofs.Common.{◌≡◌, ◌≢◌, ℕ, ◌<◌, ◌≤◌, true, false, ◌⊎◌, List, [], ◌∷◌, length, get_or, Some, None}
-use Rattle.mcast_txn.specs.Stamp.{stamp_lt, zero_stamp}
-use Rattle.mcast_txn.specs.Part.{part_at}
-use Rattle.mcast_txn.specs.Transaction.{TopicPart, topics_of}
-use Rattle.mcast_txn.specs.Agreed.{Transaction, CommitRow, stamp_of}
-use Rattle.mcast_txn.specs.Ids.{same_id}
-use Rattle.mcast_txn.specs.Lists.{In}
-use Rattle.mcast_txn.specs.TopicSet.{names}
-use Rattle.mcast_txn.specs.Ballot.{Decision}
-use Rattle.mcast_txn.specs.declared.id.Topic.{Topic}
-use Rattle.mcast_txn.specs.declared.id.TxnId.{TxnId}
-use Rattle.mcast_txn.specs.declared.stamp.Stamp.{Stamp}
+use Rattle.delivery.proofs.Words.Topics.{stamp_lt, zero_stamp, part_at, TopicPart, topics_of, Transaction, CommitRow, stamp_of, same_id, In, names, Decision, Topic, TxnId, Stamp, LogRow, Item, IsSound, IsQueueOf, TopicState, Pending, Entry, EntryEnd, HasOneRowEach, new_topic, decided_stamp}
+use Rattle.delivery.proofs.Words.Lemmas.{Waits}
+use Rattle.delivery.proofs.Words.Machine.{log_row, item_at, World, Undecided, Leftover, SenderState, Subscription, new_sender, no_subscription}
 use Rattle.mcast_txn.proofs.Sorting.{Apart}
-use Rattle.mcast_txn.specs.Span.{LogRow, Item}
-use Rattle.mcast_group.specs.Sound.{IsSound, IsQueueOf}
-use Rattle.mcast_group.specs.Machine.{TopicState, Pending, Entry, EntryEnd, HasOneRowEach, new_topic, decided_stamp}
-use Rattle.mcast_group.proofs.Parts.{Waits}
-use Rattle.delivery.specs.Theorem.Due.{log_row, item_at}
-use Rattle.delivery.specs.Machine.World.{World, Undecided, Leftover, SenderState, Subscription, new_sender, no_subscription}
 
 -- a row: a transaction with a stamp, which is its ticket or, in the commit list, its own
 abbrev pub row : Transaction → Stamp → CommitRow

@@ -1,35 +1,12 @@
 -- Every event keeps the invariant, and the commit list of the past is the core's.
-use Rattle.std.specs.Option.{option_or}
-use Rattle.std.specs.Option.{option_map}
+use Rattle.delivery.proofs.Words.Std.{option_or, option_map, is_some, true≢false, and_parts, ltb-true, not-false}
+use Rattle.delivery.proofs.Words.Topics.{greatest, part_at, topics_of, Transaction, CommitRow, same_id, In, names, Decision, Topic, TxnId, SentMessage, ProposeFault, LearnFault, first_refusal, Item, Pending, Entry, propose_fault, is_pending, after_learn, due_part, after_release, after_turn, decided_stamp}
+use Rattle.delivery.proofs.Words.Lemmas.{id_equal, id_itself, at_set, NoneHolds, passes, some_same, none_some, not_true}
+use Rattle.delivery.proofs.Words.Machine.{Objection, World, Undecided, Leftover, SenderState, topic_at, new_sender, speaker, entry_at, speaker_number, Move, Answer, world_after, answer_to, move_refusal, move_effect, move_answer, undecided_at, undecided_or_none, find_leftover, find_verdict, verdict_in, oldest_live, has_ticket, next_txn, next_ticket, connect_effect, commit_effect, commit_answer, proposal_fault, propose_effect, propose_answer, decide_effect, withdraw_effect, cancel_effect, cancel_answer, learn_effect, learn_objection, release_answer, queue_has_room, take_effect, take_answer, leave_effect, leave_answer, close_effect, close_effect_of, or_out_of_memory, learn_objection_of, is_topic, move_refusals, topic_objection, txn_of_id, commits_of}
 use Rattle.std.proofs.Common.{◌≡◌, ℕ, ◌+◌, ◌<◌, ◌≤◌, Bool, true, false, cond, not, inl, inr, List, [], ◌∷◌, ◌++◌, length, set, Option, Some, None, refl, sym, ap, subst, ◌∙◌, arith}
-use Rattle.std.specs.Option.{is_some}
-use Rattle.std.proofs.lemmas.Bool.{true≢false, and_parts, ltb-true, not-false}
-use Rattle.mcast_txn.specs.Stamp.{greatest}
-use Rattle.mcast_txn.specs.Part.{part_at}
-use Rattle.mcast_txn.specs.Transaction.{topics_of}
-use Rattle.mcast_txn.specs.Agreed.{Transaction, CommitRow}
-use Rattle.mcast_txn.specs.Ids.{same_id}
-use Rattle.mcast_txn.specs.Lists.{In}
-use Rattle.mcast_txn.specs.TopicSet.{names}
-use Rattle.mcast_txn.specs.Ballot.{Decision}
-use Rattle.mcast_txn.specs.declared.id.Topic.{Topic}
-use Rattle.mcast_txn.specs.declared.id.TxnId.{TxnId}
-use Rattle.mcast_txn.specs.declared.draft.sent_message.SentMessage.{SentMessage}
-use Rattle.mcast_txn.proofs.Orders.{id_equal, id_itself}
-use Rattle.mcast_txn.proofs.Members.{at_set}
-use Rattle.mcast_group.specs.declared.fault.ProposeFault.{ProposeFault}
-use Rattle.mcast_group.specs.declared.fault.LearnFault.{LearnFault}
-use Rattle.mcast_txn.specs.Checks.{first_refusal}
-use Rattle.mcast_txn.specs.Span.{Item}
-use Rattle.mcast_txn.proofs.CheckLemmas.{NoneHolds, passes}
-use Rattle.mcast_group.specs.Machine.{Pending, Entry, propose_refusals, propose_fault, is_pending, after_learn, due_part, after_release, after_turn, decided_stamp}
-use Rattle.mcast_group.proofs.Parts.{some_same, none_some, not_true}
-use Rattle.delivery.specs.Machine.Objections.{Objection}
-use Rattle.delivery.specs.Machine.World.{World, Undecided, Leftover, SenderState, topic_at, new_sender, speaker, entry_at, speaker_number}
-use Rattle.delivery.specs.Machine.Moves.{Move, Answer, world_after, answer_to, move_refusal, move_effect, move_answer, undecided_at, undecided_or_none, find_leftover, find_verdict, verdict_in, oldest_live, has_ticket, next_txn, next_ticket, connect_effect, commit_effect, commit_answer, proposal_fault, propose_effect, propose_answer, decide_effect, withdraw_effect, cancel_effect, cancel_answer, learn_effect, learn_objection, release_answer, queue_has_room, take_effect, take_answer, leave_effect, leave_answer, close_effect, close_effect_of, or_out_of_memory, learn_objection_of, is_topic, move_refusals, topic_objection}
+use Rattle.mcast_group.specs.Machine.{propose_refusals}
 use Rattle.delivery.specs.Machine.Moves.Move.{AddsTopic, Opens, Connects, Commits, Subscribes, Unsubscribes, Disconnects, Errs, Lost, Leaves, Proposes, Decides, Withdraws, Cancels, Learns, Releases, Turns, Takes}
 use Rattle.delivery.specs.Machine.Moves.Answer.{Refused, Done, Begun, Ticket}
-use Rattle.delivery.specs.Machine.Runs.{txn_of_id, commits_of}
 use Rattle.delivery.proofs.Machine.Invariant.{row, sender_in, Inv, Holds}
 use Rattle.delivery.proofs.Machine.TopicSteps.{topic_step, Keeps-learned, Keeps-release, Keeps-turned, Finds}
 use Rattle.delivery.proofs.Machine.ProposeStep.{New, enter_step}

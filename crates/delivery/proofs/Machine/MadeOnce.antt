@@ -1,16 +1,10 @@
 -- A run makes each transaction once: what is looked up by its id is the transaction itself.
 use Rattle.std.proofs.Common.{◌≡◌, ℕ, ◌+◌, ◌≤◌, ◌==◌, Bool, true, false, cond, inl, inr, List, [], ◌∷◌, refl, ap, subst, ◌∙◌, arith}
-use Rattle.std.proofs.lemmas.Bool.{eq-eqb}
-use Rattle.mcast_txn.specs.Agreed.{Transaction}
-use Rattle.mcast_txn.specs.Ids.{same_id}
-use Rattle.mcast_txn.specs.Lists.{In}
-use Rattle.mcast_txn.specs.declared.id.TxnId.{TxnId}
-use Rattle.mcast_txn.proofs.Members.{not_head}
-use Rattle.mcast_txn.proofs.Orders.{id_equal, id_itself}
-use Rattle.mcast_group.proofs.Parts.{not_true}
-use Rattle.delivery.specs.Machine.Moves.{Answer}
+use Rattle.delivery.proofs.Words.Std.{eq-eqb}
+use Rattle.delivery.proofs.Words.Topics.{Transaction, same_id, In, TxnId}
+use Rattle.delivery.proofs.Words.Lemmas.{not_head, id_equal, id_itself, not_true}
+use Rattle.delivery.proofs.Words.Machine.{Answer, txn_of_id, txn_count, Numbered}
 use Rattle.delivery.specs.Machine.Moves.Answer.{Begun}
-use Rattle.delivery.specs.Machine.Runs.{txn_of_id, txn_count, Numbered}
 
 more_made : (n : ℕ) (b : Bool) → n ≤ cond b (n + 1) n
 more_made n true = omega arith

@@ -1,26 +1,11 @@
 -- A ticket is given.
 use Rattle.std.proofs.Common.{◌≡◌, ◌≢◌, ℕ, ◌+◌, ◌<◌, ◌≤◌, ◌==◌, Bool, true, false, cond, inl, inr, List, [], ◌∷◌, length, set, Some, None, refl, sym, ap, subst, ◌∙◌, arith, ltb}
-use Rattle.std.proofs.lemmas.Bool.{true≢false, eq-eqb, cases_lt}
-use Rattle.std.proofs.lemmas.List.{get_or_past}
-use Rattle.mcast_txn.specs.Stamp.{stamp_lt}
-use Rattle.mcast_txn.specs.Part.{part_at}
-use Rattle.mcast_txn.specs.Transaction.{TopicPart, topics_of}
-use Rattle.mcast_txn.specs.Agreed.{Transaction, CommitRow}
-use Rattle.mcast_txn.specs.Ids.{same_id}
-use Rattle.mcast_txn.specs.Lists.{In}
-use Rattle.mcast_txn.specs.TopicSet.{names}
-use Rattle.mcast_txn.specs.Ballot.{Decision}
-use Rattle.mcast_txn.specs.declared.id.Topic.{Topic}
-use Rattle.mcast_txn.specs.declared.id.TxnId.{TxnId}
-use Rattle.mcast_txn.specs.declared.stamp.Stamp.{Stamp}
-use Rattle.mcast_txn.proofs.Orders.{lt_by_number, id_equal, id_same, id_turned, same_topics}
-use Rattle.mcast_txn.proofs.Inserting.{In-insert, In-insert_cases, insert_one}
-use Rattle.mcast_txn.proofs.Members.{any_from, at_set_within}
-use Rattle.mcast_group.specs.Machine.{TopicState, Pending, new_topic, is_pending, next_number, after_propose}
-use Rattle.mcast_group.proofs.Parts.{Waits, some_same, none_some}
+use Rattle.delivery.proofs.Words.Std.{true≢false, eq-eqb, cases_lt, get_or_past}
+use Rattle.delivery.proofs.Words.Topics.{stamp_lt, part_at, TopicPart, topics_of, Transaction, CommitRow, same_id, In, names, Decision, Topic, TxnId, Stamp, TopicState, Pending, new_topic, is_pending, next_number, after_propose}
+use Rattle.delivery.proofs.Words.Lemmas.{id_equal, id_same, same_topics, In-insert, In-insert_cases, insert_one, any_from, at_set_within, Waits, some_same, none_some}
+use Rattle.delivery.proofs.Words.Machine.{World, Undecided, Leftover, SenderState, new_sender, has_ticket, insert_ticket}
+use Rattle.mcast_txn.proofs.Orders.{lt_by_number, id_turned}
 use Rattle.mcast_group.proofs.Keeping.{Sound-proposed}
-use Rattle.delivery.specs.Machine.World.{World, Undecided, Leftover, SenderState, new_sender}
-use Rattle.delivery.specs.Machine.Moves.{has_ticket, insert_ticket}
 use Rattle.delivery.proofs.Machine.Invariant.{row, Consistent, Uncommitted, Ticketed, Committed, Tied, topic_in, OneEach, Flies, IsLeft, Serves, sender_in, Voted, Inv, Holds}
 use Rattle.delivery.proofs.Machine.TopicSteps.{flies_uncommitted, Entries-same, at_topic_from, Subscribes-topic}
 

@@ -1,15 +1,9 @@
 -- How a topic's step moves the end and the queue of its subscriptions.
 use Rattle.std.proofs.Common.{◌≡◌, ℕ, zero, suc, ◌+◌, ◌-◌, ◌<◌, ◌≤◌, ◌==◌, Bool, true, false, cond, List, [], ◌∷◌, ◌++◌, map, length, Option, Some, None, refl, sym, ap, subst, ◌∙◌, arith}
-use Rattle.std.proofs.lemmas.Bool.{eqb-true, ltb-true, true≢false, lt-ltb}
-use Rattle.std.proofs.lemmas.List.{length_push}
-use Rattle.mcast_txn.specs.declared.stamp.Stamp.{Stamp}
-use Rattle.mcast_txn.specs.Span.{Item}
-use Rattle.mcast_group.specs.Machine.{TopicState, Pending, Entry, find_entry, entry_after, due_part, after_release, after_tries, after_releases, after_turn, item_of}
-use Rattle.mcast_group.proofs.Parts.{none_some, after_release_if}
-use Rattle.mcast_group.proofs.Counting.{tried_all_subs}
-use Rattle.delivery.specs.Machine.World.{World, subscription_at}
-use Rattle.delivery.specs.Machine.Observed.{entry_items, entry_to}
-use Rattle.delivery.specs.Machine.Moves.{queue_has_room, verdict_in}
+use Rattle.delivery.proofs.Words.Std.{eqb-true, ltb-true, true≢false, lt-ltb, length_push}
+use Rattle.delivery.proofs.Words.Topics.{Stamp, Item, TopicState, Pending, Entry, find_entry, entry_after, due_part, after_release, after_tries, after_releases, after_turn, item_of}
+use Rattle.delivery.proofs.Words.Lemmas.{none_some, after_release_if, tried_all_subs}
+use Rattle.delivery.proofs.Words.Machine.{World, subscription_at, entry_items, entry_to, queue_has_room, verdict_in}
 use Rattle.delivery.proofs.Machine.TopicSteps.{map_same, map_map}
 
 -- from one end and queue to the next: an end stays and its queue with it, the queue keeps its bound, and it is full where it ends

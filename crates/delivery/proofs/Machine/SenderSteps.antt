@@ -1,28 +1,13 @@
 -- A transaction is made, is decided, is withdrawn, and its tickets are cancelled.
 use Rattle.std.proofs.Common.{◌≡◌, ◌≢◌, ℕ, zero, suc, ◌+◌, ◌<◌, ◌≤◌, ◌==◌, Bool, true, false, cond, ◌⊎◌, inl, inr, List, [], ◌∷◌, ◌++◌, map, length, set, Some, None, refl, sym, ap, subst, ◌∙◌, arith, ltb}
-use Rattle.std.proofs.lemmas.Bool.{true≢false, eqb-true, eq-eqb}
-use Rattle.mcast_txn.specs.Stamp.{stamp_lt, greatest}
-use Rattle.mcast_txn.specs.Transaction.{topics_of, insert_topic}
-use Rattle.mcast_txn.specs.Agreed.{Transaction, CommitRow, stamp_of}
-use Rattle.mcast_txn.specs.Ids.{same_id}
-use Rattle.mcast_txn.specs.Lists.{In}
-use Rattle.mcast_txn.specs.TopicSet.{names}
-use Rattle.mcast_txn.specs.Ballot.{Decision}
-use Rattle.mcast_txn.specs.declared.id.Topic.{Topic}
-use Rattle.mcast_txn.specs.declared.id.TxnId.{TxnId}
-use Rattle.mcast_txn.specs.declared.draft.sent_message.SentMessage.{SentMessage}
-use Rattle.mcast_txn.specs.declared.stamp.Stamp.{Stamp}
-use Rattle.mcast_txn.proofs.Orders.{lt_irrefl, lt_asym, le_lt, id_equal, id_same, same_topics}
-use Rattle.mcast_txn.proofs.Members.{In-append_left, In-push, In-map_cases, any_found, all_at, at_set, at_set_within, push_one, push_two}
+use Rattle.delivery.proofs.Words.Std.{true≢false, eqb-true, eq-eqb}
+use Rattle.delivery.proofs.Words.Topics.{stamp_lt, greatest, topics_of, insert_topic, Transaction, CommitRow, stamp_of, same_id, In, names, Decision, Topic, TxnId, SentMessage, Stamp, Item, TopicState, new_topic, after_cancel}
+use Rattle.delivery.proofs.Words.Lemmas.{lt_irrefl, lt_asym, le_lt, id_equal, id_same, same_topics, In-append_left, In-push, In-map_cases, any_found, at_set, at_set_within, push_one, Waits, Waits-without, others, some_same, none_some}
+use Rattle.delivery.proofs.Words.Machine.{log_row, World, Undecided, Leftover, SenderState, Subscription, new_sender, has_ticket, is_complete, leftover, find_leftover, drop_leftover}
+use Rattle.mcast_txn.proofs.Members.{all_at, push_two}
 use Rattle.mcast_txn.proofs.Sorting.{Apart-push}
 use Rattle.mcast_txn.proofs.Greatest.{greatest_in, greatest_past}
-use Rattle.mcast_txn.specs.Span.{Item}
-use Rattle.mcast_group.specs.Machine.{TopicState, new_topic, after_cancel}
-use Rattle.mcast_group.proofs.Parts.{Waits, Waits-without, others, some_same, none_some}
 use Rattle.mcast_group.proofs.Keeping.{Sound-cancelled}
-use Rattle.delivery.specs.Theorem.Due.{log_row}
-use Rattle.delivery.specs.Machine.World.{World, Undecided, Leftover, SenderState, Subscription, new_sender}
-use Rattle.delivery.specs.Machine.Moves.{has_ticket, is_complete, leftover, find_leftover, drop_leftover}
 use Rattle.delivery.proofs.Machine.Invariant.{row, Consistent, Uncommitted, Committed, Itemed, Tied, topic_in, OneEach, LeftApart, Flies, IsLeft, Serves, sender_in, Voted, HasVote, sub_in, Subscribes, Inv, Holds}
 use Rattle.delivery.proofs.Machine.TopicSteps.{flies_uncommitted, Entries-same, at_topic, Subscribes-topic}
 use Rattle.delivery.proofs.Machine.ProposeStep.{within_senders}

@@ -1,20 +1,9 @@
 -- What each event makes of subscriptions: where they begin and end, and how much their queues hold.
 use Rattle.std.proofs.Common.{◌≡◌, ℕ, ◌+◌, ◌<◌, ◌≤◌, ◌==◌, nat_lt, Bool, true, false, cond, List, [], ◌∷◌, length, set, get_or, Option, Some, None, refl, sym, ap, subst, ◌∙◌, arith}
-use Rattle.std.proofs.lemmas.List.{length_push}
-use Rattle.mcast_txn.specs.Part.{part_at}
-use Rattle.mcast_txn.specs.Ballot.{Decision}
-use Rattle.mcast_txn.specs.declared.id.Topic.{Topic}
-use Rattle.mcast_txn.specs.declared.id.TxnId.{TxnId}
-use Rattle.mcast_txn.specs.declared.draft.sent_message.SentMessage.{SentMessage}
-use Rattle.mcast_txn.specs.declared.stamp.Stamp.{Stamp}
-use Rattle.mcast_txn.proofs.Members.{at_set, at_set_within}
-use Rattle.mcast_group.specs.declared.fault.ProposeFault.{ProposeFault}
-use Rattle.mcast_txn.specs.Span.{Item}
-use Rattle.mcast_group.specs.Machine.{TopicState, Entry, EntryEnd, find_entry, insert_entry, end_of, after_propose, after_cancel, after_learn, after_unsubscribe, decided_stamp}
-use Rattle.mcast_group.proofs.Parts.{none_some}
-use Rattle.delivery.specs.Machine.World.{World, Leftover, Subscription, no_subscription, topic_at, speaker, subscription_at, entry_at, with_topic}
-use Rattle.delivery.specs.Machine.Observed.{entry_items, entry_to, accepted_at, end_at}
-use Rattle.delivery.specs.Machine.Moves.{Move, Answer, world_after, move_effect, find_leftover, find_verdict, oldest_live, commit_effect, proposal_fault, propose_effect, cancel_effect, learn_effect, take_effect, undecided_at, leave_effect, close_effect_of}
+use Rattle.delivery.proofs.Words.Std.{length_push}
+use Rattle.delivery.proofs.Words.Topics.{part_at, Decision, Topic, TxnId, SentMessage, Stamp, ProposeFault, Item, TopicState, Entry, EntryEnd, find_entry, insert_entry, end_of, after_propose, after_cancel, after_learn, after_unsubscribe, decided_stamp}
+use Rattle.delivery.proofs.Words.Lemmas.{at_set, at_set_within, none_some}
+use Rattle.delivery.proofs.Words.Machine.{World, Leftover, Subscription, no_subscription, topic_at, speaker, subscription_at, entry_at, with_topic, entry_items, entry_to, accepted_at, end_at, Move, Answer, world_after, move_effect, find_leftover, find_verdict, oldest_live, commit_effect, proposal_fault, propose_effect, cancel_effect, learn_effect, take_effect, undecided_at, leave_effect, close_effect_of}
 use Rattle.delivery.specs.Machine.Moves.Move.{AddsTopic, Commits, Subscribes, Unsubscribes, Leaves, Proposes, Cancels, Learns, Releases, Turns, Takes}
 use Rattle.delivery.proofs.Machine.Invariant.{topic_in, Owned}
 use Rattle.delivery.proofs.Machine.TopicSteps.{at_topic_from}

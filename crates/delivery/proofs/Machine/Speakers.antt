@@ -1,14 +1,12 @@
 -- Whom a connection speaks for, where a test says that it speaks for somebody, and whom it claims.
 use Rattle.std.proofs.Common.{◌≡◌, ℕ, ◌<◌, true, false, length, get_or, Option, Some, None, refl, sym, ap, ◌∙◌, arith, set, subst}
-use Rattle.std.specs.Option.{is_some, unwrap_or}
-use Rattle.std.proofs.lemmas.Bool.{true≢false, ltb-true, not-false}
-use Rattle.mcast_group.proofs.Parts.{some_same, none_some}
-use Rattle.delivery.specs.Machine.World.{World, SenderState, new_sender, connection_at, sender_at, speaker, speaker_number, is_in_use, with_sender, Leftover}
-use Rattle.delivery.specs.Machine.Moves.{move_refusal}
+use Rattle.delivery.proofs.Words.Std.{is_some, unwrap_or, true≢false, ltb-true, not-false}
+use Rattle.delivery.proofs.Words.Topics.{In}
+use Rattle.delivery.proofs.Words.Lemmas.{some_same, none_some}
+use Rattle.delivery.proofs.Words.Machine.{World, SenderState, new_sender, connection_at, sender_at, speaker, speaker_number, is_in_use, with_sender, Leftover, move_refusal}
 use Rattle.delivery.specs.Machine.Moves.Move.{Connects}
 use Rattle.delivery.proofs.Machine.InvariantIsKept.{checked}
 use Rattle.delivery.proofs.Machine.SubscriptionSteps.{beyond, set_length}
-use Rattle.mcast_txn.specs.Lists.{In}
 
 some_unwrapped : (o : Option ℕ) (d : ℕ) → is_some o ≡ true → o ≡ Some (unwrap_or o d)
 some_unwrapped None d e = absurd (true≢false (sym e))

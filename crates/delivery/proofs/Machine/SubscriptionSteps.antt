@@ -1,22 +1,13 @@
 -- Subscriptions begin, end and are handed items; topics are added.
 use Rattle.std.proofs.Common.{◌≡◌, ◌≢◌, ℕ, zero, suc, ◌+◌, ◌<◌, ◌≤◌, ◌==◌, Bool, true, false, cond, not, inl, inr, List, [], ◌∷◌, ◌++◌, length, get_or, set, Option, Some, None, refl, sym, ap, subst, ◌∙◌, arith}
 use Rattle.std.specs.List.{filter}
-use Rattle.std.proofs.lemmas.Bool.{true≢false, not-true, eqb-true, eq-eqb}
-use Rattle.std.proofs.lemmas.List.{length_push}
-use Rattle.mcast_txn.proofs.Orders.{same_topics}
-use Rattle.mcast_txn.specs.Agreed.{CommitRow}
-use Rattle.mcast_txn.specs.Lists.{In}
-use Rattle.mcast_txn.specs.declared.id.Topic.{Topic}
-use Rattle.mcast_txn.specs.declared.stamp.Stamp.{Stamp}
-use Rattle.mcast_txn.proofs.Inserting.{In-insert, In-insert_cases, insert_one, insert_two}
-use Rattle.mcast_txn.proofs.Members.{In-filter, In-filter_cases, at_set, at_set_within}
-use Rattle.mcast_txn.specs.Span.{Item}
-use Rattle.mcast_group.specs.Sound.{IsSound, IsQueueOf}
-use Rattle.mcast_group.specs.Machine.{TopicState, Entry, EntryEnd, new_topic, find_entry, insert_entry, after_subscribe, end_of, after_unsubscribe}
-use Rattle.mcast_group.proofs.Parts.{Waits, some_same, none_some, not_true}
+use Rattle.delivery.proofs.Words.Std.{true≢false, not-true, eqb-true, eq-eqb, length_push}
+use Rattle.delivery.proofs.Words.Topics.{CommitRow, In, Topic, Stamp, Item, IsSound, IsQueueOf, TopicState, Entry, EntryEnd, new_topic, find_entry, insert_entry, after_subscribe, end_of, after_unsubscribe}
+use Rattle.delivery.proofs.Words.Lemmas.{same_topics, In-insert, In-insert_cases, insert_one, In-filter, In-filter_cases, at_set, at_set_within, Waits, some_same, none_some, not_true, Sound-new}
+use Rattle.delivery.proofs.Words.Machine.{World, Subscription, SenderState, new_sender, no_subscription}
+use Rattle.mcast_txn.proofs.Inserting.{insert_two}
 use Rattle.mcast_group.proofs.Queues.{Queue-ended}
-use Rattle.mcast_group.proofs.Keeping.{Sound-new, Sound-subscribed, Sound-unsubscribed}
-use Rattle.delivery.specs.Machine.World.{World, Subscription, SenderState, new_sender, no_subscription}
+use Rattle.mcast_group.proofs.Keeping.{Sound-subscribed, Sound-unsubscribed}
 use Rattle.delivery.proofs.Machine.Invariant.{Tied, topic_in, Serves, sender_in, HasEntry, Owned, IsClosed, sub_in, Subscribes, Inv, Holds}
 use Rattle.delivery.proofs.Machine.TopicSteps.{Serves-topics, at_topic, at_topic_from}
 

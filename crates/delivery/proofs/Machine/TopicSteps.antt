@@ -1,25 +1,12 @@
 -- What a step at one topic keeps.
 use Rattle.std.proofs.Common.{◌≡◌, ℕ, ◌<◌, ◌≤◌, Bool, true, inl, inr, List, [], ◌∷◌, ◌++◌, map, set, Option, Some, None, refl, sym, ap, subst, ◌∙◌, arith}
-use Rattle.mcast_txn.specs.Part.{part_at}
-use Rattle.mcast_txn.specs.Transaction.{TopicPart, topics_of}
-use Rattle.mcast_txn.specs.Agreed.{Transaction, CommitRow}
-use Rattle.mcast_txn.specs.Lists.{In}
-use Rattle.mcast_txn.specs.TopicSet.{names}
-use Rattle.mcast_txn.specs.Ballot.{Decision}
-use Rattle.mcast_txn.specs.declared.id.Topic.{Topic}
-use Rattle.mcast_txn.specs.declared.id.TxnId.{TxnId}
-use Rattle.mcast_txn.specs.declared.stamp.Stamp.{Stamp}
-use Rattle.mcast_txn.proofs.Orders.{same_stamps, id_equal, id_same, same_topics}
-use Rattle.mcast_txn.proofs.Members.{In-append_left, In-push, In-map, In-map_cases, at_set, push_one}
-use Rattle.mcast_txn.specs.Span.{LogRow, Item}
-use Rattle.mcast_group.specs.Sound.{IsQueueOf}
-use Rattle.mcast_group.specs.Machine.{TopicState, Pending, Entry, new_topic, key, after_learn, learn_fault, parts_without, entry_after, after_release_of, after_release, row_of, item_of, after_turn, decided_stamp}
-use Rattle.mcast_group.proofs.Parts.{Waits, Waits-told, Waits-without, each_told, Due, due_is, others, some_same}
-use Rattle.mcast_group.proofs.Queues.{Queue-closed, delivered_number, delivered_from, In-delivered_cases, More, More-same, More-then, More-delivered}
+use Rattle.delivery.proofs.Words.Topics.{part_at, TopicPart, topics_of, Transaction, CommitRow, In, names, Decision, Topic, TxnId, Stamp, LogRow, Item, IsQueueOf, TopicState, Pending, Entry, new_topic, key, after_learn, learn_fault, entry_after, after_release_of, after_release, row_of, item_of, after_turn, decided_stamp}
+use Rattle.delivery.proofs.Words.Lemmas.{same_stamps, id_equal, id_same, same_topics, In-append_left, In-push, In-map, In-map_cases, at_set, push_one, Waits, Waits-without, others, some_same, delivered_number, More, More-same, release_keeps, turn_keeps}
+use Rattle.delivery.proofs.Words.Machine.{log_row, item_at, World, Undecided, SenderState, Subscription}
+use Rattle.mcast_group.specs.Machine.{parts_without}
+use Rattle.mcast_group.proofs.Parts.{Waits-told, each_told, Due, due_is}
+use Rattle.mcast_group.proofs.Queues.{Queue-closed, delivered_from, In-delivered_cases, More-then, More-delivered}
 use Rattle.mcast_group.proofs.Keeping.{Learns, learns_is, Sound-learned, Sound-released, next_of}
-use Rattle.mcast_group.proofs.Turning.{release_keeps, turn_keeps}
-use Rattle.delivery.specs.Theorem.Due.{log_row, item_at}
-use Rattle.delivery.specs.Machine.World.{World, Undecided, SenderState, Subscription}
 use Rattle.delivery.proofs.Machine.Invariant.{row, Consistent, Uncommitted, Ticketed, Committed, Logged, Tied, topic_in, Flies, Serves, sender_in, sub_in, HasEntry, Owned, IsClosed, Subscribes, Inv, Holds}
 
 -- ---- the commit list and the tickets

@@ -1,24 +1,13 @@
 -- The verdict of a pending part is its own, and clashes with none.
 use Rattle.std.proofs.Common.{◌≡◌, Bool, true, false, not, ◌&&◌, ◌⊎◌, inl, inr, List, [], ◌∷◌, Option, Some, None, refl, sym, ap, ◌∙◌}
-use Rattle.std.specs.List.{list_any}
-use Rattle.std.proofs.lemmas.Bool.{true≢false, not-true, and_parts, and_from, or_from}
-use Rattle.mcast_txn.specs.Transaction.{TopicPart}
-use Rattle.mcast_txn.specs.Agreed.{Transaction, CommitRow}
-use Rattle.mcast_txn.specs.Ids.{same_id}
-use Rattle.mcast_txn.specs.Lists.{In}
-use Rattle.mcast_txn.specs.Ballot.{Decision}
-use Rattle.mcast_txn.specs.declared.id.Topic.{Topic}
-use Rattle.mcast_txn.specs.declared.id.TxnId.{TxnId}
-use Rattle.mcast_txn.specs.declared.stamp.Stamp.{Stamp}
-use Rattle.mcast_txn.proofs.Orders.{id_same, same_stamp_is, same_stamp_from}
-use Rattle.mcast_txn.proofs.Members.{any_found, any_from}
-use Rattle.mcast_group.specs.declared.fault.LearnFault.{LearnFault}
+use Rattle.delivery.proofs.Words.Std.{list_any, true≢false, not-true, and_parts, and_from, or_from}
+use Rattle.delivery.proofs.Words.Topics.{TopicPart, Transaction, CommitRow, same_id, In, Decision, Topic, TxnId, Stamp, LearnFault, TopicState, Pending, HasOneRowEach, key, find_pending, learn_fault, decided_stamp}
+use Rattle.delivery.proofs.Words.Lemmas.{id_same, any_found, any_from, found_part, not_true}
+use Rattle.delivery.proofs.Words.Machine.{World, verdict_in, find_verdict}
+use Rattle.mcast_txn.proofs.Orders.{same_stamp_is, same_stamp_from}
 use Rattle.mcast_group.specs.Fitting.{Fits, FoundHaveOneRowEach}
-use Rattle.mcast_group.specs.Machine.{TopicState, Pending, HasOneRowEach, key, find_pending, has_row, is_foreign, has_learnt_other, clashes, learn_fault, learn_fault_of, decided_stamp}
+use Rattle.mcast_group.specs.Machine.{has_row, is_foreign, has_learnt_other, clashes, learn_fault_of}
 use Rattle.mcast_txn.specs.Stamp.{same_stamp}
-use Rattle.mcast_group.proofs.Parts.{found_part, not_true}
-use Rattle.delivery.specs.Machine.World.{World}
-use Rattle.delivery.specs.Machine.Moves.{verdict_in, find_verdict}
 use Rattle.delivery.proofs.Machine.Invariant.{row, topic_in, Holds}
 use Rattle.delivery.proofs.Machine.TopicSteps.{one_commit, key_ticket}
 use Rattle.delivery.proofs.Machine.InvariantIsKept.{verdict_found}

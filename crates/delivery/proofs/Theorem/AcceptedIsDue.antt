@@ -1,33 +1,14 @@
 -- What follows of queues, the agreed sequence and stamps.
 use Rattle.std.proofs.Common.{◌≡◌, ℕ, zero, suc, ◌+◌, ◌<◌, Bool, true, false, not, ◌&&◌, ◌⊎◌, inl, inr, List, [], ◌∷◌, map, length, get_or, Option, Some, None, refl, sym, ap, subst, ◌∙◌, arith}
-use Rattle.std.specs.List.{filter, list_any}
-use Rattle.std.proofs.lemmas.Bool.{true≢false, not-true, and_parts, and_from, lt-ltb, cases_order}
-use Rattle.mcast_txn.specs.Stamp.{stamp_lt}
-use Rattle.mcast_txn.specs.Transaction.{TopicPart, topics_of}
-use Rattle.mcast_txn.specs.Agreed.{CommitRow, committed_id, stamp_of, agreed, EachOnce, SenderOrder}
-use Rattle.mcast_txn.specs.Ids.{same_id}
-use Rattle.mcast_txn.specs.Lists.{In, Rises}
-use Rattle.mcast_txn.specs.TopicSet.{names}
+use Rattle.delivery.proofs.Words.Std.{list_any, true≢false, not-true, and_parts, and_from, lt-ltb, cases_order}
+use Rattle.delivery.proofs.Words.Topics.{stamp_lt, TopicPart, topics_of, CommitRow, committed_id, stamp_of, agreed, EachOnce, SenderOrder, same_id, In, Rises, names, Topic, TxnId, Stamp, Item, Span, in_span, last_stamp, item_stamp, IsQueueOf, TopicState, Entry, EntryEnd, new_topic, find_entry, key}
+use Rattle.delivery.proofs.Words.Lemmas.{lt_irrefl, lt_asym, lt_le, id_equal, id_same, In-map, In-map_cases, In-filter, In-filter_cases, any_found, any_from, In-sorted, In-sorted_cases, Rises-sorted, Rises-filter, Rises-map, same_rising, Waits, none_some, Sound-new}
+use Rattle.delivery.proofs.Words.Machine.{log_row, item_at, is_due, due, World, start, new_topics, subscription_at, entry_at, entry_items, entry_to, accepted_at, end_at, span_at, frontier_at, Move, Answer, world_after, answer_to, run, answers_from, Run, answers_of, final_world, shared_marks}
+use Rattle.std.specs.List.{filter}
 use Rattle.mcast_txn.specs.declared.id.Sender.{Sender}
-use Rattle.mcast_txn.specs.declared.id.Topic.{Topic}
-use Rattle.mcast_txn.specs.declared.id.TxnId.{TxnId}
-use Rattle.mcast_txn.specs.declared.stamp.Stamp.{Stamp}
-use Rattle.mcast_txn.proofs.Orders.{lt_irrefl, lt_asym, lt_le, id_equal, id_same}
-use Rattle.mcast_txn.proofs.Members.{In-map, In-map_cases, In-filter, In-filter_cases, any_found, any_from}
-use Rattle.mcast_txn.proofs.Sorting.{In-sorted, In-sorted_cases, Rises-sorted, Rises-filter, Rises-map, same_rising}
-use Rattle.mcast_txn.specs.Span.{Item, Span, in_span, last_stamp, item_stamp, item_mark}
-use Rattle.mcast_group.specs.Sound.{IsQueueOf}
-use Rattle.mcast_group.specs.Machine.{TopicState, Entry, EntryEnd, new_topic, find_entry, key}
-use Rattle.mcast_group.proofs.Parts.{Waits, none_some}
-use Rattle.mcast_group.proofs.Keeping.{Sound-new}
-use Rattle.delivery.specs.Theorem.Due.{log_row, item_at, is_due, due}
-use Rattle.delivery.specs.Machine.World.{World, start, new_topics, subscription_at, entry_at}
-use Rattle.delivery.specs.Machine.Observed.{entry_items, entry_to, accepted_at, end_at, span_at, frontier_at}
-use Rattle.delivery.specs.Machine.Moves.{Move, Answer, world_after, answer_to}
-use Rattle.delivery.specs.Machine.Runs.{run, answers_from}
+use Rattle.mcast_txn.specs.Span.{item_mark}
 use Rattle.delivery.specs.Theorem.Laws
 use Rattle.mcast_txn.specs.declared.mark.Mark.{Mark}
-use Rattle.delivery.specs.Theorem.Laws.{Run, answers_of, final_world, shared_marks}
 use Rattle.delivery.proofs.Machine.Invariant.{row, Consistent, Tied, Itemed, topic_in, HasEntry, Holds}
 use Rattle.delivery.proofs.Machine.TopicSteps.{one_commit, key_ticket}
 use Rattle.delivery.proofs.Machine.SubscriptionSteps.{found_entry, finds_entry}

@@ -1,15 +1,8 @@
 -- A transaction in flight is its frame's, and its sender is that for which its connection speaks.
 use Rattle.std.proofs.Common.{◌≡◌, ℕ, List, [], ◌∷◌, Option, Some, None, refl, sym, ap, ◌∙◌}
-use Rattle.std.proofs.lemmas.Bool.{not-false}
-use Rattle.mcast_txn.specs.Agreed.{Transaction}
-use Rattle.mcast_txn.specs.declared.id.Topic.{Topic}
-use Rattle.mcast_txn.specs.declared.draft.sent_message.SentMessage.{SentMessage}
-use Rattle.mcast_group.specs.declared.fault.ProposeFault.{ProposeFault}
-use Rattle.mcast_txn.specs.Span.{Item}
-use Rattle.mcast_group.specs.Machine.{Pending, due_part}
-use Rattle.delivery.specs.Machine.Objections.{Objection}
-use Rattle.delivery.specs.Machine.World.{World, Leftover, topic_at, connection_at, speaker, speaker_number}
-use Rattle.delivery.specs.Machine.Moves.{Move, move_refusal, move_answer, find_leftover, oldest_live, next_txn, commit_answer, proposal_fault, propose_answer, cancel_answer, release_answer, take_answer, leave_answer}
+use Rattle.delivery.proofs.Words.Std.{not-false}
+use Rattle.delivery.proofs.Words.Topics.{Transaction, Topic, SentMessage, ProposeFault, Item, Pending, due_part}
+use Rattle.delivery.proofs.Words.Machine.{Objection, World, Leftover, topic_at, connection_at, speaker, speaker_number, Move, move_refusal, move_answer, find_leftover, oldest_live, next_txn, commit_answer, proposal_fault, propose_answer, cancel_answer, release_answer, take_answer, leave_answer}
 use Rattle.delivery.specs.Machine.Moves.Move.{Commits, Leaves, Proposes, Cancels, Releases, Takes}
 use Rattle.delivery.specs.Machine.Moves.Answer.{Refused, Begun}
 use Rattle.delivery.specs.Theorem.Reported

@@ -1,27 +1,12 @@
 -- A subscription is closed as its event is answered, and what it left stays; an open span ends with its topic's frontier.
 use Rattle.std.proofs.Common.{◌≡◌, ◌≢◌, ℕ, ◌+◌, ◌<◌, ◌==◌, true, not, ◌⊎◌, inl, inr, List, [], ◌∷◌, length, get_or, Option, Some, None, refl, sym, ap, subst, ◌∙◌, arith, ltb}
-use Rattle.std.specs.Option.{is_some}
-use Rattle.std.proofs.lemmas.Bool.{ltb-true, and_parts, cases_order, not-false, not-true}
-use Rattle.std.proofs.lemmas.List.{get_or_past}
-use Rattle.mcast_txn.specs.Stamp.{zero_stamp}
-use Rattle.mcast_txn.specs.Ballot.{Decision}
-use Rattle.mcast_txn.specs.declared.id.Topic.{Topic}
-use Rattle.mcast_txn.specs.declared.id.TxnId.{TxnId}
-use Rattle.mcast_txn.specs.declared.draft.sent_message.SentMessage.{SentMessage}
-use Rattle.mcast_txn.specs.declared.stamp.Stamp.{Stamp}
-use Rattle.mcast_txn.proofs.Members.{at_set, at_set_within}
-use Rattle.mcast_group.specs.declared.fault.ProposeFault.{ProposeFault}
-use Rattle.mcast_txn.specs.Span.{Item}
-use Rattle.mcast_group.specs.Machine.{Pending, Entry, EntryEnd, due_part, end_of}
-use Rattle.mcast_group.proofs.Parts.{some_same, none_some}
-use Rattle.delivery.specs.Machine.World.{World, Leftover, Subscription, no_subscription, topic_at, speaker, subscription_at, entry_at}
-use Rattle.delivery.specs.Machine.Observed.{entry_items, entry_to, accepted_at, end_at}
-use Rattle.delivery.specs.Machine.Moves.{Move, Answer, world_after, answer_to, move_refusal, move_effect, move_answer, is_live, find_leftover, find_verdict, oldest_live, commit_effect, commit_answer, proposal_fault, propose_effect, propose_answer, cancel_effect, cancel_answer, learn_effect, release_answer, take_effect, take_answer, leave_effect, leave_answer, close_effect_of}
+use Rattle.delivery.proofs.Words.Std.{is_some, ltb-true, and_parts, cases_order, not-false, not-true, get_or_past}
+use Rattle.delivery.proofs.Words.Topics.{zero_stamp, Decision, Topic, TxnId, SentMessage, Stamp, ProposeFault, Item, Pending, Entry, EntryEnd, due_part, end_of}
+use Rattle.delivery.proofs.Words.Lemmas.{at_set, at_set_within, some_same, none_some}
+use Rattle.delivery.proofs.Words.Machine.{World, Leftover, Subscription, no_subscription, topic_at, speaker, subscription_at, entry_at, entry_items, entry_to, accepted_at, end_at, Move, Answer, world_after, answer_to, move_refusal, move_effect, move_answer, is_live, find_leftover, find_verdict, oldest_live, commit_effect, commit_answer, proposal_fault, propose_effect, propose_answer, cancel_effect, cancel_answer, learn_effect, release_answer, take_effect, take_answer, leave_effect, leave_answer, close_effect_of, Run, answers_of, final_world, cause_of}
 use Rattle.delivery.specs.Machine.Moves.Move.{AddsTopic, Commits, Subscribes, Unsubscribes, Leaves, Proposes, Cancels, Learns, Releases, Takes}
 use Rattle.delivery.specs.Machine.Moves.Answer.{Learnt, Unsubscribed}
-use Rattle.delivery.specs.Theorem.Laws.{Run, answers_of, final_world}
 use Rattle.delivery.specs.Theorem.Spans
-use Rattle.delivery.specs.Theorem.Spans.{cause_of}
 use Rattle.delivery.proofs.Machine.SubscriptionSteps.{at_push_two, new_subscription, taken_more}
 use Rattle.delivery.proofs.Machine.InvariantIsKept.{Reached, by_refusal, checked}
 use Rattle.delivery.proofs.Theorem.AcceptedIsDue.{reached}

@@ -1,25 +1,11 @@
 -- Nothing is handed on of a closed subscription.
 use Rattle.std.proofs.Common.{◌≡◌, ℕ, zero, suc, ◌+◌, ◌<◌, ◌≤◌, ◌==◌, Bool, true, false, cond, not, inl, inr, List, [], ◌∷◌, length, get_or, Option, Some, None, refl, sym, ap, subst, ◌∙◌, arith, ltb}
-use Rattle.std.specs.Option.{is_some}
-use Rattle.std.proofs.lemmas.Bool.{true≢false, false≢true, eqb-true, ltb-true, and_parts, or_parts, not-false, not-true}
-use Rattle.std.proofs.lemmas.List.{length_push}
-use Rattle.mcast_txn.specs.Lists.{In}
-use Rattle.mcast_txn.specs.Ballot.{Decision}
-use Rattle.mcast_txn.specs.declared.id.Topic.{Topic}
-use Rattle.mcast_txn.specs.declared.id.TxnId.{TxnId}
-use Rattle.mcast_txn.specs.declared.draft.sent_message.SentMessage.{SentMessage}
-use Rattle.mcast_txn.specs.declared.stamp.Stamp.{Stamp}
-use Rattle.mcast_txn.proofs.Members.{at_set, at_set_within}
-use Rattle.mcast_group.specs.declared.fault.ProposeFault.{ProposeFault}
-use Rattle.mcast_txn.specs.Span.{Item}
-use Rattle.mcast_group.specs.Machine.{Pending, Entry, EntryEnd, due_part}
-use Rattle.mcast_group.proofs.Parts.{some_same, none_some}
-use Rattle.delivery.specs.Machine.World.{World, Leftover, Connection, Subscription, Standing, is_reading, nobody, no_subscription, topic_at, connection_at, speaker, subscription_at, entry_at, with_standing, start}
-use Rattle.delivery.specs.Machine.Moves.{Move, Answer, world_after, answer_to, move_refusal, move_effect, move_answer, is_live, find_leftover, find_verdict, oldest_live, commit_effect, commit_answer, proposal_fault, propose_effect, propose_answer, cancel_effect, cancel_answer, learn_effect, with_leaving, release_answer, take_effect, take_answer, leave_effect, leave_answer, close_effect, close_effect_of, connect_effect}
+use Rattle.delivery.proofs.Words.Std.{is_some, true≢false, false≢true, eqb-true, ltb-true, and_parts, or_parts, not-false, not-true, length_push}
+use Rattle.delivery.proofs.Words.Topics.{In, Decision, Topic, TxnId, SentMessage, Stamp, ProposeFault, Item, Pending, Entry, EntryEnd, due_part}
+use Rattle.delivery.proofs.Words.Lemmas.{at_set, at_set_within, some_same, none_some}
+use Rattle.delivery.proofs.Words.Machine.{World, Leftover, Connection, Subscription, Standing, is_reading, nobody, no_subscription, topic_at, connection_at, speaker, subscription_at, entry_at, with_standing, start, Move, Answer, world_after, answer_to, move_refusal, move_effect, move_answer, is_live, find_leftover, find_verdict, oldest_live, commit_effect, commit_answer, proposal_fault, propose_effect, propose_answer, cancel_effect, cancel_answer, learn_effect, with_leaving, release_answer, take_effect, take_answer, leave_effect, leave_answer, close_effect, close_effect_of, connect_effect, run, answers_from, closes, IsSilent, SilentAfterClose}
 use Rattle.delivery.specs.Machine.Moves.Move.{AddsTopic, Opens, Connects, Commits, Subscribes, Unsubscribes, Disconnects, Errs, Lost, Leaves, Proposes, Decides, Withdraws, Cancels, Learns, Releases, Turns, Takes}
 use Rattle.delivery.specs.Machine.Moves.Answer.{Refused, Done, Opened, Subscribed, Unsubscribed, Leaving, Error, Gone, Learnt, Handed}
-use Rattle.delivery.specs.Machine.Runs.{run, answers_from}
-use Rattle.delivery.specs.Theorem.Settled.{closes, IsSilent, SilentAfterClose}
 use Rattle.delivery.specs.Theorem.Laws
 use Rattle.delivery.proofs.Machine.Invariant.{topic_in, sub_in}
 use Rattle.delivery.proofs.Machine.SubscriptionSteps.{at_push, at_old, at_end, set_length, finds_entry}

@@ -1,23 +1,10 @@
 -- A sender's floor is the stamp of its last row in the commit list.
 use Rattle.std.proofs.Common.{◌≡◌, ◌≢◌, ℕ, ◌==◌, Bool, cond, List, [], ◌∷◌, ◌++◌, set, Option, Some, None, refl, sym, ap, subst, ◌∙◌}
-use Rattle.std.proofs.lemmas.Bool.{eqb-true, eq-eqb}
-use Rattle.mcast_txn.specs.Stamp.{zero_stamp, greatest}
-use Rattle.mcast_txn.specs.Agreed.{CommitRow}
-use Rattle.mcast_txn.specs.Ballot.{Decision}
-use Rattle.mcast_txn.specs.declared.id.Topic.{Topic}
-use Rattle.mcast_txn.specs.declared.id.TxnId.{TxnId}
-use Rattle.mcast_txn.specs.declared.draft.sent_message.SentMessage.{SentMessage}
-use Rattle.mcast_txn.specs.declared.stamp.Stamp.{Stamp}
-use Rattle.mcast_txn.proofs.Members.{at_set, at_set_within}
-use Rattle.mcast_group.specs.declared.fault.ProposeFault.{ProposeFault}
-use Rattle.mcast_txn.specs.Span.{Item}
-use Rattle.mcast_group.specs.Machine.{Entry}
-use Rattle.mcast_group.proofs.Parts.{not_true}
-use Rattle.delivery.specs.Machine.World.{World, Leftover, SenderState, new_sender, speaker, entry_at, start, speaker_number}
-use Rattle.delivery.specs.Machine.Moves.{Move, Answer, world_after, answer_to, move_refusal, move_effect, undecided_at, find_leftover, find_verdict, oldest_live, commit_effect, proposal_fault, propose_effect, decide_effect, cancel_effect, learn_effect, take_effect, leave_effect, close_effect_of, connect_effect}
+use Rattle.delivery.proofs.Words.Std.{eqb-true, eq-eqb}
+use Rattle.delivery.proofs.Words.Topics.{zero_stamp, greatest, CommitRow, Decision, Topic, TxnId, SentMessage, Stamp, ProposeFault, Item, Entry}
+use Rattle.delivery.proofs.Words.Lemmas.{at_set, at_set_within, not_true}
+use Rattle.delivery.proofs.Words.Machine.{World, Leftover, SenderState, new_sender, speaker, entry_at, start, speaker_number, Move, Answer, world_after, answer_to, move_refusal, move_effect, undecided_at, find_leftover, find_verdict, oldest_live, commit_effect, proposal_fault, propose_effect, decide_effect, cancel_effect, learn_effect, take_effect, leave_effect, close_effect_of, connect_effect, run, Run, final_world}
 use Rattle.delivery.specs.Machine.Moves.Move.{Connects, Commits, Unsubscribes, Leaves, Proposes, Decides, Withdraws, Cancels, Learns, Takes}
-use Rattle.delivery.specs.Machine.Runs.{run}
-use Rattle.delivery.specs.Theorem.Laws.{Run, final_world}
 use Rattle.delivery.specs.Theorem.Tied.{floor_after}
 use Rattle.delivery.proofs.Machine.Invariant.{row, sender_in}
 use Rattle.delivery.proofs.Machine.ProposeStep.{within_senders}

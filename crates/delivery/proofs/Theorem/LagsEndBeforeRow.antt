@@ -1,23 +1,12 @@
 -- A span that lags ends with the frontier before the row for which its queue had no room.
 use Rattle.std.proofs.Common.{◌≡◌, ℕ, ◌==◌, Bool, true, false, cond, ◌⊎◌, inl, inr, List, [], ◌∷◌, ◌++◌, map, Option, Some, None, refl, sym, ap, subst, ◌∙◌}
-use Rattle.std.proofs.lemmas.List.{append_assoc, append-nil}
-use Rattle.mcast_txn.specs.Stamp.{zero_stamp}
-use Rattle.mcast_txn.specs.Ballot.{Decision}
-use Rattle.mcast_txn.specs.declared.id.TxnId.{TxnId}
-use Rattle.mcast_txn.specs.declared.stamp.Stamp.{Stamp}
-use Rattle.mcast_txn.specs.Span.{LogRow, Item, last_stamp}
-use Rattle.mcast_group.specs.Machine.{TopicState, Pending, Entry, EntryEnd, find_entry, entry_after, after_release_of, after_release, after_turn, row_of, item_of}
-use Rattle.mcast_group.proofs.Parts.{some_same, none_some}
-use Rattle.mcast_group.proofs.Queues.{delivered_number}
-use Rattle.mcast_group.proofs.Turning.{release_keeps, turn_keeps}
+use Rattle.delivery.proofs.Words.Std.{append_assoc, append-nil}
+use Rattle.delivery.proofs.Words.Topics.{zero_stamp, Decision, TxnId, Stamp, LogRow, Item, last_stamp, TopicState, Pending, Entry, EntryEnd, find_entry, entry_after, after_release_of, after_release, after_turn, row_of, item_of}
+use Rattle.delivery.proofs.Words.Lemmas.{some_same, none_some, delivered_number, release_keeps, turn_keeps}
+use Rattle.delivery.proofs.Words.Machine.{World, topic_at, subscription_at, entry_at, with_topic, entry_to, end_at, log_at, Move, world_after, move_effect, queue_has_room, verdict_in, final_world, EndsBeforeRow}
 use Rattle.mcast_group.proofs.Keeping.{last_push}
-use Rattle.delivery.specs.Machine.World.{World, topic_at, subscription_at, entry_at, with_topic}
-use Rattle.delivery.specs.Machine.Observed.{entry_to, end_at, log_at}
-use Rattle.delivery.specs.Machine.Moves.{Move, world_after, move_effect, queue_has_room, verdict_in}
 use Rattle.delivery.specs.Machine.Moves.Move.{Releases, Turns}
-use Rattle.delivery.specs.Theorem.Laws.{final_world}
 use Rattle.delivery.specs.Theorem.Spans
-use Rattle.delivery.specs.Theorem.Spans.{EndsBeforeRow}
 use Rattle.delivery.proofs.Machine.Invariant.{topic_in}
 use Rattle.delivery.proofs.Machine.TopicSteps.{at_topic}
 use Rattle.delivery.proofs.Machine.InvariantIsKept.{by_refusal}

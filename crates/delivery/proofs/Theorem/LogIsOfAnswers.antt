@@ -1,36 +1,14 @@
 -- A topic's log is the agreed sequence restricted to it, up to its frontier: as many rows as its outcomes released.
 use Rattle.std.proofs.Common.{◌≡◌, ℕ, ◌+◌, ◌-◌, ◌<◌, ◌≤◌, ◌==◌, Bool, true, false, cond, not, ◌&&◌, List, [], ◌∷◌, map, length, take, Option, Some, None, refl, sym, ap, subst, ◌∙◌, arith}
 use Rattle.std.specs.List.{filter}
-use Rattle.std.proofs.lemmas.Bool.{not-true, true≢false, and_parts, and_from, eqb-true, eq-eqb, ltb-true, not-false}
-use Rattle.std.proofs.lemmas.List.{get_or-set_same, length-append, take-map}
-use Rattle.mcast_txn.specs.Stamp.{stamp_lt}
-use Rattle.mcast_txn.specs.Part.{part_at}
-use Rattle.mcast_txn.specs.Transaction.{topics_of}
-use Rattle.mcast_txn.specs.Agreed.{CommitRow, stamp_of, agreed}
-use Rattle.mcast_txn.specs.Lists.{In, Rises}
-use Rattle.mcast_txn.specs.TopicSet.{names}
-use Rattle.mcast_txn.specs.Ballot.{Decision}
-use Rattle.mcast_txn.specs.declared.id.Topic.{Topic}
-use Rattle.mcast_txn.specs.declared.id.TxnId.{TxnId}
-use Rattle.mcast_txn.specs.declared.draft.sent_message.SentMessage.{SentMessage}
-use Rattle.mcast_txn.specs.declared.stamp.Stamp.{Stamp}
-use Rattle.mcast_txn.proofs.Orders.{lt_asym, le_lt, same_topics}
-use Rattle.mcast_txn.proofs.Members.{In-map, In-map_cases, In-filter, In-filter_cases, at_set, filter_none}
-use Rattle.mcast_txn.proofs.Sorting.{In-sorted, In-sorted_cases, Rises-sorted, Rises-filter, Rises-map, same_rising}
-use Rattle.mcast_group.specs.declared.fault.ProposeFault.{ProposeFault}
-use Rattle.mcast_txn.specs.Span.{LogRow, Item, row_stamp}
-use Rattle.mcast_group.specs.Machine.{TopicState, Pending, Entry, new_topic, due_part, after_propose, after_cancel, after_learn, after_unsubscribe, after_turn, row_of, decided_stamp}
-use Rattle.mcast_group.proofs.Parts.{map_length, after_release_if}
+use Rattle.delivery.proofs.Words.Std.{not-true, true≢false, and_parts, and_from, eqb-true, eq-eqb, ltb-true, not-false, get_or-set_same, length-append, take-map}
+use Rattle.delivery.proofs.Words.Topics.{stamp_lt, part_at, topics_of, CommitRow, stamp_of, agreed, In, Rises, names, Decision, Topic, TxnId, SentMessage, Stamp, ProposeFault, LogRow, Item, row_stamp, TopicState, Pending, Entry, new_topic, due_part, after_propose, after_cancel, after_learn, after_unsubscribe, after_turn, row_of, decided_stamp}
+use Rattle.delivery.proofs.Words.Lemmas.{lt_asym, le_lt, same_topics, In-map, In-map_cases, In-filter, In-filter_cases, at_set, filter_none, In-sorted, In-sorted_cases, Rises-sorted, Rises-filter, Rises-map, same_rising, map_length, after_release_if}
+use Rattle.delivery.proofs.Words.Machine.{log_row, World, Leftover, start, topic_at, speaker, subscription_at, entry_at, with_topic, log_at, frontier_at, Move, Answer, world_after, answer_to, move_refusal, move_effect, move_answer, is_topic, find_leftover, find_verdict, verdict_in, oldest_live, commit_effect, commit_answer, proposal_fault, propose_effect, propose_answer, cancel_effect, cancel_answer, learn_effect, release_answer, queue_has_room, take_effect, undecided_at, take_answer, leave_effect, leave_answer, close_effect_of, run, answers_from, commits_of, released_at, answers_of, final_world, is_logged}
 use Rattle.mcast_group.proofs.Turns.{turn_grows}
-use Rattle.delivery.specs.Theorem.Due.{log_row}
-use Rattle.delivery.specs.Machine.World.{World, Leftover, start, topic_at, speaker, subscription_at, entry_at, with_topic}
-use Rattle.delivery.specs.Machine.Observed.{log_at, frontier_at}
-use Rattle.delivery.specs.Machine.Moves.{Move, Answer, world_after, answer_to, move_refusal, move_effect, move_answer, is_topic, find_leftover, find_verdict, verdict_in, oldest_live, commit_effect, commit_answer, proposal_fault, propose_effect, propose_answer, cancel_effect, cancel_answer, learn_effect, release_answer, queue_has_room, take_effect, undecided_at, take_answer, leave_effect, leave_answer, close_effect_of}
 use Rattle.delivery.specs.Machine.Moves.Move.{AddsTopic, Commits, Subscribes, Unsubscribes, Leaves, Proposes, Cancels, Learns, Releases, Turns, Takes}
 use Rattle.delivery.specs.Machine.Moves.Answer.{Done, Learnt}
-use Rattle.delivery.specs.Machine.Runs.{run, answers_from, commits_of, released_at}
 use Rattle.delivery.specs.Theorem.Laws
-use Rattle.delivery.specs.Theorem.Laws.{answers_of, final_world, is_logged}
 use Rattle.delivery.proofs.Machine.Invariant.{topic_in, Holds}
 use Rattle.delivery.proofs.Machine.TopicSteps.{at_topic_from}
 use Rattle.delivery.proofs.Machine.SubscriptionSteps.{at_added, topic_with}

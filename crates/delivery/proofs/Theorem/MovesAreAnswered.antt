@@ -1,24 +1,11 @@
 -- Each event is answered by an outcome of its own.
-use Rattle.std.specs.Prelude.{slice_get}
+use Rattle.delivery.proofs.Words.Std.{slice_get, is_some, true≢false, and_parts, ltb-true, not-false}
+use Rattle.delivery.proofs.Words.Topics.{part_at, Decision, In, Topic, TxnId, SentMessage, ProposeFault, first_refusal, Item, Pending, due_part, propose_fault}
+use Rattle.delivery.proofs.Words.Lemmas.{none_some, some_same, not_true}
+use Rattle.delivery.proofs.Words.Machine.{World, Leftover, Subscription, subscription_at, speaker, topic_at, connection_at, speaker_number, accepted_at, end_at, Move, move_answer, move_refusal, move_refusals, cancel_objection, learn_objection, commit_answer, leave_answer, propose_answer, proposal_fault, or_out_of_memory, cancel_answer, release_answer, take_answer, find_leftover, find_verdict, oldest_live, is_live, undecided_at, IsAnswer}
 use Rattle.std.proofs.Common.{◌≡◌, ℕ, zero, suc, ◌+◌, ◌<◌, ◌≤◌, Bool, true, false, cond, not, ◌&&◌, List, [], ◌∷◌, length, Option, Some, None, refl, sym, subst, ◌⊎◌, inl, inr, arith, ltb}
-use Rattle.std.specs.Option.{is_some}
-use Rattle.std.proofs.lemmas.Bool.{true≢false, and_parts, ltb-true, not-false}
-use Rattle.mcast_txn.specs.Part.{part_at}
-use Rattle.mcast_txn.specs.Ballot.{Decision}
-use Rattle.mcast_txn.specs.Lists.{In}
-use Rattle.mcast_txn.specs.declared.id.Topic.{Topic}
-use Rattle.mcast_txn.specs.declared.id.TxnId.{TxnId}
-use Rattle.mcast_txn.specs.declared.draft.sent_message.SentMessage.{SentMessage}
-use Rattle.mcast_group.specs.declared.fault.ProposeFault.{ProposeFault}
-use Rattle.mcast_txn.specs.Checks.{first_refusal}
-use Rattle.mcast_txn.specs.Span.{Item}
-use Rattle.mcast_group.specs.Machine.{Pending, due_part, propose_fault}
-use Rattle.mcast_group.proofs.Parts.{none_some, some_same, not_true}
-use Rattle.delivery.specs.Machine.World.{World, Leftover, Subscription, subscription_at, speaker, topic_at, connection_at, speaker_number}
-use Rattle.delivery.specs.Machine.Observed.{accepted_at, end_at}
-use Rattle.delivery.specs.Machine.Moves.{Move, move_answer, move_refusal, move_refusals, cancel_objection, learn_objection, commit_answer, leave_answer, propose_answer, proposal_fault, or_out_of_memory, cancel_answer, release_answer, take_answer, find_leftover, find_verdict, oldest_live, is_live, undecided_at}
 use Rattle.delivery.specs.Machine.Moves.Move.{AddsTopic, Opens, Connects, Commits, Subscribes, Unsubscribes, Disconnects, Errs, Lost, Leaves, Proposes, Decides, Withdraws, Cancels, Learns, Releases, Turns, Takes}
-use Rattle.delivery.specs.Theorem.Answers.{IsAnswer, IsOldest, MovesAreAnswered}
+use Rattle.delivery.specs.Theorem.Answers.{IsOldest, MovesAreAnswered}
 use Rattle.delivery.proofs.Machine.Invariant.{sub_in}
 use Rattle.delivery.proofs.Machine.SenderSteps.{leftover_found}
 use Rattle.delivery.proofs.Machine.Speakers.{has_speaker}

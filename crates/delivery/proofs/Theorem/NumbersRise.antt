@@ -1,27 +1,12 @@
 -- The numbers that a topic gives rise along a run, each above its opening clock.
 use Rattle.std.proofs.Common.{◌≡◌, ℕ, zero, suc, ◌+◌, ◌<◌, ◌≤◌, ◌==◌, Bool, true, false, cond, ◌⊎◌, inl, inr, List, [], ◌∷◌, ◌++◌, length, get_or, max, Option, Some, None, refl, sym, ap, subst, ◌∙◌, arith}
-use Rattle.std.specs.List.{AllByRecursion}
-use Rattle.std.proofs.lemmas.Bool.{eqb-true}
-use Rattle.std.proofs.lemmas.List.{get_or_past, length_push}
-use Rattle.mcast_txn.proofs.Orders.{same_topics}
-use Rattle.mcast_txn.specs.Lists.{RisesBy, In}
-use Rattle.mcast_txn.specs.Agreed.{CommitRow}
-use Rattle.mcast_txn.specs.declared.id.Topic.{Topic}
-use Rattle.mcast_txn.specs.declared.id.TxnId.{TxnId}
-use Rattle.mcast_txn.specs.declared.stamp.Stamp.{Stamp}
-use Rattle.mcast_txn.proofs.Members.{In-push_cases}
-use Rattle.mcast_txn.specs.Ballot.{Decision}
-use Rattle.mcast_txn.specs.declared.draft.sent_message.SentMessage.{SentMessage}
-use Rattle.mcast_group.specs.declared.fault.ProposeFault.{ProposeFault}
-use Rattle.mcast_txn.specs.Span.{Item}
-use Rattle.mcast_group.specs.Machine.{TopicState, Entry, new_topic}
-use Rattle.delivery.specs.Machine.World.{World, Leftover, topic_at, speaker, subscription_at, entry_at, start, new_topics}
-use Rattle.delivery.specs.Machine.Moves.{Move, Answer, world_after, answer_to, move_effect, find_leftover, find_verdict, oldest_live, commit_effect, proposal_fault, propose_effect, cancel_effect, learn_effect, take_effect, leave_effect, close_effect_of}
+use Rattle.delivery.proofs.Words.Std.{AllByRecursion, eqb-true, get_or_past, length_push}
+use Rattle.delivery.proofs.Words.Topics.{RisesBy, In, CommitRow, Topic, TxnId, Stamp, Decision, SentMessage, ProposeFault, Item, TopicState, Entry, new_topic}
+use Rattle.delivery.proofs.Words.Lemmas.{same_topics, In-push_cases}
+use Rattle.delivery.proofs.Words.Machine.{World, Leftover, topic_at, speaker, subscription_at, entry_at, start, new_topics, Move, Answer, world_after, answer_to, move_effect, find_leftover, find_verdict, oldest_live, commit_effect, proposal_fault, propose_effect, cancel_effect, learn_effect, take_effect, leave_effect, close_effect_of, run, answers_from, txn_of_id, Run, answers_of, final_world, added_clocks}
 use Rattle.delivery.specs.Machine.Moves.Move.{AddsTopic, Commits, Subscribes, Unsubscribes, Leaves, Proposes, Cancels, Learns, Releases, Turns, Takes}
 use Rattle.delivery.specs.Machine.Moves.Answer.{Ticket}
-use Rattle.delivery.specs.Machine.Runs.{run, answers_from, txn_of_id}
-use Rattle.delivery.specs.Theorem.Laws.{Run, answers_of, final_world}
-use Rattle.delivery.specs.Theorem.Tied.{added_clocks, numbers_at}
+use Rattle.delivery.specs.Theorem.Tied.{numbers_at}
 use Rattle.delivery.proofs.Machine.Invariant.{row}
 use Rattle.delivery.proofs.Machine.SubscriptionSteps.{at_push_two, set_length}
 use Rattle.delivery.proofs.Machine.InvariantIsKept.{Reached, tickets, by_refusal, step_reached}

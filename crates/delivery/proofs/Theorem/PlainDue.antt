@@ -1,13 +1,10 @@
 -- The plain program of what is due.
 use Rattle.std.proofs.Common.{◌≡◌, ℕ, suc, ◌+◌, ◌==◌, Bool, true, false, cond, ◌||◌, List, [], ◌∷◌, ◌++◌, map, length, refl, sym, ap, ◌∙◌, arith, ltb, append_assoc}
-use Rattle.std.specs.List.{filter, list_any}
-use Rattle.std.proofs.lemmas.Bool.{eqb-true}
-use Rattle.stomp_frame.proofs.Names.{or_third}
-use Rattle.mcast_txn.specs.Transaction.{topics_of, insert_topic, part_from, part_of}
-use Rattle.mcast_txn.specs.TopicSet.{names}
-use Rattle.mcast_txn.specs.declared.id.Topic.{Topic}
-use Rattle.mcast_txn.specs.declared.draft.sent_message.SentMessage.{SentMessage}
-use Rattle.mcast_txn.specs.declared.parts.part_message.PartMessage.{PartMessage}
+use Rattle.delivery.proofs.Words.Std.{list_any, eqb-true}
+use Rattle.delivery.proofs.Words.Topics.{topics_of, insert_topic, part_of, names, Topic, SentMessage, PartMessage}
+use Rattle.delivery.proofs.Words.Lemmas.{or_third}
+use Rattle.std.specs.List.{filter}
+use Rattle.mcast_txn.specs.Transaction.{part_from}
 
 -- ---- topics
 

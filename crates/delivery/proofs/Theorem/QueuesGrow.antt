@@ -1,20 +1,9 @@
 -- What a queue has accepted stays: each event adds to its end alone.
 use Rattle.std.proofs.Common.{◌≡◌, ℕ, ◌<◌, List, [], ◌∷◌, length, Option, Some, None, refl, sym, ap, subst, arith}
-use Rattle.mcast_txn.specs.Part.{part_at}
-use Rattle.mcast_txn.specs.Ballot.{Decision}
-use Rattle.mcast_txn.specs.declared.id.Topic.{Topic}
-use Rattle.mcast_txn.specs.declared.id.TxnId.{TxnId}
-use Rattle.mcast_txn.specs.declared.draft.sent_message.SentMessage.{SentMessage}
-use Rattle.mcast_txn.proofs.Members.{at_set}
-use Rattle.mcast_group.specs.declared.fault.ProposeFault.{ProposeFault}
-use Rattle.mcast_txn.specs.Span.{Item}
-use Rattle.mcast_group.specs.Machine.{TopicState, find_entry, after_propose, after_cancel, after_learn, after_release, after_turn, decided_stamp}
-use Rattle.mcast_group.proofs.Queues.{More, More-same}
-use Rattle.delivery.specs.Machine.World.{World, Leftover, Subscription, no_subscription, topic_at, speaker, subscription_at, entry_at, with_topic}
-use Rattle.delivery.specs.Machine.Observed.{entry_items, accepted_at}
-use Rattle.delivery.specs.Machine.Moves.{Move, Answer, move_effect, find_leftover, find_verdict, verdict_in, oldest_live, commit_effect, proposal_fault, propose_effect, cancel_effect, learn_effect, queue_has_room, take_effect, undecided_at, leave_effect}
+use Rattle.delivery.proofs.Words.Topics.{part_at, Decision, Topic, TxnId, SentMessage, ProposeFault, Item, TopicState, find_entry, after_propose, after_cancel, after_learn, after_release, after_turn, decided_stamp}
+use Rattle.delivery.proofs.Words.Lemmas.{at_set, More, More-same}
+use Rattle.delivery.proofs.Words.Machine.{World, Leftover, Subscription, no_subscription, topic_at, speaker, subscription_at, entry_at, with_topic, entry_items, accepted_at, Move, Answer, move_effect, find_leftover, find_verdict, verdict_in, oldest_live, commit_effect, proposal_fault, propose_effect, cancel_effect, learn_effect, queue_has_room, take_effect, undecided_at, leave_effect, answers_of, final_world}
 use Rattle.delivery.specs.Machine.Moves.Move.{AddsTopic, Commits, Subscribes, Unsubscribes, Leaves, Proposes, Cancels, Learns, Releases, Turns, Takes}
-use Rattle.delivery.specs.Theorem.Laws.{answers_of, final_world}
 use Rattle.delivery.specs.Theorem.Spans
 use Rattle.delivery.proofs.Machine.Invariant.{topic_in}
 use Rattle.delivery.proofs.Machine.TopicSteps.{Entries-same, Keeps-release, Keeps-turned}

@@ -1,23 +1,14 @@
 -- What refuses a move is reported by the core, but for a sender without sequence numbers, and for what stands against
 -- speaking for a sender.
 use Rattle.std.proofs.Common.{◌≡◌, ℕ, Bool, true, false, cond, ◌⊎◌, inl, inr, List, [], ◌∷◌, Option, Some, None, refl, sym, subst, ◌∙◌}
-use Rattle.std.specs.Option.{option_map, option_or}
-use Rattle.std.proofs.lemmas.Bool.{true≢false}
-use Rattle.mcast_txn.specs.Checks.{first_refusal}
-use Rattle.mcast_txn.specs.Ballot.{Decision}
-use Rattle.mcast_txn.specs.declared.id.Topic.{Topic}
-use Rattle.mcast_txn.specs.declared.id.TxnId.{TxnId}
-use Rattle.mcast_txn.specs.declared.draft.sent_message.SentMessage.{SentMessage}
-use Rattle.mcast_group.specs.declared.fault.LearnFault.{LearnFault}
-use Rattle.mcast_group.specs.declared.fault.CancelFault.{CancelFault}
-use Rattle.mcast_group.specs.Machine.{learn_fault, cancel_fault}
-use Rattle.mcast_group.proofs.Parts.{some_same, none_some}
-use Rattle.delivery.specs.Machine.Objections.{Objection, is_reported}
-use Rattle.delivery.specs.Machine.World.{World, Leftover, topic_at, speaker}
-use Rattle.delivery.specs.Machine.Moves.{Move, move_refusal, move_refusals, topic_objection, find_leftover, find_verdict, learn_objection, learn_objection_of, cancel_objection, cancel_objection_of}
+use Rattle.delivery.proofs.Words.Std.{option_map, option_or, true≢false}
+use Rattle.delivery.proofs.Words.Topics.{first_refusal, Decision, Topic, TxnId, SentMessage, LearnFault, CancelFault, learn_fault, cancel_fault}
+use Rattle.delivery.proofs.Words.Lemmas.{some_same, none_some}
+use Rattle.delivery.proofs.Words.Machine.{Objection, World, Leftover, topic_at, speaker, Move, move_refusal, move_refusals, topic_objection, find_leftover, find_verdict, learn_objection, learn_objection_of, cancel_objection, cancel_objection_of, answers_of, final_world, is_odd}
+use Rattle.delivery.specs.Machine.Objections.{is_reported}
 use Rattle.delivery.specs.Machine.Moves.Move.{AddsTopic, Opens, Connects, Commits, Subscribes, Unsubscribes, Leaves, Proposes, Decides, Withdraws, Cancels, Learns, Releases, Turns}
 use Rattle.delivery.specs.Theorem.Laws
-use Rattle.delivery.specs.Theorem.Laws.{Run, answers_of, final_world, is_odd, is_of_claim}
+use Rattle.delivery.specs.Theorem.Laws.{is_of_claim}
 use Rattle.delivery.proofs.Theorem.AcceptedIsDue.{reached}
 use Rattle.delivery.proofs.Theorem.StepLaws.{no_answer, outcome_case, outcome_usual}
 

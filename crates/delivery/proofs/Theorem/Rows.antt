@@ -1,15 +1,10 @@
 -- Worked rows, computed from the definitions: each equation holds by computation alone. The five that a contract names are in specs/Examples.antt.
-use Rattle.std.specs.Prelude.{◌≡◌, true, List, [], ◌∷◌, map, Some, None}
+use Rattle.delivery.proofs.Words.Std.{◌≡◌, true, List, [], ◌∷◌, map, Some, None}
+use Rattle.delivery.proofs.Words.Topics.{agreed}
+use Rattle.delivery.proofs.Words.Machine.{Objection, due, accepted_at, span_at, frontier_at, Move, commits_of, Run, answers_of, final_world}
 use Rattle.std.proofs.Common.{refl}
-use Rattle.mcast_txn.specs.Agreed.{agreed}
-use Rattle.delivery.specs.Machine.Objections.{Objection}
-use Rattle.delivery.specs.Theorem.Due.{due}
-use Rattle.delivery.specs.Machine.Observed.{accepted_at, span_at, frontier_at}
-use Rattle.delivery.specs.Machine.Moves.{Move}
 use Rattle.delivery.specs.Machine.Moves.Move.{Opens, Connects, Commits, Subscribes, Unsubscribes, Proposes, Decides, Learns, Releases, Turns, Takes}
 use Rattle.delivery.specs.Machine.Moves.Answer.{Refused, Done, Opened, Begun, Subscribed, Unsubscribed, Ticket, Decided, Learnt, Turned, Handed}
-use Rattle.delivery.specs.Machine.Runs.{commits_of}
-use Rattle.delivery.specs.Theorem.Laws.{Run, answers_of, final_world}
 use Rattle.delivery.specs.Theorem.Examples.{topic, stamp, id, send, part, transaction, item, run_of, answers_in_order, log_stamps, to_a_and_b, crossing}
 
 -- ---- transactions that cross: what is due

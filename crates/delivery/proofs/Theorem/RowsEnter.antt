@@ -1,23 +1,9 @@
 -- What a topic's log gets, the queue of each subscription gets whose span has no end.
 use Rattle.std.proofs.Common.{◌≡◌, ℕ, ◌+◌, ◌<◌, Bool, true, false, cond, List, [], ◌∷◌, ◌++◌, map, length, set, Option, Some, None, refl, sym, ap, subst, ◌∙◌, length-append, arith}
-use Rattle.mcast_txn.specs.Part.{part_at}
-use Rattle.mcast_txn.specs.Ballot.{Decision}
-use Rattle.mcast_txn.specs.declared.id.Topic.{Topic}
-use Rattle.mcast_txn.specs.declared.id.TxnId.{TxnId}
-use Rattle.mcast_txn.specs.declared.draft.sent_message.SentMessage.{SentMessage}
-use Rattle.mcast_txn.specs.declared.stamp.Stamp.{Stamp}
-use Rattle.mcast_txn.proofs.Members.{at_set, at_set_within}
-use Rattle.mcast_group.specs.declared.fault.ProposeFault.{ProposeFault}
-use Rattle.mcast_txn.specs.Span.{LogRow, Item}
-use Rattle.mcast_group.specs.Machine.{TopicState, Pending, Entry, EntryEnd, new_topic, find_entry, entry_after, end_of, after_propose, after_cancel, after_learn, after_release_of, after_release, after_turn, after_unsubscribe, row_of, item_of, decided_stamp}
-use Rattle.mcast_group.proofs.Parts.{none_some}
-use Rattle.mcast_group.proofs.Queues.{delivered_number}
-use Rattle.mcast_group.proofs.Turning.{release_keeps, turn_keeps}
-use Rattle.delivery.specs.Machine.World.{World, Leftover, Subscription, no_subscription, topic_at, speaker, subscription_at, entry_at, with_topic}
-use Rattle.delivery.specs.Machine.Observed.{entry_to, entry_items, accepted_at, log_at}
-use Rattle.delivery.specs.Machine.Moves.{Move, Answer, world_after, move_effect, find_leftover, find_verdict, verdict_in, queue_has_room, oldest_live, commit_effect, proposal_fault, propose_effect, cancel_effect, learn_effect, take_effect, undecided_at, leave_effect, close_effect_of}
+use Rattle.delivery.proofs.Words.Topics.{part_at, Decision, Topic, TxnId, SentMessage, Stamp, ProposeFault, LogRow, Item, TopicState, Pending, Entry, EntryEnd, new_topic, find_entry, entry_after, end_of, after_propose, after_cancel, after_learn, after_release_of, after_release, after_turn, after_unsubscribe, row_of, item_of, decided_stamp}
+use Rattle.delivery.proofs.Words.Lemmas.{at_set, at_set_within, none_some, delivered_number, release_keeps, turn_keeps}
+use Rattle.delivery.proofs.Words.Machine.{World, Leftover, Subscription, no_subscription, topic_at, speaker, subscription_at, entry_at, with_topic, entry_to, entry_items, accepted_at, log_at, Move, Answer, world_after, move_effect, find_leftover, find_verdict, verdict_in, queue_has_room, oldest_live, commit_effect, proposal_fault, propose_effect, cancel_effect, learn_effect, take_effect, undecided_at, leave_effect, close_effect_of, Run, answers_of, final_world}
 use Rattle.delivery.specs.Machine.Moves.Move.{AddsTopic, Commits, Subscribes, Unsubscribes, Leaves, Proposes, Cancels, Learns, Releases, Turns, Takes}
-use Rattle.delivery.specs.Theorem.Laws.{Run, answers_of, final_world}
 use Rattle.delivery.proofs.Machine.Invariant.{topic_in, Owned}
 use Rattle.delivery.proofs.Machine.TopicSteps.{at_topic, map_same, map_map}
 use Rattle.delivery.proofs.Machine.SubscriptionSteps.{at_push_two, at_added, found_entry, finds_entry, new_subscription, new_entry, topic_with, taken_more}

@@ -1,26 +1,12 @@
 -- No two connections that are there speak for one sender, and a sender for which none speaks is idle. Who goes on as a
 -- sender has it as it was, and has it until the end.
 use Rattle.std.proofs.Common.{◌≡◌, ℕ, zero, suc, ◌<◌, ◌==◌, Bool, true, false, not, ◌&&◌, ◌||◌, ◌⊎◌, List, [], ◌∷◌, ◌++◌, length, set, get_or, Option, Some, None, inl, inr, refl, sym, ap, subst, ◌∙◌, arith, ltb}
-use Rattle.std.specs.List.{list_any}
-use Rattle.std.specs.Option.{is_some, option_map_or, unwrap_or}
-use Rattle.std.proofs.lemmas.Bool.{true≢false, and_parts, or_parts, eqb-true, eq-eqb, ltb-true, lt-ltb, not-false}
-use Rattle.std.proofs.lemmas.List.{length_push}
-use Rattle.mcast_txn.specs.Ballot.{Decision}
-use Rattle.mcast_txn.specs.declared.id.Topic.{Topic}
-use Rattle.mcast_txn.specs.declared.id.TxnId.{TxnId}
-use Rattle.mcast_txn.specs.declared.draft.sent_message.SentMessage.{SentMessage}
-use Rattle.mcast_txn.proofs.Members.{at_set, at_set_within}
-use Rattle.mcast_group.specs.declared.fault.ProposeFault.{ProposeFault}
-use Rattle.mcast_txn.specs.Span.{Item}
-use Rattle.mcast_group.specs.Machine.{Entry}
-use Rattle.mcast_group.proofs.Parts.{some_same, none_some, not_true}
-use Rattle.delivery.specs.Machine.Objections.{Objection}
-use Rattle.delivery.specs.Machine.World.{World, Connection, Leftover, SenderState, Standing, Undecided, is_reading, is_gone, nobody, new_sender, connection_at, sender_at, speaker, speaker_number, speaks_for, is_in_use, subscription_at, entry_at, start}
-use Rattle.delivery.specs.Machine.Moves.{Move, world_after, move_refusal, move_effect, find_leftover, find_verdict, drop_leftover, oldest_live, claimed_senders, connect_effect, commit_effect, proposal_fault, propose_effect, cancel_effect, learn_effect, take_effect, leave_effect, close_effect_of}
+use Rattle.delivery.proofs.Words.Std.{list_any, is_some, option_map_or, unwrap_or, true≢false, and_parts, or_parts, eqb-true, eq-eqb, ltb-true, lt-ltb, not-false, length_push}
+use Rattle.delivery.proofs.Words.Topics.{Decision, Topic, TxnId, SentMessage, ProposeFault, Item, Entry}
+use Rattle.delivery.proofs.Words.Lemmas.{at_set, at_set_within, some_same, none_some, not_true}
+use Rattle.delivery.proofs.Words.Machine.{Objection, World, Connection, Leftover, SenderState, Standing, Undecided, is_reading, is_gone, nobody, new_sender, connection_at, sender_at, speaker, speaker_number, speaks_for, is_in_use, subscription_at, entry_at, start, Move, world_after, move_refusal, move_effect, find_leftover, find_verdict, drop_leftover, oldest_live, claimed_senders, connect_effect, commit_effect, proposal_fault, propose_effect, cancel_effect, learn_effect, take_effect, leave_effect, close_effect_of, run, Run, final_world}
 use Rattle.delivery.specs.Machine.Moves.Move.{Opens, Connects, Commits, Unsubscribes, Disconnects, Errs, Lost, Leaves, Proposes, Decides, Withdraws, Cancels, Learns, Takes}
 use Rattle.delivery.specs.Machine.Moves.Answer.{Refused, Done}
-use Rattle.delivery.specs.Machine.Runs.{run}
-use Rattle.delivery.specs.Theorem.Laws.{Run, final_world}
 use Rattle.delivery.specs.Theorem.Reported
 use Rattle.delivery.proofs.Machine.Invariant.{sender_in}
 use Rattle.delivery.proofs.Machine.SubscriptionSteps.{at_push, at_end, set_length, beyond}

@@ -1,21 +1,12 @@
 -- The seq of each transaction counts its sender's.
 use Rattle.std.proofs.Common.{◌≡◌, ℕ, ◌+◌, ◌<◌, ◌≤◌, ◌==◌, Bool, true, false, cond, List, [], ◌∷◌, ◌++◌, length, get_or, set, Option, Some, None, refl, sym, ap, subst, ◌∙◌, arith}
-use Rattle.std.proofs.lemmas.Bool.{eqb-true, eq-eqb, not-false}
-use Rattle.std.proofs.lemmas.List.{length_push}
-use Rattle.mcast_txn.specs.Ballot.{Decision}
-use Rattle.mcast_txn.specs.declared.id.Topic.{Topic}
-use Rattle.mcast_txn.specs.declared.id.TxnId.{TxnId}
-use Rattle.mcast_txn.specs.declared.draft.sent_message.SentMessage.{SentMessage}
-use Rattle.mcast_txn.proofs.Members.{at_set, at_set_within}
-use Rattle.mcast_group.specs.declared.fault.ProposeFault.{ProposeFault}
-use Rattle.mcast_txn.specs.Span.{Item}
-use Rattle.mcast_group.specs.Machine.{Pending, Entry, due_part}
-use Rattle.mcast_group.proofs.Parts.{not_true, some_same, none_some}
-use Rattle.delivery.specs.Machine.World.{World, Leftover, SenderState, Connection, Standing, new_sender, nobody, topic_at, connection_at, speaker, with_speaker, subscription_at, entry_at, with_standing, start, speaker_number}
-use Rattle.delivery.specs.Machine.Moves.{Move, Answer, world_after, answer_to, move_refusal, move_effect, move_answer, find_leftover, find_verdict, oldest_live, next_txn, connect_effect, commit_effect, commit_answer, proposal_fault, propose_effect, propose_answer, cancel_effect, cancel_answer, learn_effect, release_answer, take_effect, take_answer, leave_effect, leave_answer, close_effect, close_effect_of}
+use Rattle.delivery.proofs.Words.Std.{eqb-true, eq-eqb, not-false, length_push}
+use Rattle.delivery.proofs.Words.Topics.{Decision, Topic, TxnId, SentMessage, ProposeFault, Item, Pending, Entry, due_part}
+use Rattle.delivery.proofs.Words.Lemmas.{at_set, at_set_within, not_true, some_same, none_some}
+use Rattle.delivery.proofs.Words.Machine.{World, Leftover, SenderState, Connection, Standing, new_sender, nobody, topic_at, connection_at, speaker, subscription_at, entry_at, with_standing, start, speaker_number, Move, Answer, world_after, answer_to, move_refusal, move_effect, move_answer, find_leftover, find_verdict, oldest_live, next_txn, connect_effect, commit_effect, commit_answer, proposal_fault, propose_effect, propose_answer, cancel_effect, cancel_answer, learn_effect, release_answer, take_effect, take_answer, leave_effect, leave_answer, close_effect, close_effect_of, run, answers_from, txn_count, Numbered}
+use Rattle.delivery.specs.Machine.World.{with_speaker}
 use Rattle.delivery.specs.Machine.Moves.Move.{AddsTopic, Opens, Connects, Commits, Subscribes, Unsubscribes, Disconnects, Errs, Lost, Leaves, Proposes, Decides, Withdraws, Cancels, Learns, Releases, Turns, Takes}
 use Rattle.delivery.specs.Machine.Moves.Answer.{Refused, Done, Opened}
-use Rattle.delivery.specs.Machine.Runs.{run, answers_from, txn_count, Numbered}
 use Rattle.delivery.specs.Theorem.Laws
 use Rattle.delivery.proofs.Machine.Invariant.{sender_in}
 use Rattle.delivery.proofs.Machine.SubscriptionSteps.{at_push_two, set_length}

@@ -1,33 +1,14 @@
 -- Each event keeps the run beside its core, and a settled topic's log leaves no row out.
 use Rattle.std.proofs.Common.{length, ◌≡◌, ℕ, ◌<◌, ◌≤◌, Bool, true, false, ◌⊎◌, inl, inr, List, [], ◌∷◌, set, Option, Some, None, refl, sym, ap, subst, ◌∙◌, arith}
-use Rattle.std.proofs.lemmas.Bool.{true≢false}
-use Rattle.mcast_txn.specs.Transaction.{TopicPart, topics_of}
-use Rattle.mcast_txn.specs.Agreed.{CommitRow}
-use Rattle.mcast_txn.specs.Ids.{same_id}
-use Rattle.mcast_txn.specs.Lists.{In}
-use Rattle.mcast_txn.specs.TopicSet.{names}
-use Rattle.mcast_txn.specs.Ballot.{Decision}
-use Rattle.mcast_txn.specs.declared.id.Topic.{Topic}
-use Rattle.mcast_txn.specs.declared.id.TxnId.{TxnId}
-use Rattle.mcast_txn.specs.declared.draft.sent_message.SentMessage.{SentMessage}
-use Rattle.mcast_txn.specs.declared.stamp.Stamp.{Stamp}
-use Rattle.mcast_txn.proofs.Orders.{id_equal, id_same, id_itself}
-use Rattle.mcast_txn.proofs.Members.{at_set, at_set_within, at_set_same}
-use Rattle.mcast_group.specs.declared.fault.ProposeFault.{ProposeFault}
-use Rattle.mcast_txn.specs.Span.{Item}
-use Rattle.mcast_group.specs.Machine.{TopicState, Pending, Entry, decided_stamp, new_topic, after_learn, after_cancel, due_part, after_turn, turn_count}
-use Rattle.mcast_group.proofs.Parts.{Waits, others, not_true, none_some}
+use Rattle.delivery.proofs.Words.Std.{true≢false, false≢true}
+use Rattle.delivery.proofs.Words.Topics.{TopicPart, topics_of, CommitRow, same_id, In, names, Decision, Topic, TxnId, SentMessage, Stamp, ProposeFault, Item, TopicState, Pending, Entry, decided_stamp, new_topic, after_learn, after_cancel, due_part, after_turn}
+use Rattle.delivery.proofs.Words.Lemmas.{id_equal, id_same, id_itself, at_set, at_set_within, Waits, others, not_true, none_some}
+use Rattle.delivery.proofs.Words.Machine.{log_row, World, Undecided, Leftover, SenderState, new_sender, topic_at, speaker, subscription_at, entry_at, start, new_topics, speaker_number, log_at, Move, Answer, world_after, answer_to, move_refusal, move_effect, move_answer, undecided_at, find_leftover, find_verdict, verdict_in, oldest_live, commit_effect, commit_answer, proposal_fault, propose_effect, propose_answer, withdraw_effect, cancel_effect, cancel_answer, learn_effect, release_answer, queue_has_room, take_effect, take_answer, leave_effect, leave_answer, close_effect, close_effect_of, connect_effect, run, answers_from, commits_of, IsSettled, AllResolved, Run, answers_of, final_world}
+use Rattle.mcast_txn.proofs.Members.{at_set_same}
+use Rattle.mcast_group.specs.Machine.{turn_count}
 use Rattle.mcast_group.proofs.Turning.{turn_none}
-use Rattle.delivery.specs.Machine.Objections.{Objection}
-use Rattle.delivery.specs.Theorem.Due.{log_row}
-use Rattle.delivery.specs.Machine.World.{World, Undecided, Leftover, SenderState, new_sender, topic_at, speaker, subscription_at, entry_at, start, new_topics, speaker_number}
-use Rattle.delivery.specs.Machine.Observed.{log_at}
-use Rattle.delivery.specs.Machine.Moves.{Move, Answer, world_after, answer_to, move_refusal, move_effect, move_answer, undecided_at, find_leftover, find_verdict, verdict_in, oldest_live, commit_effect, commit_answer, proposal_fault, propose_effect, propose_answer, withdraw_effect, cancel_effect, cancel_answer, learn_effect, release_answer, queue_has_room, take_effect, take_answer, leave_effect, leave_answer, close_effect, close_effect_of, connect_effect}
 use Rattle.delivery.specs.Machine.Moves.Move.{AddsTopic, Opens, Connects, Commits, Subscribes, Unsubscribes, Disconnects, Errs, Lost, Leaves, Proposes, Decides, Withdraws, Cancels, Learns, Releases, Turns, Takes}
-use Rattle.delivery.specs.Machine.Moves.Answer.{Refused, Done, Opened, Subscribed, Unsubscribed, Leaving, Error, Gone, Failed, Decided, Learnt, Handed}
-use Rattle.delivery.specs.Machine.Runs.{run, answers_from, commits_of}
-use Rattle.delivery.specs.Theorem.Settled.{IsSettled, AllResolved}
-use Rattle.delivery.specs.Theorem.Laws.{Run, answers_of, final_world}
+use Rattle.delivery.specs.Machine.Moves.Answer.{Refused, Done, Opened, Leaving, Error, Gone, Failed, Decided, Learnt, Handed}
 use Rattle.delivery.proofs.Machine.Invariant.{row, topic_in, sender_in}
 use Rattle.delivery.proofs.Machine.TopicSteps.{flies_uncommitted}
 use Rattle.delivery.proofs.Machine.ProposeStep.{within_senders}
@@ -41,45 +22,27 @@ use Rattle.delivery.proofs.Theorem.SettledSteps.{Calm, Settling, Gone_to, Gone-s
 
 -- ---- quiet outcomes
 
-quiet_refused : (why : Objection) → Quiet (Refused why)
-quiet_refused why = record { flying = λ txn e. cc; tickets = λ past. refl; withdrawn = λ id c e. cc; cancelled = λ id t e. cc; settled = λ t past h. h }
+-- it says nothing of a transaction but that it was decided
+abbrev is_quiet : Answer → Bool
+is_quiet (Answer.Begun txn) = false
+is_quiet (Answer.Ticket id ticket) = false
+is_quiet (Answer.Withdrawn id c) = false
+is_quiet (Answer.Cancelled id t) = false
+is_quiet (Answer.Turned t count) = false
+is_quiet o = true
 
-quiet_done : Quiet Done
-quiet_done = record { flying = λ txn e. cc; tickets = λ past. refl; withdrawn = λ id c e. cc; cancelled = λ id t e. cc; settled = λ t past h. h }
-
-quiet_opened : (c : ℕ) → Quiet (Opened c)
-quiet_opened c = record { flying = λ txn e. cc; tickets = λ past. refl; withdrawn = λ id d e. cc; cancelled = λ id t e. cc; settled = λ t past h. h }
-
-quiet_subscribed : (s c : ℕ) (u : Topic) (from : Stamp) → Quiet (Subscribed s c u from)
-quiet_subscribed s c u from = record { flying = λ txn e. cc; tickets = λ past. refl; withdrawn = λ id d e. cc; cancelled = λ id t e. cc; settled = λ t past h. h }
-
-quiet_unsubscribed : (s : ℕ) (to : Stamp) → Quiet (Unsubscribed s to)
-quiet_unsubscribed s to = record { flying = λ txn e. cc; tickets = λ past. refl; withdrawn = λ id d e. cc; cancelled = λ id t e. cc; settled = λ t past h. h }
-
-quiet_leaving : (c : ℕ) → Quiet (Leaving c)
-quiet_leaving c = record { flying = λ txn e. cc; tickets = λ past. refl; withdrawn = λ id d e. cc; cancelled = λ id t e. cc; settled = λ t past h. h }
-
-quiet_error : (c : ℕ) → Quiet (Error c)
-quiet_error c = record { flying = λ txn e. cc; tickets = λ past. refl; withdrawn = λ id d e. cc; cancelled = λ id t e. cc; settled = λ t past h. h }
-
-quiet_gone : (c : ℕ) → Quiet (Gone c)
-quiet_gone c = record { flying = λ txn e. cc; tickets = λ past. refl; withdrawn = λ id d e. cc; cancelled = λ id t e. cc; settled = λ t past h. h }
-
-quiet_failed : (id : TxnId) (why : ProposeFault) → Quiet (Failed id why)
-quiet_failed id why = record { flying = λ txn e. cc; tickets = λ past. refl; withdrawn = λ i d e. cc; cancelled = λ i t e. cc; settled = λ t past h. h }
-
-quiet_decided : (id : TxnId) (stamp : Stamp) → Quiet (Decided id stamp)
-quiet_decided id stamp = record { flying = λ txn e. cc; tickets = λ past. refl; withdrawn = λ i d e. cc; cancelled = λ i t e. cc; settled = λ t past h. h.1 }
-
-quiet_learnt : (id : TxnId) (u : Topic) → Quiet (Learnt id u)
-quiet_learnt id u = record { flying = λ txn e. cc; tickets = λ past. refl; withdrawn = λ i d e. cc; cancelled = λ i t e. cc; settled = λ t past h. h }
+quiet : (o : Answer) → is_quiet o ≡ true → Quiet o
+quiet (Answer.Begun txn) q = absurd (false≢true q)
+quiet (Answer.Ticket id ticket) q = absurd (false≢true q)
+quiet (Answer.Withdrawn id c) q = absurd (false≢true q)
+quiet (Answer.Cancelled id t) q = absurd (false≢true q)
+quiet (Answer.Turned t count) q = absurd (false≢true q)
+quiet (Answer.Decided id stamp) q = record { flying = λ txn e. cc; tickets = λ past. refl; withdrawn = λ i d e. cc; cancelled = λ i t e. cc; settled = λ t past h. h.1 }
+quiet _ q = record { flying = λ txn e. cc; tickets = λ past. refl; withdrawn = λ i d e. cc; cancelled = λ i t e. cc; settled = λ t past h. h }
 
 quiet_released : (u : Topic) (o : Option Pending) → Quiet (release_answer u o)
-quiet_released u None = quiet_done
-quiet_released u (Some p) = record { flying = λ txn e. cc; tickets = λ past. refl; withdrawn = λ i d e. cc; cancelled = λ i t e. cc; settled = λ t past h. h }
-
-quiet_handed : (s : ℕ) (item : Item) → Quiet (Handed s item)
-quiet_handed s item = record { flying = λ txn e. cc; tickets = λ past. refl; withdrawn = λ i d e. cc; cancelled = λ i t e. cc; settled = λ t past h. h }
+quiet_released u None = quiet Done refl
+quiet_released u (Some p) = quiet (release_answer u (Some p)) refl
 
 -- a quiet outcome of an event after which there is less
 fewer_quiet : (past : List Answer) (w v : World) (o : Answer) → Quiet o → Fewer w.topics w.senders v.topics v.senders → Settling past w.topics w.senders → Settling (o ∷ past) v.topics v.senders
@@ -136,7 +99,7 @@ proposed_settling past w c t memory h l a None e =
     ticket_settling past w s t f h.inv new (h.flights s f new.flight) l
 proposed_settling past w c t memory h l a (Some fault) e =
     let s = speaker_number w c in let f = undecided_at w c in let k = a.flying.is ∙ ap Some (sym a.flying.at) in
-    fewer_quiet past w (propose_effect w c t (Some fault)) (Failed f.txn.id fault) (quiet_failed f.txn.id fault)
+    fewer_quiet past w (propose_effect w c t (Some fault)) (Failed f.txn.id fault) (quiet (Failed f.txn.id fault) refl)
     (Fewer-sender w.topics w.senders s _ (omega arith) (one_same w.senders s _ f _ k refl refl)) l
 
 withdrawn_settling : (past : List Answer) (w : World) (c : ℕ) → Reached past w → Settling past w.topics w.senders → move_refusal w (Withdraws c) ≡ None → Settling (move_answer w (Withdraws c) ∷ past) (withdraw_effect w c).topics (withdraw_effect w c).senders
@@ -154,7 +117,7 @@ withdrawn_settling past w c h l e =
     (Settling-fewer past w.topics w.senders v.topics v.senders (Fewer-sender w.topics w.senders s _ (omega arith) (one_fewer w.senders s _ refl)) l)
 
 cancelled_settling : (past : List Answer) (w : World) (c : ℕ) (t : Topic) → Reached past w → Settling past w.topics w.senders → (o : Option Leftover) → find_leftover t (speaker w c).leftovers ≡ o → Settling (cancel_answer t o ∷ past) (cancel_effect w c t o).topics (cancel_effect w c t o).senders
-cancelled_settling past w c t h l None e = note_quiet past w.topics w.senders Done quiet_done l
+cancelled_settling past w c t h l None e = note_quiet past w.topics w.senders Done (quiet Done refl) l
 cancelled_settling past w c t h l (Some k) e =
     let s = speaker_number w c in let x = sender_in w.senders s in let v = cancel_effect w c t (Some k) in
     let found = leftover_found t x.leftovers k e in let g = (h.inv.serves s).left k found.stands in
@@ -188,53 +151,53 @@ closed_fewer w s None = Fewer-same w.topics w.senders
 closed_fewer w s (Some e) = let t = (subscription_at w s).topic in Fewer-topic w.topics w.senders t _ (Gone-same (topic_at w t).pending)
 
 left_settling : (past : List Answer) (w : World) (c : ℕ) (o : Option ℕ) → Settling past w.topics w.senders → Settling (leave_answer w c o ∷ past) (leave_effect w c o).topics (leave_effect w c o).senders
-left_settling past w c None l = note_quiet past w.topics w.senders (Gone c) (quiet_gone c) l
+left_settling past w c None l = note_quiet past w.topics w.senders (Gone c) (quiet (Gone c) refl) l
 left_settling past w c (Some s) l =
-    fewer_quiet past w (close_effect w s) (leave_answer w c (Some s)) (quiet_unsubscribed s _) (closed_fewer w s (entry_at w s)) l
+    fewer_quiet past w (close_effect w s) (leave_answer w c (Some s)) (quiet (leave_answer w c (Some s)) refl) (closed_fewer w s (entry_at w s)) l
 
 handed_settling : (past : List Answer) (w : World) (s : ℕ) (o : Option Item) → Settling past w.topics w.senders → Settling (take_answer w s o ∷ past) (take_effect w s o).topics (take_effect w s o).senders
-handed_settling past w s None l = note_quiet past w.topics w.senders (take_answer w s None) (quiet_error _) l
-handed_settling past w s (Some item) l = note_quiet past w.topics w.senders (Handed s item) (quiet_handed s item) l
+handed_settling past w s None l = note_quiet past w.topics w.senders (take_answer w s None) (quiet (take_answer w s None) refl) l
+handed_settling past w s (Some item) l = note_quiet past w.topics w.senders (Handed s item) (quiet (Handed s item) refl) l
 
 flown_settling : (past : List Answer) (w : World) (c : ℕ) (sends : List SentMessage) → Reached past w → Settling past w.topics w.senders → Settling (commit_answer w c sends ∷ past) (commit_effect w c sends).topics (commit_effect w c sends).senders
-flown_settling past w c [] h l = note_quiet past w.topics w.senders Done quiet_done l
+flown_settling past w c [] h l = note_quiet past w.topics w.senders Done (quiet Done refl) l
 flown_settling past w c (first ∷ others) h l = flying_settling past w c first others h.inv l
 
 connected_settling : (past : List Answer) (w : World) (c : ℕ) (claimed : Option ℕ) → Settling past w.topics w.senders → Settling (Done ∷ past) (connect_effect w c claimed).topics (connect_effect w c claimed).senders
-connected_settling past w c None l = fewer_quiet past w (connect_effect w c None) Done quiet_done (record {
+connected_settling past w c None l = fewer_quiet past w (connect_effect w c None) Done (quiet Done refl) (record {
   seqs = λ s. at_push (λ (z : SenderState). (sender_in w.senders s).seq ≤ z.seq) w.senders s new_sender new_sender (λ d o. o) (omega arith);
   flights = λ s f. at_push (λ (z : SenderState). z.flight ≡ Some f → (g : Undecided) × ((sender_in w.senders s).flight ≡ Some g) × (g.txn ≡ f.txn)) w.senders s new_sender new_sender
       (λ d o k. none_some f k) (λ k. (f, k, refl));
   parts = λ t. Gone-same (topic_in w.topics t).pending;
 }) l
-connected_settling past w c (Some s) l = note_quiet past w.topics w.senders Done quiet_done l
+connected_settling past w c (Some s) l = note_quiet past w.topics w.senders Done (quiet Done refl) l
 
 happens_settling : (past : List Answer) (w : World) (e : Move) → Reached past w → Settling past w.topics w.senders → move_refusal w e ≡ None → Settling (move_answer w e ∷ past) (move_effect w e).topics (move_effect w e).senders
-happens_settling past w (AddsTopic clock) h l e = fewer_quiet past w (move_effect w (AddsTopic clock)) Done quiet_done (record {
+happens_settling past w (AddsTopic clock) h l e = fewer_quiet past w (move_effect w (AddsTopic clock)) Done (quiet Done refl) (record {
   seqs = λ s. omega arith;
   flights = same_flights w.senders;
   parts = λ t. at_added (λ u z. Gone_to (topic_in w.topics u).pending z.pending) w.topics w.log_limit clock t (λ k q i. absurd i) (Gone-same (topic_in w.topics t).pending);
 }) l
-happens_settling past w Opens h l e = note_quiet past w.topics w.senders (Opened (length w.connections)) (quiet_opened (length w.connections)) l
+happens_settling past w Opens h l e = note_quiet past w.topics w.senders (Opened (length w.connections)) (quiet (Opened (length w.connections)) refl) l
 happens_settling past w (Connects c claimed) h l e = connected_settling past w c claimed l
 happens_settling past w (Commits c sends) h l e = flown_settling past w c sends h l
 happens_settling past w (Subscribes c t) h l e =
-    fewer_quiet past w (move_effect w (Subscribes c t)) (move_answer w (Subscribes c t)) (quiet_subscribed _ c t _)
+    fewer_quiet past w (move_effect w (Subscribes c t)) (move_answer w (Subscribes c t)) (quiet (move_answer w (Subscribes c t)) refl)
     (Fewer-topic w.topics w.senders t _ (Gone-same (topic_at w t).pending)) l
 happens_settling past w (Unsubscribes c s) h l e =
-    fewer_quiet past w (close_effect w s) (move_answer w (Unsubscribes c s)) (quiet_unsubscribed s _) (closed_fewer w s (entry_at w s)) l
-happens_settling past w (Disconnects c) h l e = note_quiet past w.topics w.senders (Leaving c) (quiet_leaving c) l
-happens_settling past w (Errs c) h l e = note_quiet past w.topics w.senders (Error c) (quiet_error c) l
-happens_settling past w (Lost c) h l e = note_quiet past w.topics w.senders (Leaving c) (quiet_leaving c) l
+    fewer_quiet past w (close_effect w s) (move_answer w (Unsubscribes c s)) (quiet (move_answer w (Unsubscribes c s)) refl) (closed_fewer w s (entry_at w s)) l
+happens_settling past w (Disconnects c) h l e = note_quiet past w.topics w.senders (Leaving c) (quiet (Leaving c) refl) l
+happens_settling past w (Errs c) h l e = note_quiet past w.topics w.senders (Error c) (quiet (Error c) refl) l
+happens_settling past w (Lost c) h l e = note_quiet past w.topics w.senders (Leaving c) (quiet (Leaving c) refl) l
 happens_settling past w (Leaves c) h l e = left_settling past w c (oldest_live c 0 w.subscriptions) l
 happens_settling past w (Proposes c t memory) h l e = proposed_settling past w c t memory h l (asks_of w c t memory e) (proposal_fault w c t memory) refl
 happens_settling past w (Decides c) h l e =
-    fewer_quiet past w (move_effect w (Decides c)) (move_answer w (Decides c)) (quiet_decided _ _)
+    fewer_quiet past w (move_effect w (Decides c)) (move_answer w (Decides c)) (quiet (move_answer w (Decides c)) refl)
     (Fewer-sender w.topics w.senders (speaker_number w c) _ (omega arith) (one_fewer w.senders (speaker_number w c) _ refl)) l
 happens_settling past w (Withdraws c) h l e = withdrawn_settling past w c h l e
 happens_settling past w (Cancels c t) h l e = cancelled_settling past w c t h l (find_leftover t (speaker w c).leftovers) refl
 happens_settling past w (Learns t id) h l e =
-    fewer_quiet past w (move_effect w (Learns t id)) (Learnt id t) (quiet_learnt id t) (learned_fewer w t id (find_verdict id w.verdicts)) l
+    fewer_quiet past w (move_effect w (Learns t id)) (Learnt id t) (quiet (Learnt id t) refl) (learned_fewer w t id (find_verdict id w.verdicts)) l
 happens_settling past w (Releases t) h l e =
     fewer_quiet past w (move_effect w (Releases t)) (move_answer w (Releases t)) (quiet_released t (due_part (topic_at w t)))
     (Fewer-topic w.topics w.senders t _ (Gone-release (queue_has_room w) (topic_at w t))) l
@@ -244,7 +207,7 @@ happens_settling past w (Takes s) h l e = handed_settling past w s _ l
 -- each event keeps Settling
 pub step_settling : (past : List Answer) (w : World) (e : Move) → Reached past w → Settling past w.topics w.senders → Settling (answer_to w e ∷ past) (world_after w e).topics (world_after w e).senders
 step_settling past w e h l =
-    by_refusal (λ v o. Settling (o ∷ past) v.topics v.senders) w e (λ why. note_quiet past w.topics w.senders (Refused why) (quiet_refused why) l)
+    by_refusal (λ v o. Settling (o ∷ past) v.topics v.senders) w e (λ why. note_quiet past w.topics w.senders (Refused why) (quiet (Refused why) refl) l)
     (λ n. happens_settling past w e h l n)
 
 -- ---- over a run

@@ -1,27 +1,11 @@
 -- A settled topic's log leaves no row out.
 use Rattle.std.proofs.Common.{◌≡◌, ℕ, ◌+◌, ◌≤◌, Bool, false, inl, inr, List, [], ◌∷◌, set, Option, Some, None, refl, sym, ap, subst, ◌∙◌, arith}
-use Rattle.std.proofs.lemmas.Bool.{true≢false}
-use Rattle.mcast_txn.specs.Transaction.{TopicPart, topics_of}
-use Rattle.mcast_txn.specs.Agreed.{Transaction, CommitRow}
-use Rattle.mcast_txn.specs.Ids.{same_id}
-use Rattle.mcast_txn.specs.Lists.{In}
-use Rattle.mcast_txn.specs.TopicSet.{names}
-use Rattle.mcast_txn.specs.Ballot.{Decision}
-use Rattle.mcast_txn.specs.declared.id.Topic.{Topic}
-use Rattle.mcast_txn.specs.declared.id.TxnId.{TxnId}
-use Rattle.mcast_txn.specs.declared.draft.sent_message.SentMessage.{SentMessage}
-use Rattle.mcast_txn.specs.declared.stamp.Stamp.{Stamp}
-use Rattle.mcast_txn.proofs.Orders.{id_equal}
-use Rattle.mcast_txn.proofs.Inserting.{In-insert_cases}
-use Rattle.mcast_txn.proofs.Members.{In-map_cases, at_set}
-use Rattle.mcast_group.specs.Machine.{TopicState, Pending, Entry, with_stamp, after_learn, after_cancel, after_release, after_turn, decided_stamp}
-use Rattle.mcast_group.proofs.Parts.{Waits, told_how, others, not_true, some_same}
-use Rattle.mcast_group.proofs.Turning.{release_keeps, turn_keeps}
-use Rattle.delivery.specs.Machine.World.{World, Undecided, SenderState, new_sender, speaker, speaker_number}
-use Rattle.delivery.specs.Machine.Moves.{Answer, next_txn, commit_effect}
+use Rattle.delivery.proofs.Words.Std.{true≢false}
+use Rattle.delivery.proofs.Words.Topics.{TopicPart, topics_of, Transaction, CommitRow, same_id, In, names, Decision, Topic, TxnId, SentMessage, Stamp, TopicState, Pending, Entry, with_stamp, after_learn, after_cancel, after_release, after_turn, decided_stamp}
+use Rattle.delivery.proofs.Words.Lemmas.{id_equal, In-insert_cases, In-map_cases, at_set, Waits, others, not_true, some_same, release_keeps, turn_keeps}
+use Rattle.delivery.proofs.Words.Machine.{World, Undecided, SenderState, new_sender, speaker, speaker_number, Answer, next_txn, commit_effect, txn_of_id, AllResolved, IsSettled}
+use Rattle.mcast_group.proofs.Parts.{told_how}
 use Rattle.delivery.specs.Machine.Moves.Answer.{Begun, Ticket, Withdrawn, Cancelled, Turned}
-use Rattle.delivery.specs.Machine.Runs.{txn_of_id}
-use Rattle.delivery.specs.Theorem.Settled.{AllResolved, IsSettled}
 use Rattle.delivery.proofs.Machine.Invariant.{row, topic_in, sender_in, Holds}
 use Rattle.delivery.proofs.Machine.TopicSteps.{at_topic_from}
 use Rattle.delivery.proofs.Machine.ProposeStep.{New, heard, cons_one, topic_after, sender_after, flight_after}

@@ -1,26 +1,11 @@
 -- Where each ticket is: its transaction is undecided, or committed, or it is left over from a withdrawal, or was cancelled.
 use Rattle.std.proofs.Common.{◌≡◌, ◌≢◌, ℕ, ◌+◌, ◌<◌, ◌==◌, Bool, true, false, cond, ◌⊎◌, inl, inr, List, [], ◌∷◌, ◌++◌, length, map, set, Option, Some, None, refl, sym, ap, subst, ◌∙◌, arith}
-use Rattle.std.specs.Option.{is_some}
-use Rattle.std.proofs.lemmas.Bool.{true≢false, cases_order, or_parts, not-false}
-use Rattle.mcast_txn.specs.Stamp.{greatest}
-use Rattle.mcast_txn.specs.Transaction.{topics_of}
-use Rattle.mcast_txn.specs.Agreed.{Transaction, CommitRow}
-use Rattle.mcast_txn.specs.Lists.{In}
-use Rattle.mcast_txn.specs.TopicSet.{names}
-use Rattle.mcast_txn.specs.declared.id.Topic.{Topic}
-use Rattle.mcast_txn.specs.declared.draft.sent_message.SentMessage.{SentMessage}
-use Rattle.mcast_txn.specs.declared.stamp.Stamp.{Stamp}
-use Rattle.mcast_txn.proofs.Members.{In-push, In-append_left, In-append_right, In-map, at_set, at_set_within, push_one}
-use Rattle.mcast_group.specs.declared.fault.ProposeFault.{ProposeFault}
-use Rattle.mcast_txn.specs.Span.{Item}
-use Rattle.mcast_group.specs.Machine.{Pending, Entry, due_part}
-use Rattle.mcast_group.proofs.Parts.{some_same}
-use Rattle.delivery.specs.Machine.World.{World, Undecided, Leftover, SenderState, new_sender, speaker, entry_at, topic_at, start, speaker_number}
-use Rattle.delivery.specs.Machine.Moves.{Move, Answer, world_after, answer_to, move_refusal, move_effect, move_answer, undecided_at, find_leftover, drop_leftover, leftover, find_verdict, oldest_live, insert_ticket, next_txn, next_ticket, commit_effect, commit_answer, proposal_fault, propose_effect, propose_answer, decide_effect, withdraw_effect, cancel_effect, cancel_answer, release_answer, take_effect, take_answer, leave_effect, leave_answer, close_effect_of, connect_effect}
+use Rattle.delivery.proofs.Words.Std.{is_some, true≢false, cases_order, or_parts, not-false}
+use Rattle.delivery.proofs.Words.Topics.{greatest, topics_of, Transaction, CommitRow, In, names, Topic, SentMessage, Stamp, ProposeFault, Item, Pending, Entry, due_part}
+use Rattle.delivery.proofs.Words.Lemmas.{In-push, In-append_left, In-append_right, In-map, at_set, at_set_within, push_one, some_same}
+use Rattle.delivery.proofs.Words.Machine.{World, Undecided, Leftover, SenderState, new_sender, speaker, entry_at, topic_at, start, speaker_number, Move, Answer, world_after, answer_to, move_refusal, move_effect, move_answer, undecided_at, find_leftover, drop_leftover, leftover, find_verdict, oldest_live, insert_ticket, next_txn, next_ticket, commit_effect, commit_answer, proposal_fault, propose_effect, propose_answer, decide_effect, withdraw_effect, cancel_effect, cancel_answer, release_answer, take_effect, take_answer, leave_effect, leave_answer, close_effect_of, connect_effect, txn_of_id, run, answers_from, Run, answers_of, final_world}
 use Rattle.delivery.specs.Machine.Moves.Move.{Connects, Commits, Unsubscribes, Leaves, Proposes, Decides, Withdraws, Cancels, Learns, Releases, Takes}
 use Rattle.delivery.specs.Machine.Moves.Answer.{Refused, Done, Begun, Ticket, Failed, Decided, Withdrawn, Cancelled}
-use Rattle.delivery.specs.Machine.Runs.{txn_of_id, run, answers_from}
-use Rattle.delivery.specs.Theorem.Laws.{Run, answers_of, final_world}
 use Rattle.delivery.proofs.Machine.Invariant.{row, sender_in}
 use Rattle.delivery.proofs.Machine.ProposeStep.{within_senders, cons_one, cons_two, not_given}
 use Rattle.delivery.proofs.Machine.SenderSteps.{TicketOf, complete_at, leftover_found}

@@ -1,16 +1,8 @@
 -- Each topic of a run is sound and undrained, and a settled topic's frontier is at least each stamp that names it.
 use Rattle.std.proofs.Common.{◌≡◌, false, ◌∙◌, ap, subst}
-use Rattle.mcast_txn.specs.Stamp.{stamp_lt}
-use Rattle.mcast_txn.specs.Agreed.{CommitRow}
-use Rattle.mcast_txn.specs.Lists.{In}
-use Rattle.mcast_txn.specs.declared.id.Topic.{Topic}
-use Rattle.mcast_txn.specs.Span.{last_stamp}
-use Rattle.mcast_group.specs.Sound.{IsSound}
-use Rattle.delivery.specs.Theorem.Due.{log_row}
-use Rattle.delivery.specs.Machine.World.{topic_at}
-use Rattle.delivery.specs.Machine.Observed.{log_at, frontier_at}
+use Rattle.delivery.proofs.Words.Topics.{stamp_lt, CommitRow, In, Topic, last_stamp, IsSound}
+use Rattle.delivery.proofs.Words.Machine.{log_row, topic_at, log_at, frontier_at, Run, final_world}
 use Rattle.delivery.specs.Theorem.Laws
-use Rattle.delivery.specs.Theorem.Laws.{Run, answers_of, final_world}
 use Rattle.delivery.proofs.Theorem.AcceptedIsDue.{reached}
 use Rattle.delivery.proofs.Theorem.SettledLeavesNoneOut.{settled_in_log}
 

@@ -1,26 +1,10 @@
 -- Each topic of a run is tied to the tickets that it gave, and each sender's floor to the commit list.
 use Rattle.std.proofs.Common.{◌≡◌, ℕ, true, false, ◌⊎◌, inl, inr, List, [], ◌∷◌, refl, sym, ap, subst, ◌∙◌}
-use Rattle.std.proofs.lemmas.Bool.{true≢false}
-use Rattle.mcast_txn.specs.Stamp.{zero_stamp, stamp_lt}
-use Rattle.mcast_txn.specs.Transaction.{TopicPart, topics_of}
-use Rattle.mcast_txn.specs.Part.{part_at}
-use Rattle.mcast_txn.specs.Agreed.{Transaction, CommitRow}
-use Rattle.mcast_txn.specs.Lists.{In}
-use Rattle.mcast_txn.specs.TopicSet.{names}
-use Rattle.mcast_txn.specs.declared.id.Topic.{Topic}
-use Rattle.mcast_txn.specs.declared.id.TxnId.{TxnId}
-use Rattle.mcast_txn.specs.declared.stamp.Stamp.{Stamp}
-use Rattle.mcast_txn.proofs.Orders.{id_same, id_itself, le_lt}
-use Rattle.mcast_txn.proofs.Members.{In-push_cases, not_head}
-use Rattle.mcast_txn.specs.Span.{LogRow}
-use Rattle.mcast_group.specs.Machine.{Pending, key}
-use Rattle.mcast_group.proofs.Parts.{Waits}
-use Rattle.delivery.specs.Theorem.Due.{log_row}
-use Rattle.delivery.specs.Machine.World.{topic_at, sender_at}
-use Rattle.delivery.specs.Machine.Moves.{Answer}
+use Rattle.delivery.proofs.Words.Std.{true≢false}
+use Rattle.delivery.proofs.Words.Topics.{zero_stamp, stamp_lt, TopicPart, topics_of, part_at, Transaction, CommitRow, In, names, Topic, TxnId, Stamp, LogRow, Pending, key}
+use Rattle.delivery.proofs.Words.Lemmas.{id_same, id_itself, le_lt, In-push_cases, not_head, Waits}
+use Rattle.delivery.proofs.Words.Machine.{log_row, topic_at, sender_at, Answer, txn_of_id, commits_of, Run, answers_of, final_world}
 use Rattle.delivery.specs.Machine.Moves.Answer.{Ticket, Decided, Cancelled}
-use Rattle.delivery.specs.Machine.Runs.{txn_of_id, commits_of}
-use Rattle.delivery.specs.Theorem.Laws.{Run, answers_of, final_world}
 use Rattle.delivery.specs.Theorem.Tied
 use Rattle.delivery.specs.Theorem.Tied.{IsWaiting, IsAccountedFor, HasTicket}
 use Rattle.delivery.proofs.Machine.Invariant.{row}

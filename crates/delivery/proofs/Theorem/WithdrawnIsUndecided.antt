@@ -1,22 +1,12 @@
 -- No transaction is both withdrawn and decided.
 use Rattle.std.proofs.Common.{◌≡◌, ℕ, inl, inr, List, [], ◌∷◌, Option, Some, None, sym, ap, subst, ◌∙◌}
-use Rattle.std.proofs.lemmas.Bool.{true≢false}
-use Rattle.mcast_txn.specs.Lists.{In}
-use Rattle.mcast_txn.specs.declared.id.Topic.{Topic}
-use Rattle.mcast_txn.specs.declared.id.TxnId.{TxnId}
-use Rattle.mcast_txn.specs.declared.draft.sent_message.SentMessage.{SentMessage}
-use Rattle.mcast_txn.specs.declared.stamp.Stamp.{Stamp}
-use Rattle.mcast_txn.proofs.Orders.{id_same}
-use Rattle.mcast_group.specs.declared.fault.ProposeFault.{ProposeFault}
-use Rattle.mcast_txn.specs.Span.{Item}
-use Rattle.mcast_group.specs.Machine.{Pending, due_part}
-use Rattle.delivery.specs.Machine.World.{World, Undecided, Leftover, topic_at, speaker, start, speaker_number}
-use Rattle.delivery.specs.Machine.Moves.{Move, Answer, world_after, answer_to, move_refusal, move_answer, find_leftover, oldest_live, commit_answer, proposal_fault, propose_answer, cancel_answer, release_answer, take_answer, leave_answer}
+use Rattle.delivery.proofs.Words.Std.{true≢false}
+use Rattle.delivery.proofs.Words.Topics.{In, Topic, TxnId, SentMessage, Stamp, ProposeFault, Item, Pending, due_part}
+use Rattle.delivery.proofs.Words.Lemmas.{id_same}
+use Rattle.delivery.proofs.Words.Machine.{World, Undecided, Leftover, topic_at, speaker, start, speaker_number, Move, Answer, world_after, answer_to, move_refusal, move_answer, find_leftover, oldest_live, commit_answer, proposal_fault, propose_answer, cancel_answer, release_answer, take_answer, leave_answer, answers_from}
 use Rattle.delivery.specs.Machine.Moves.Move.{Commits, Leaves, Proposes, Decides, Withdraws, Cancels, Releases, Takes}
 use Rattle.delivery.specs.Machine.Moves.Answer.{Decided, Withdrawn}
-use Rattle.delivery.specs.Machine.Runs.{answers_from}
 use Rattle.delivery.specs.Theorem.Laws
-use Rattle.delivery.specs.Theorem.Laws.{answers_of}
 use Rattle.delivery.proofs.Machine.Invariant.{sender_in}
 use Rattle.delivery.proofs.Machine.TopicSteps.{flies_uncommitted}
 use Rattle.delivery.proofs.Machine.InvariantIsKept.{Reached, tickets, by_refusal, checked, in_flight, step_reached}

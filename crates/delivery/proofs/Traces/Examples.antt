@@ -1,23 +1,13 @@
 -- Worked traces: of transactions that cross at two topics, and of one that crosses another beside a subscription.
 use Rattle.std.proofs.Common.{inl, inr, refl, arith}
-use Rattle.std.specs.Prelude.{◌≡◌, ℕ, zero, suc, ◌<◌, true, List, [], ◌∷◌, codes, None}
-use Rattle.mcast_txn.specs.declared.id.Topic.{Topic}
-use Rattle.mcast_txn.specs.Agreed.{Transaction}
-use Rattle.mcast_txn.specs.Lists.{In}
-use Rattle.mcast_txn.specs.Span.{LogRow}
-use Rattle.trace_audit.specs.Explained.{IsExplainedBy}
+use Rattle.delivery.proofs.Words.Std.{◌≡◌, ℕ, zero, suc, ◌<◌, true, List, [], ◌∷◌, codes, None}
+use Rattle.delivery.proofs.Words.Topics.{Topic, Transaction, In, LogRow, IsExplainedBy, TopicRow, TraceData}
+use Rattle.delivery.proofs.Words.Machine.{IsSettled, IsResolved, Answer}
+use Rattle.delivery.proofs.Words.Core.{Event, account_of, Core, report_of, trace_of, AllSettled}
 use Rattle.trace_audit.specs.Faults.{audit_fault, is_whole}
-use Rattle.trace_audit.specs.Logs.{TopicRow}
-use Rattle.trace_audit.specs.Trace.{TraceData}
 use Rattle.trace_audit.proofs.Refuting.{complete}
 use Rattle.trace_audit.proofs.Examples.{crossing_is_explained}
-use Rattle.delivery.specs.declared.event.Event.{Event}
-use Rattle.delivery.specs.Theorem.Settled.{IsSettled, IsResolved}
-use Rattle.delivery.specs.Machine.Moves.{Answer}
-use Rattle.delivery.specs.Core.Account.{account_of}
-use Rattle.delivery.specs.Core.State.{Core}
-use Rattle.delivery.specs.Core.Reports.{report_of}
-use Rattle.delivery.specs.Traces.{trace_of, AllSettled, IsExplained}
+use Rattle.delivery.specs.Traces.{IsExplained}
 use Rattle.delivery.proofs.Core.Acts.{topic, stamp, id, made, log_row, Act, act, reads, begin, send_in, commit, opens, propose, turn, played, x_to, A, B}
 use Rattle.delivery.proofs.Core.Rows.{both, crossing}
 use Rattle.delivery.proofs.Traces.Explained.{logged_rows}

@@ -1,29 +1,14 @@
 -- What is delivered explains its trace.
 use Rattle.std.proofs.Common.{◌≡◌, ◌≢◌, ℕ, ◌<◌, ◌&&◌, Bool, true, false, not, ◌⊎◌, inl, inr, List, [], ◌∷◌, map, take, length, Option, Some, refl, sym, ap, subst, ◌∙◌}
-use Rattle.std.specs.List.{filter, list_any}
-use Rattle.std.proofs.lemmas.Bool.{and_parts, true≢false}
-use Rattle.mcast_txn.specs.declared.id.Topic.{Topic}
-use Rattle.mcast_txn.specs.declared.stamp.Stamp.{Stamp}
-use Rattle.mcast_txn.specs.Agreed.{CommitRow, committed_id, stamp_of, agreed}
-use Rattle.mcast_txn.specs.Ids.{same_id}
-use Rattle.mcast_txn.specs.Lists.{In}
-use Rattle.mcast_txn.specs.Span.{LogRow, row_id, row_stamp, in_span, last_stamp, up_to, row_mark}
-use Rattle.mcast_txn.specs.Stamp.{stamp_lt, zero_stamp}
-use Rattle.mcast_txn.specs.TopicSet.{names}
-use Rattle.mcast_txn.specs.Transaction.{topics_of}
-use Rattle.mcast_txn.proofs.Members.{In-map, In-map_cases, In-filter, In-filter_cases, filter_same, filter_none, filter_twice, any_found, any_from, In-take}
-use Rattle.mcast_txn.proofs.Orders.{id_equal, id_itself, le_lt, zero_least}
-use Rattle.mcast_txn.proofs.Sorting.{In-sorted_cases, Rises-filter}
-use Rattle.trace_audit.specs.Explained.{rows_at, IsExplainedBy, IsCompleteBy}
-use Rattle.trace_audit.specs.Logs.{TopicRow}
-use Rattle.trace_audit.specs.Trace.{rows_of, queue_of, marks_in}
-use Rattle.delivery.specs.Theorem.Due.{log_row, item_at, is_due}
-use Rattle.delivery.specs.Machine.Moves.{Answer}
-use Rattle.delivery.specs.Machine.Runs.{commits_of, released_at}
-use Rattle.delivery.specs.Core.Answered.{DeliversAnswers}
-use Rattle.delivery.specs.Core.Reports.{Report, log_in, span_of}
+use Rattle.delivery.proofs.Words.Std.{list_any, and_parts, true≢false}
+use Rattle.delivery.proofs.Words.Topics.{Topic, Stamp, CommitRow, committed_id, stamp_of, agreed, same_id, In, LogRow, row_id, row_stamp, in_span, last_stamp, up_to, row_mark, stamp_lt, zero_stamp, names, topics_of, IsExplainedBy, IsCompleteBy, TopicRow, rows_of, queue_of}
+use Rattle.delivery.proofs.Words.Lemmas.{In-map, In-map_cases, In-filter, In-filter_cases, filter_same, filter_none, filter_twice, any_found, any_from, In-take, id_equal, id_itself, le_lt, zero_least, In-sorted_cases, Rises-filter}
+use Rattle.delivery.proofs.Words.Machine.{log_row, item_at, is_due, Answer, commits_of, released_at}
+use Rattle.delivery.proofs.Words.Core.{DeliversAnswers, Report, log_in, traced_span, trace_of, AllSettled}
+use Rattle.std.specs.List.{filter}
+use Rattle.trace_audit.specs.Explained.{rows_at}
+use Rattle.trace_audit.specs.Trace.{marks_in}
 use Rattle.delivery.proofs.Core.QueueOfReport.{queue_in, queue_there}
-use Rattle.delivery.specs.Traces.{traced_span, trace_of, AllSettled}
 use Rattle.delivery.proofs.Traces.Lists.{filter_mapped}
 use Rattle.delivery.proofs.Traces.TracedRows.{item_row, log_is, row_in_log, row_of_log, queue_is, spanned}
 use Rattle.delivery.proofs.Traces.Sequence.{agreed_rises, one_of_id, order_filtered, order_logged, taken_up_to}
@@ -171,13 +156,13 @@ queue_cut : {capacity : ℕ} (account : List Answer) (r : Report) (d : DeliversA
     → queue_of s (trace_of r).queues ≡ marks_in (traced_span s (queue_in r s)) (trace_of r).logs
 queue_cut account r d s l =
     let q = queue_in r s in
-    let last = last_stamp zero_stamp (log_in r q.topic) in
+    let last = last_stamp zero_stamp (log_in r q.span.topic) in
     queue_is r s
     ∙ (ap (map (λ item. row_mark (item_row item))) ((d.queues s q (queue_there r s l)).exactly_due)
-    ∙ (marks_twice q.topic (filter (is_due (span_of q) last) (agreed (commits_of account)))
-    ∙ (ap (map row_mark) (sym (filter_mapped (due_row q.topic q.from q.to last) log_row (agreed (commits_of account))))
-    ∙ (ap (map row_mark) (due_logged account r d q.topic q.from q.to)
-    ∙ ap (λ z. map row_mark (filter (λ (row : LogRow). in_span q.from q.to row.stamp) z)) (sym (log_is r q.topic))))))
+    ∙ (marks_twice q.span.topic (filter (is_due q.span last) (agreed (commits_of account)))
+    ∙ (ap (map row_mark) (sym (filter_mapped (due_row q.span.topic q.span.from q.span.to last) log_row (agreed (commits_of account))))
+    ∙ (ap (map row_mark) (due_logged account r d q.span.topic q.span.from q.span.to)
+    ∙ ap (λ z. map row_mark (filter (λ (row : LogRow). in_span q.span.from q.span.to row.stamp) z)) (sym (log_is r q.span.topic))))))
 
 -- ---- all together
 

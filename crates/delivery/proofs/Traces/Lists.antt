@@ -1,11 +1,10 @@
 -- Lists that are filtered, numbered and taken.
 use Rattle.std.proofs.Common.{◌≡◌, ℕ, zero, suc, ◌+◌, ◌<◌, ◌==◌, Bool, true, false, List, [], ◌∷◌, ◌++◌, map, get_or, refl, sym, ap, ◌∙◌, append-nil, arith}
-use Rattle.std.specs.List.{filter, flat_map, enumerate_from}
-use Rattle.std.proofs.lemmas.Bool.{eq-eqb}
-use Rattle.std.proofs.lemmas.Bool.Decides.{nat_tests}
-use Rattle.std.proofs.lemmas.List.Elements.{filter-append}
-use Rattle.mcast_txn.specs.Lists.{In}
-use Rattle.mcast_txn.proofs.Members.{filter_all, filter_none}
+use Rattle.delivery.proofs.Words.Std.{flat_map, enumerate_from, eq-eqb, nat_tests, filter-append}
+use Rattle.delivery.proofs.Words.Topics.{In}
+use Rattle.delivery.proofs.Words.Lemmas.{filter_none}
+use Rattle.std.specs.List.{filter}
+use Rattle.mcast_txn.proofs.Members.{filter_all}
 
 map_case : {X Y : Type 0} (p : Y → Bool) (f : X → Y) (x : X) (xs : List X) (b : Bool) → p (f x) ≡ b
     → filter p (map f xs) ≡ map f (filter (λ y. p (f y)) xs) → filter p (map f (x ∷ xs)) ≡ map f (filter (λ y. p (f y)) (x ∷ xs))

@@ -1,23 +1,12 @@
 -- A trace as it grows: by a row of a log, an item of a queue, a topic and a subscription.
 use Rattle.std.proofs.Common.{◌≡◌, ℕ, zero, suc, ◌+◌, ◌<◌, ◌≤◌, ◌==◌, ◌||◌, Bool, true, false, List, [], ◌∷◌, ◌++◌, map, take, length, get_or, Some, refl, sym, ap, subst, ◌∙◌, append_assoc, append-nil, arith}
-use Rattle.std.specs.Prelude.{slice_get}
-use Rattle.std.specs.List.{list_all, flat_map, enumerate_from}
-use Rattle.std.specs.Option.{option_map}
-use Rattle.std.proofs.lemmas.Bool.{and_parts, eq-eqb}
-use Rattle.std.proofs.lemmas.Bool.Decides.{nat_tests}
+use Rattle.delivery.proofs.Words.Std.{slice_get, list_all, flat_map, enumerate_from, option_map, and_parts, eq-eqb, nat_tests, map-append, take_more, slice_get-get_or, get_or_from_slice_get}
+use Rattle.delivery.proofs.Words.Topics.{Topic, Item, LogRow, GroupState, QueueRow, SpanRow, TopicRow, TraceData, fits, has_span}
+use Rattle.delivery.proofs.Words.Core.{QueueReport, traced_log, traced_span, traced_queue}
 use Rattle.std.proofs.lemmas.Grind.{flat_map-append}
-use Rattle.std.proofs.lemmas.List.{map-append, take_more, length-take-le}
+use Rattle.std.proofs.lemmas.List.{length-take-le}
 use Rattle.std.proofs.lemmas.List.Folds.{list_all-append}
-use Rattle.std.proofs.lemmas.Option.{slice_get_within, slice_get-get_or, slice_get-map, get_or_from_slice_get}
-use Rattle.mcast_txn.specs.declared.id.Topic.{Topic}
-use Rattle.mcast_txn.specs.Span.{Item, LogRow}
-use Rattle.mcast_group.specs.Group.{GroupState}
-use Rattle.trace_audit.specs.declared.row.QueueRow.{QueueRow}
-use Rattle.trace_audit.specs.declared.row.SpanRow.{SpanRow}
-use Rattle.trace_audit.specs.Logs.{TopicRow}
-use Rattle.trace_audit.specs.Trace.{TraceData, fits, has_span}
-use Rattle.delivery.specs.Core.Reports.{QueueReport}
-use Rattle.delivery.specs.Traces.{traced_log, traced_span, traced_queue}
+use Rattle.std.proofs.lemmas.Option.{slice_get_within, slice_get-map}
 use Rattle.delivery.proofs.Traces.Lists.{made_of}
 
 -- an item as a row of a subscription's queue

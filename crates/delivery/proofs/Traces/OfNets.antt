@@ -1,35 +1,16 @@
 -- The trace of what a net holds: its rows fit, and it is traced.
 use Rattle.std.proofs.Common.{◌≡◌, ◌<◌, ◌≤◌, ◌==◌, nat_lt, true, List, [], ◌∷◌, length, Some, None, refl, sym, ap, subst, ◌∙◌, arith}
-use Rattle.std.specs.List.{filter, list_all, AllByRecursion}
-use Rattle.std.specs.Prelude.{ℕ, reverse}
-use Rattle.std.proofs.lemmas.Bool.{and_from, eq-eqb, lt-ltb}
-use Rattle.std.proofs.lemmas.List.{length-map}
-use Rattle.mcast_txn.specs.declared.id.Topic.{Topic}
-use Rattle.mcast_txn.specs.Agreed.{agreed}
-use Rattle.mcast_txn.specs.Lists.{In, RisesBy}
-use Rattle.mcast_txn.specs.Span.{LogRow}
-use Rattle.mcast_txn.specs.TopicSet.{names}
-use Rattle.mcast_txn.proofs.Members.{In-map, In-map_cases, In-filter, In-filter_cases, In-take, all_from}
-use Rattle.mcast_txn.proofs.TopicLemmas.{topics_rise}
-use Rattle.mcast_group.specs.Group.{GroupState}
-use Rattle.trace_audit.specs.Logs.{TopicRow}
-use Rattle.trace_audit.specs.Trace.{fits, rise_after}
-use Rattle.stomp_session.specs.Names.{max_topics}
-use Rattle.delivery.specs.Nets.{KeptRun}
-use Rattle.delivery.specs.Theorem.Due.{log_row}
-use Rattle.delivery.specs.Machine.Moves.{Answer}
-use Rattle.delivery.specs.Machine.Runs.{commits_of}
-use Rattle.delivery.specs.Core.Account.{account_of}
-use Rattle.delivery.specs.Core.State.{core_of}
-use Rattle.delivery.specs.Core.Steps.{names_after}
+use Rattle.delivery.proofs.Words.Std.{list_all, AllByRecursion, ℕ, reverse, and_from, eq-eqb, lt-ltb, length-map}
+use Rattle.delivery.proofs.Words.Topics.{Topic, agreed, In, RisesBy, LogRow, names, GroupState, TopicRow, fits}
+use Rattle.delivery.proofs.Words.Frames.{max_topics}
+use Rattle.delivery.proofs.Words.Lemmas.{In-map, In-map_cases, In-filter, In-filter_cases, In-take, topics_rise}
+use Rattle.delivery.proofs.Words.Machine.{log_row, Answer, commits_of}
+use Rattle.delivery.proofs.Words.Core.{KeptRun, account_of, core_of, names_after, Report, report_of, DeliversAnswers, trace_of, IsTraced}
+use Rattle.delivery.proofs.Words.Views.{KeepsRun, steps_of, View, report_in}
+use Rattle.std.specs.List.{filter}
+use Rattle.mcast_txn.proofs.Members.{all_from}
+use Rattle.trace_audit.specs.Trace.{rise_after}
 use Rattle.delivery.proofs.Core.NamesFew.{names_few}
-use Rattle.delivery.specs.Core.Reports.{Report, report_of}
-use Rattle.delivery.specs.Core.Answered.{DeliversAnswers}
-use Rattle.delivery.specs.Inner.NetInvariant.{KeepsRun}
-use Rattle.delivery.specs.Inner.Readings.{steps_of}
-use Rattle.delivery.specs.Inner.View.{View}
-use Rattle.delivery.specs.Inner.ViewReports.{report_in}
-use Rattle.delivery.specs.Traces.{trace_of, IsTraced}
 use Rattle.delivery.proofs.Core.DeliversOfRun.{delivers}
 use Rattle.delivery.proofs.Views.Runs.KeptRuns.{is_delivered, has_report}
 use Rattle.delivery.proofs.Views.Runs.ReportOfView.{reported}

@@ -1,26 +1,13 @@
 -- The trace of every run of the core.
 use Rattle.std.proofs.Common.{◌≡◌, ℕ, ◌<◌, true, inl, inr, List, length, refl, sym, ap, subst, ◌∙◌}
-use Rattle.std.proofs.lemmas.Bool.{cases_lt}
-use Rattle.mcast_txn.specs.declared.id.Topic.{Topic}
-use Rattle.mcast_txn.specs.Agreed.{CommitRow}
-use Rattle.mcast_txn.specs.Lists.{In}
-use Rattle.mcast_txn.specs.TopicSet.{names}
-use Rattle.mcast_txn.specs.Transaction.{topics_of}
-use Rattle.mcast_group.specs.Machine.{TopicState, new_topic}
-use Rattle.mcast_group.proofs.Parts.{map_length}
-use Rattle.delivery.specs.Topics.{TopicList}
-use Rattle.delivery.specs.Nets.{KeptRun, core_of_net, HasReport}
-use Rattle.delivery.specs.Theorem.Due.{log_row}
-use Rattle.delivery.specs.Theorem.Laws.{Run, answers_of, final_world}
-use Rattle.delivery.specs.Machine.Runs.{commits_of}
-use Rattle.delivery.specs.Core.Steps.{CoreStep, names_after}
-use Rattle.delivery.specs.Core.Account.{account_of}
-use Rattle.delivery.specs.Core.State.{Core, core_of, names_at}
-use Rattle.delivery.specs.Core.Outcomes.{IsCoreRun}
-use Rattle.delivery.specs.Core.Reports.{report_of}
-use Rattle.delivery.specs.Traces.{trace_of, AllSettled, IsTraced, RunsAreExplained, TracesAreAccepted, TracesAreComplete}
+use Rattle.delivery.proofs.Words.Std.{cases_lt}
+use Rattle.delivery.proofs.Words.Topics.{Topic, CommitRow, In, names, topics_of, TopicState, new_topic, IsCompleteBy}
+use Rattle.delivery.proofs.Words.Lemmas.{map_length}
+use Rattle.delivery.proofs.Words.Machine.{log_row, Run, answers_of, final_world, commits_of}
+use Rattle.delivery.proofs.Words.Core.{TopicList, KeptRun, HasReport, CoreStep, names_after, account_of, Core, core_of, names_at, IsCoreRun, report_of, trace_of, AllSettled, IsTraced}
+use Rattle.delivery.specs.Nets.{core_of_net}
+use Rattle.delivery.specs.Traces.{RunsAreExplained, TracesAreAccepted, TracesAreComplete}
 use Rattle.trace_audit.proofs.OneList.{one_list}
-use Rattle.trace_audit.specs.Explained.{IsCompleteBy}
 use Rattle.delivery.proofs.Machine.Invariant.{topic_in}
 use Rattle.delivery.proofs.Theorem.AcceptedIsDue.{reached}
 use Rattle.delivery.proofs.Core.Said.{commits_said}

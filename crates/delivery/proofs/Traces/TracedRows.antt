@@ -1,18 +1,11 @@
 -- What the trace of a report has of a topic and of a subscription.
 use Rattle.std.proofs.Common.{◌≡◌, ℕ, suc, ◌+◌, ◌<◌, ◌==◌, inl, inr, List, [], ◌∷◌, map, length, get_or, refl, sym, ap, subst, ◌∙◌, arith}
-use Rattle.std.specs.List.{enumerate_from}
-use Rattle.mcast_txn.specs.declared.id.Topic.{Topic}
-use Rattle.mcast_txn.specs.Lists.{In}
-use Rattle.mcast_txn.specs.Span.{Item, LogRow, row_mark}
-use Rattle.mcast_txn.proofs.Members.{In-map, In-map_cases, In-filter, In-filter_cases}
-use Rattle.trace_audit.specs.declared.row.SpanRow.{SpanRow}
-use Rattle.trace_audit.specs.declared.row.QueueRow.{QueueRow}
-use Rattle.trace_audit.specs.Logs.{TopicRow}
-use Rattle.trace_audit.specs.Trace.{rows_of, log_of, queue_mark, queue_of}
-use Rattle.std.proofs.lemmas.Bool.{eq-eqb}
-use Rattle.delivery.specs.Core.Reports.{QueueReport, Report, log_in}
+use Rattle.delivery.proofs.Words.Std.{enumerate_from, eq-eqb}
+use Rattle.delivery.proofs.Words.Topics.{Topic, In, Item, LogRow, row_mark, SpanRow, QueueRow, TopicRow, rows_of, queue_of}
+use Rattle.delivery.proofs.Words.Lemmas.{In-map, In-map_cases, In-filter, In-filter_cases}
+use Rattle.delivery.proofs.Words.Core.{QueueReport, Report, log_in, traced_log, traced_span, traced_queue, trace_of}
+use Rattle.trace_audit.specs.Trace.{log_of, queue_mark}
 use Rattle.delivery.proofs.Core.QueueOfReport.{no_queue, queue_in}
-use Rattle.delivery.specs.Traces.{traced_log, traced_span, traced_queue, trace_of}
 use Rattle.delivery.proofs.Traces.Lists.{made_at}
 
 -- an item's id and stamp, as a row

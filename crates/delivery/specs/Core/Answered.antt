@@ -22,8 +22,7 @@ use Rattle.delivery.specs.Core.Steps.{CoreStep}
 use Rattle.delivery.specs.Core.Account.{released_log, released_frontier, beginning_of, account_of}
 use Rattle.delivery.specs.Core.State.{core_of}
 use Rattle.delivery.specs.Core.Outcomes.{IsCoreRun}
-use Rattle.delivery.specs.Core.Reports.{QueueReport, Report, report_of, log_in, span_of}
-use Rattle.delivery.specs.Core.Delivery.{reported_begun, last_queued}
+use Rattle.delivery.specs.Core.Reports.{QueueReport, Report, report_of, log_in}
 
 -- ---- where spans begin and end
 
@@ -32,6 +31,16 @@ abbrev pub begun_in : List Answer → List (ℕ × Topic × Stamp)
 begun_in [] = []
 begun_in (Answer.Subscribed s c t from ∷ before) = begun_in before ++ (s, t, released_frontier t before) ∷ []
 begun_in (o ∷ before) = begun_in before
+
+-- the same of a report, where the first has number i
+abbrev pub reported_begun : ℕ → List QueueReport → List (ℕ × Topic × Stamp)
+reported_begun i [] = []
+reported_begun i (q ∷ qs) = (i, q.span.topic, q.span.from) ∷ reported_begun (i + 1) qs
+
+-- the stamp of the last of these items, or else this one
+abbrev pub last_queued : Stamp → List Item → Stamp
+last_queued from [] = from
+last_queued from (item ∷ items) = last_queued item.stamp items
 
 -- The span of subscription s ended by lag: a row came to its topic's log for which its queue had no room. So
 -- where the queue holds 2 and rows 1, 2 and 3 come before a Take, it ends at row 2's stamp.
@@ -46,9 +55,9 @@ pub record LagsAsAnswered (capacity s : ℕ) (account : List Answer) (q : QueueR
   pub by : Answer
   pub before : List Answer
   pub account_is : account ≡ later ++ by ∷ before
-  pub last : end ≡ last_queued q.from q.queued
-  pub reached : stamp_lt end (released_frontier q.topic before) ≡ false
-  pub passed : stamp_lt end (released_frontier q.topic (by ∷ before)) ≡ true
+  pub last : end ≡ last_queued q.span.from q.queued
+  pub reached : stamp_lt end (released_frontier q.span.topic before) ≡ false
+  pub passed : stamp_lt end (released_frontier q.span.topic (by ∷ before)) ≡ true
   pub full : length q.queued ≡ length (delivered_items s before) + capacity
 
 -- What is reported of subscription s is as the account tells it.
@@ -61,17 +70,18 @@ pub record LagsAsAnswered (capacity s : ℕ) (account : List Answer) (q : QueueR
 -- bounded: at no moment did the queue have more than its capacity that wasn't delivered: of what is due,
 -- what is at most the topic's frontier then.
 pub record IsAsAnswered (capacity s : ℕ) (account : List Answer) (r : Report) (q : QueueReport) : Type 0 where
-  pub told : (to : Stamp) → In (Answer.Unsubscribed s to) account → q.to ≡ Some to
-  pub unended : q.cause ≡ None → q.to ≡ None
+  pub told : (to : Stamp) → In (Answer.Unsubscribed s to) account → q.span.to ≡ Some to
+  pub unended : q.cause ≡ None → q.span.to ≡ None
   pub asked : q.cause ≡ Some Asked → (later before : List Answer) × (to : Stamp)
       × (account ≡ later ++ Answer.Unsubscribed s to ∷ before)
       × (to ≡ released_frontier (beginning_of s before).topic before)
-  pub lag : q.cause ≡ Some Lag → (end : Stamp) × (q.to ≡ Some end) × LagsAsAnswered capacity s account q end
-  pub exactly_due : q.queued ≡ due (commits_of account) (span_of q) (last_stamp zero_stamp (log_in r q.topic))
+  pub lag : q.cause ≡ Some Lag → (end : Stamp) × (q.span.to ≡ Some end)
+      × LagsAsAnswered capacity s account q end
+  pub exactly_due : q.queued ≡ due (commits_of account) q.span (last_stamp zero_stamp (log_in r q.span.topic))
   pub handed : q.handed ≡ delivered_items s account
   pub handed_prefix : (rest : List Item) × (q.queued ≡ q.handed ++ rest)
   pub bounded : (later before : List Answer) → account ≡ later ++ before
-      → length (due (commits_of account) (span_of q) (released_frontier q.topic before))
+      → length (due (commits_of account) q.span (released_frontier q.span.topic before))
       ≤ length (delivered_items s before) + capacity
 
 -- ---- what is delivered

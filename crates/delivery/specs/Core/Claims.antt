@@ -1,6 +1,6 @@
 -- Which sender a connection speaks for, from the CONNECTs of a run that were accepted alone.
 use Rattle.std.specs.Prelude.{ℕ, ◌+◌, ◌==◌, nat_lt, Bool, true, false, not, ◌&&◌, ◌||◌, List, [], ◌∷◌, ◌++◌, Option, Some, None, if◌then◌else◌}
-use Rattle.std.specs.List.{list_any, position_or_len}
+use Rattle.std.specs.List.{flat_map, list_any, position_or_len}
 use Rattle.std.specs.Option.{is_some, option_map_or, unwrap_or}
 use Rattle.std.specs.Str.{bytes_eq}
 use Rattle.stomp_frame.specs.declared.raw_frame.RawFrame.{RawFrame}
@@ -23,8 +23,7 @@ claim_of e accepted = []
 
 -- the claims of a run, the newest first
 abbrev pub claims_of : List CoreStep → List Claim
-claims_of [] = []
-claims_of (step ∷ older) = claim_of step.event (accepted_in step) ++ claims_of older
+claims_of steps = flat_map (λ (step : CoreStep). claim_of step.event (accepted_in step)) steps
 
 -- the claim has this client-id
 abbrev pub has_client : List ℕ → Claim → Bool
@@ -67,8 +66,7 @@ sender_claimed c (claim ∷ before) =
 
 -- they are one client-id
 abbrev pub is_one_client : Option (List ℕ) → Option (List ℕ) → Bool
-is_one_client (Some id) (Some other) = bytes_eq id other
-is_one_client client other = false
+is_one_client client other = option_map_or (λ id. option_map_or (bytes_eq id) other false) client false
 
 -- The senders that have begun, in their order, each by its client-id. So after claims of p, without a
 -- client-id, of p and of q, in this order, there are p, one without and q.
@@ -82,9 +80,8 @@ senders_of (claim ∷ before) =
 -- begin. Before its claim, 0.
 abbrev pub sender_of : ℕ → List Claim → ℕ
 sender_of c [] = 0
-sender_of c (claim ∷ before) =
-    if claim.connection == c then position_or_len (is_one_client claim.client) (senders_of before)
-    else sender_of c before
+sender_of c (x ∷ past) =
+    if x.connection == c then position_or_len (is_one_client x.client) (senders_of past) else sender_of c past
 
 -- how many of the senders that have begun are kept
 abbrev pub kept_count : List Claim → ℕ

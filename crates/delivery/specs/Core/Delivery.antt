@@ -1,6 +1,7 @@
 -- What the core is to deliver: the statement over the steps of a run and its report alone, and that each run
 -- of the core's definitions meets it. It mentions no clock, no floor and no pending part.
-use Rattle.std.specs.Prelude.{◌≡◌, ℕ, ◌+◌, ◌<◌, ◌≤◌, true, false, List, [], ◌∷◌, ◌++◌, map, length, reverse, take, slice_get, Some, None}
+use Rattle.std.specs.Prelude.{◌≡◌, ℕ, ◌+◌, ◌<◌, ◌≤◌, true, false, List, [], ◌∷◌, ◌++◌, map, length, reverse, slice_get, get_or, Some, None}
+use Rattle.std.specs.List.{enumerate_from, last_or}
 use Rattle.mcast_txn.specs.declared.id.Topic.{Topic}
 use Rattle.mcast_txn.specs.declared.stamp.Stamp.{Stamp}
 use Rattle.mcast_txn.specs.Stamp.{stamp_lt}
@@ -20,7 +21,7 @@ use Rattle.delivery.specs.Core.Told.{Told, committed, told_log, frontier_of, han
 use Rattle.delivery.specs.Core.Output.{text_out}
 use Rattle.delivery.specs.Core.State.{core_of}
 use Rattle.delivery.specs.Core.Outcomes.{IsCoreRun}
-use Rattle.delivery.specs.Core.Reports.{QueueReport, Report, report_of, log_in, out_in, span_of}
+use Rattle.delivery.specs.Core.Reports.{QueueReport, Report, report_of, out_in}
 
 -- ---- where spans begin and end
 
@@ -30,54 +31,39 @@ begun_in [] = []
 begun_in (Told.Subscribed s c t ∷ before) = begun_in before ++ (s, t, frontier_of t before) ∷ []
 begun_in (o ∷ before) = begun_in before
 
--- the same of a report, where the first has number i
-abbrev pub reported_begun : ℕ → List QueueReport → List (ℕ × Topic × Stamp)
-reported_begun i [] = []
-reported_begun i (q ∷ qs) = (i, q.topic, q.from) ∷ reported_begun (i + 1) qs
-
--- the stamp of the last of these items, or else this one
-abbrev pub last_queued : Stamp → List Item → Stamp
-last_queued from [] = from
-last_queued from (item ∷ items) = last_queued item.stamp items
-
--- The span of subscription s ended by lag: a row came to its topic's log for which its queue had no room. So
--- where the queue holds 2 and rows 1, 2 and 3 come before a Take, it ends at row 2's stamp.
--- before, by, later: what was told before that row came, what told that it came, and what was told since.
+-- The span of subscription s ended by lag when this was told, after what was told before (past): a row came
+-- to its topic's log for which its queue had no room. So where the queue holds 2 and rows 1, 2 and 3 come
+-- before a Take, it ends at row 2's stamp.
 -- last: the end is the stamp of the last item that was queued, or the span's beginning where none was.
 -- reached, passed: the topic's frontier was at most the end before that row came, and is above it then.
 -- full: as many items as the capacity weren't handed on then.
-pub record EndsByLag (capacity s : ℕ) (told : List Told) (q : QueueReport) (end : Stamp) : Type 0 where
-  pub later : List Told
-  pub by : Told
-  pub before : List Told
-  pub told_is : told ≡ later ++ by ∷ before
-  pub last : end ≡ last_queued q.from q.queued
-  pub reached : stamp_lt end (frontier_of q.topic before) ≡ false
-  pub passed : stamp_lt end (frontier_of q.topic (by ∷ before)) ≡ true
-  pub full : length q.queued ≡ handed_count s before + capacity
+pub record Lags (capacity s : ℕ) (q : QueueReport) (end : Stamp) (by : Told) (past : List Told) : Type 0 where
+  pub last : last_or (Some q.span.from) (map (λ (i : Item). i.stamp) q.queued) ≡ Some end
+  pub reached : stamp_lt end (frontier_of q.span.topic past) ≡ false
+  pub passed : stamp_lt end (frontier_of q.span.topic (by ∷ past)) ≡ true
+  pub full : length q.queued ≡ handed_count s past + capacity
 
 -- What is reported of subscription s is as the steps tell it.
 -- ended: an end that an UNSUBSCRIBE or a Leave was answered is the end.
 -- unended: without a cause there is no end.
 -- asked: where an end was asked for, one was answered, and it is the topic's frontier then.
--- lag: an end by lag is that of a full queue.
+-- lag: an end by lag is that of a full queue, when something was told that is among all that was.
 -- exactly_due: what its queue accepted is what is due to it, up to the topic's frontier.
--- handed: of that, as many from the front were delivered as Takes handed on.
--- taken: there were as many: each Take that was answered so handed an item on.
+-- handed: of that the front was delivered, as many items as Takes handed on.
 -- bounded: at no moment did its queue have more than its capacity that wasn't delivered: of what is due to
 -- it, what is at most the topic's frontier then. So where the queue holds 1 and rows 1 and 2 come before a
 -- Take, it lags: row 2 isn't due to it, whatever is taken later.
 pub record IsAsTold (capacity s : ℕ) (told : List Told) (q : QueueReport) : Type 0 where
-  pub ended : (to : Stamp) → In (Told.Unsubscribed s to) told → q.to ≡ Some to
-  pub unended : q.cause ≡ None → q.to ≡ None
+  pub ended : (to : Stamp) → In (Told.Unsubscribed s to) told → q.span.to ≡ Some to
+  pub unended : q.cause ≡ None → q.span.to ≡ None
   pub asked : q.cause ≡ Some Asked → (later before : List Told) × (to : Stamp)
-      × (told ≡ later ++ Told.Unsubscribed s to ∷ before) × (to ≡ frontier_of q.topic before)
-  pub lag : q.cause ≡ Some Lag → (end : Stamp) × (q.to ≡ Some end) × EndsByLag capacity s told q end
-  pub exactly_due : q.queued ≡ due (committed told) (span_of q) (frontier_of q.topic told)
-  pub handed : q.handed ≡ take (handed_count s told) q.queued
-  pub taken : length q.handed ≡ handed_count s told
-  pub bounded : (later before : List Told) → told ≡ later ++ before
-      → length (due (committed told) (span_of q) (frontier_of q.topic before)) ≤ handed_count s before + capacity
+      × (told ≡ later ++ Told.Unsubscribed s to ∷ before) × (to ≡ frontier_of q.span.topic before)
+  pub lag : q.cause ≡ Some Lag → (end : Stamp) × (q.span.to ≡ Some end) × (later past : List Told)
+      × (by : Told) × (told ≡ later ++ by ∷ past) × Lags capacity s q end by past
+  pub exactly_due : q.queued ≡ due (committed told) q.span (frontier_of q.span.topic told)
+  pub handed : (rest : List Item) × (q.queued ≡ q.handed ++ rest) × (length q.handed ≡ handed_count s told)
+  pub bounded : (later past : List Told) → told ≡ later ++ past
+      → length (due (committed told) q.span (frontier_of q.span.topic past)) ≤ handed_count s past + capacity
 
 -- ---- what is delivered
 
@@ -89,17 +75,18 @@ pub record Delivers (capacity : ℕ) (told : List Told) (r : Report) : Type 0 wh
   pub each_once : EachOnce committed_id stamp_of (agreed (committed told))
   pub fifo_order : SenderOrder committed_id (agreed (committed told))
   -- each log is as many rows of the agreed sequence as were released: none where the topic isn't there
-  pub logs : (t : Topic) → log_in r t ≡ told_log t told
+  pub logs : (t : Topic) → get_or r.logs t.0 [] ≡ told_log t told
   -- each subscription begins where its topic's log ended then; its end, its queue and what was delivered of
   -- it are as told
-  pub begins : reported_begun 0 r.subscriptions ≡ begun_in told
+  pub begins : begun_in told
+      ≡ map (λ (p : ℕ × QueueReport). (p.0, p.1.span.topic, p.1.span.from)) (enumerate_from 0 r.subscriptions)
   pub queues : (s : ℕ) (q : QueueReport) → slice_get r.subscriptions s ≡ Some q → IsAsTold capacity s told q
   -- two subscriptions have what they share in one order
   pub total_order : (p q : QueueReport) → In p r.subscriptions → In q r.subscriptions
       → shared_marks p.queued q.queued ≡ shared_marks q.queued p.queued
   -- a settled topic's log leaves no committed transaction out
   pub validity : (t : Topic) (row : CommitRow) → IsSettled t told → In row (committed told)
-      → names t (topics_of row.txn.sends) ≡ true → In (log_row row) (log_in r t)
+      → names t (topics_of row.txn.sends) ≡ true → In (log_row row) (get_or r.logs t.0 [])
   -- nothing is delivered to a closed subscription, nor to one of a closed connection
   pub silent_after_close : (later before : List Told) (s : ℕ)
       → told ≡ later ++ Told.Handed s ∷ before → IsSilent s before → Prim.⊥

@@ -2,7 +2,6 @@
 use Rattle.std.specs.Prelude.{ℕ, ◌+◌, List, [], ◌∷◌, map, take, get_or, Option, Some, None}
 use Rattle.std.specs.Option.{option_map}
 use Rattle.mcast_txn.specs.declared.id.Topic.{Topic}
-use Rattle.mcast_txn.specs.declared.stamp.Stamp.{Stamp}
 use Rattle.mcast_txn.specs.Span.{LogRow, Item, Span}
 use Rattle.mcast_group.specs.declared.cause.Cause.{Cause}
 use Rattle.mcast_group.specs.declared.cause.Cause.TheVariants.{Lag}
@@ -14,9 +13,7 @@ use Rattle.delivery.specs.Core.State.{Core}
 
 -- a subscription: its span, why that ended if it did, what its queue accepted, and what of that was delivered
 pub record QueueReport : Type 0 where
-  pub topic : Topic
-  pub from : Stamp
-  pub to : Option Stamp
+  pub span : Span
   pub cause : Option Cause
   pub queued : List Item
   pub handed : List Item
@@ -41,9 +38,7 @@ cause_at w s = elim (subscription_at w s).closed [
 -- a subscription as it is reported
 abbrev pub queue_report : World → ℕ → QueueReport
 queue_report w s = record {
-  topic = (subscription_at w s).topic;
-  from = (subscription_at w s).from;
-  to = end_at w s;
+  span = record { topic = (subscription_at w s).topic; from = (subscription_at w s).from; to = end_at w s };
   cause = cause_at w s;
   queued = accepted_at w s;
   handed = take (subscription_at w s).taken (accepted_at w s);
@@ -72,7 +67,3 @@ log_in r t = get_or r.logs t.0 []
 -- the octets written to a connection
 abbrev pub out_in : Report → ℕ → List ℕ
 out_in r c = get_or r.outs c []
-
--- the span of a subscription
-abbrev pub span_of : QueueReport → Span
-span_of q = record { topic = q.topic; from = q.from; to = q.to }

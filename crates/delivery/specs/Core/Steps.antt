@@ -1,8 +1,7 @@
 -- A run of the core, as its reader takes it: its steps, and of each connection the octets that it was fed and
 -- the frames that were read and accepted. Worked examples: proofs/Core.
-use Rattle.std.specs.Prelude.{◌≡◌, ℕ, ◌==◌, Bool, true, false, not, List, [], ◌∷◌, ◌++◌, Option, Some, None, if◌then◌else◌}
+use Rattle.std.specs.Prelude.{◌≡◌, ℕ, ◌==◌, Bool, true, false, List, [], ◌∷◌, ◌++◌, Option, Some, None, if◌then◌else◌}
 use Rattle.std.specs.Prelude.{◌&&◌}
-use Rattle.std.specs.List.{list_all}
 use Rattle.std.specs.Option.{is_some, option_to_list, option_map_or, unwrap_or}
 use Rattle.std.specs.Str.{bytes_eq}
 use Rattle.stomp_frame.specs.declared.limits.Limits.{Limits}
@@ -10,6 +9,7 @@ use Rattle.stomp_frame.specs.declared.raw_frame.RawFrame.{RawFrame}
 use Rattle.stomp_frame.specs.declared.fault.Check.{Check}
 use Rattle.stomp_frame.specs.Grammar.{BeginsWith}
 use Rattle.stomp_frame.specs.Reader.{Unread}
+use Rattle.mcast_txn.specs.Lists.{In}
 use Rattle.stomp_session.specs.Frames.{id_of, with_destination}
 use Rattle.delivery.specs.declared.event.Event.{Event}
 use Rattle.delivery.specs.declared.outcome.Outcome.{Outcome}
@@ -81,8 +81,7 @@ frames_of c (step ∷ older) = frames_of c older ++ frame_from c step
 -- the frames of connection c that were accepted, the oldest first: no other has an effect
 abbrev pub accepted_of : ℕ → List CoreStep → List RawFrame
 accepted_of c [] = []
-accepted_of c (step ∷ older) =
-    accepted_of c older ++ (if has_effect step.outcome then frame_from c step else [])
+accepted_of c (s ∷ older) = accepted_of c older ++ (if has_effect s.outcome then frame_from c s else [])
 
 -- the frame that was read, if it was accepted
 abbrev pub accepted_in : CoreStep → Option RawFrame
@@ -101,8 +100,7 @@ names_after opening (step ∷ older) = names_with step (names_after opening olde
 
 -- the frame of connection c that was read has this subscription id
 abbrev pub has_id : ℕ → List ℕ → CoreStep → Bool
-has_id c id step =
-    is_next c step.event && option_map_or (λ f. bytes_eq (id_of f) id) (frame_in step.reading) false
+has_id c id s = is_next c s.event && option_map_or (λ f. bytes_eq (id_of f) id) (frame_in s.reading) false
 
 -- the subscription that the outcome says begins, if one does
 abbrev pub begun_by : Outcome → Option ℕ
@@ -114,32 +112,20 @@ begun_by o = None
 -- `s` names 2.
 abbrev pub number_by : ℕ → List ℕ → List CoreStep → ℕ
 number_by c id [] = 0
-number_by c id (step ∷ older) =
-    let before = number_by c id older in
-    if has_id c id step then unwrap_or (begun_by step.outcome) before else before
+number_by c id (s ∷ older) =
+    if has_id c id s then unwrap_or (begun_by s.outcome) (number_by c id older) else number_by c id older
 
 -- ---- what was read is what the octets say
 
--- the fault is of a frame that was read
-abbrev pub has_frame : ConnectionFault → Bool
-has_frame (ConnectionFault.Stream k) = false
-has_frame ConnectionFault.Lagged = false
-has_frame ConnectionFault.ReaderNoMemory = false
-has_frame fault = true
-
--- the outcome of a Next says that a frame was read
-abbrev pub says_frame : Outcome → Bool
-says_frame (Outcome.Faulted fault cut) = has_frame fault
-says_frame o = has_effect o
-
--- a Next read a frame exactly where its outcome says so; nothing else reads one
-abbrev pub reads_as_said : Event → Bool → Outcome → Bool
-reads_as_said (Event.Next c) found o = if says_frame o then found else not found
-reads_as_said e found o = not found
-
--- the step shows whether it read a frame
-abbrev pub shows_reading : CoreStep → Bool
-shows_reading step = reads_as_said step.event (is_some (frame_in step.reading)) step.outcome
+-- An event of this outcome read a frame: a Next that had its effect, or that was answered by an ERROR, other
+-- than one of the stream's fault or of no memory for the reader. So a Next that is refused read none.
+abbrev pub reads_frame : Event → Outcome → Bool
+reads_frame (Event.Next c) (Outcome.Faulted (ConnectionFault.Stream k) cut) = false
+reads_frame (Event.Next c) (Outcome.Faulted ConnectionFault.Lagged cut) = false
+reads_frame (Event.Next c) (Outcome.Faulted ConnectionFault.ReaderNoMemory cut) = false
+reads_frame (Event.Next c) (Outcome.Faulted fault cut) = true
+reads_frame (Event.Next c) o = has_effect o
+reads_frame e o = false
 
 -- The text begins with these frames, end-of-lines between them aside, and whatever comes after.
 abbrev pub BeginsWithFrames : Limits → List ℕ → List RawFrame → Type 0
@@ -151,7 +137,8 @@ BeginsWithFrames limits text (f ∷ fs) =
 abbrev pub reader_limits : Limits
 reader_limits = record { line = 4096; headers = 64; body = 1048576 }
 
--- What was read of each connection are the first frames of its octets, one for each outcome that says so.
+-- What was read of each connection are the first frames of its octets, one for each outcome that says so, and
+-- nothing else.
 pub record AreReadings (steps : List CoreStep) : Type 0 where
-  pub shown : list_all shows_reading steps ≡ true
+  pub shown : (s : CoreStep) → In s steps → is_some (frame_in s.reading) ≡ reads_frame s.event s.outcome
   pub first : (c : ℕ) → BeginsWithFrames reader_limits (fed_octets c steps) (frames_of c steps)

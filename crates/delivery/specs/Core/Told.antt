@@ -1,9 +1,10 @@
 -- What the steps of a run tell of transactions, topics and subscriptions, and what a reader takes from that.
 -- It takes nothing from the machine: whose a transaction is and what it sends is worked out from frames
 -- alone.
-use Rattle.std.specs.Prelude.{◌≡◌, ◌≢◌, ℕ, ◌==◌, ◌+◌, false, true, not, ◌&&◌, List, [], ◌∷◌, ◌++◌, codes, map, take, Option, Some, if◌then◌else◌, ◌⊎◌}
-use Rattle.std.specs.List.{filter, list_any}
-use Rattle.std.specs.Option.{option_map_or}
+use Rattle.std.specs.Prelude.{◌≡◌, ◌≢◌, ℕ, ◌==◌, ◌+◌, false, true, List, [], ◌∷◌, ◌++◌, codes, take, Option, Some, None, if◌then◌else◌, ◌⊎◌}
+use Rattle.std.specs.List.{fold}
+use Rattle.std.specs.Option.{option_map, option_map_or, unwrap_or}
+use Rattle.std.specs.Str.{bytes_eq}
 use Rattle.stomp_frame.specs.declared.command.Command.{Command}
 use Rattle.stomp_frame.specs.declared.command.Command.TheVariants as commands
 use Rattle.stomp_frame.specs.declared.raw_frame.RawFrame.{RawFrame}
@@ -18,8 +19,9 @@ use Rattle.mcast_txn.specs.Transaction.{topics_of}
 use Rattle.mcast_txn.specs.TopicSet.{names}
 use Rattle.mcast_txn.specs.Lists.{In}
 use Rattle.mcast_txn.specs.Agreed.{Transaction, CommitRow}
-use Rattle.stomp_session.specs.Frames.{topic_of, id_of, transaction_of, is_begin, names_transaction, is_send_in, send_of}
+use Rattle.stomp_session.specs.Frames.{topic_of, id_of, transaction_of, is_send_in, send_of}
 use Rattle.delivery.specs.declared.event.Event.{Event}
+use Rattle.delivery.specs.declared.event.Event.TheVariants.{Next, Propose, Decide, Withdraw, Cancel, Release, Turn, Take, Leave, Lost}
 use Rattle.delivery.specs.declared.outcome.Outcome.{Outcome}
 use Rattle.delivery.specs.Theorem.Laws.{agreed_rows}
 use Rattle.delivery.specs.Core.Claims.{claims_of, sender_of}
@@ -27,13 +29,11 @@ use Rattle.delivery.specs.Core.Steps.{CoreStep, frame_in, accepted_of, names_aft
 
 -- what a step tells
 pub data Told : Type 0 where
-  -- the transaction was made; it was decided, and its stamp; it was withdrawn
-  Begun : (txn : Transaction) → Told
+  -- the transaction was made; it was withdrawn; it was decided, and its stamp
+  Begun Withdrawn : (txn : Transaction) → Told
   Decided : (txn : Transaction) (stamp : Stamp) → Told
-  Withdrawn : (txn : Transaction) → Told
   -- t gave the transaction of this id a ticket; that was cancelled
-  Ticket : (id : TxnId) (t : Topic) → Told
-  Cancelled : (id : TxnId) (t : Topic) → Told
+  Ticket Cancelled : (id : TxnId) (t : Topic) → Told
   -- one part was released at t; at a turn of t count parts were
   Released : (t : Topic) → Told
   Turned : (t : Topic) (count : ℕ) → Told
@@ -55,10 +55,8 @@ committed (o ∷ before) = committed before
 -- how many parts were released at t
 abbrev pub released_count : Topic → List Told → ℕ
 released_count t [] = 0
-released_count t (Told.Released u ∷ before) =
-    if u.0 == t.0 then released_count t before + 1 else released_count t before
-released_count t (Told.Turned u count ∷ before) =
-    if u.0 == t.0 then released_count t before + count else released_count t before
+released_count t (Told.Released u ∷ before) = released_count t before + (if u.0 == t.0 then 1 else 0)
+released_count t (Told.Turned u count ∷ before) = released_count t before + (if u.0 == t.0 then count else 0)
 released_count t (o ∷ before) = released_count t before
 
 -- A topic's log: as many rows as were released, the first of the agreed sequence that name it. So where (1,
@@ -73,8 +71,7 @@ frontier_of t told = last_stamp zero_stamp (told_log t told)
 -- how many items of subscription s were handed on
 abbrev pub handed_count : ℕ → List Told → ℕ
 handed_count s [] = 0
-handed_count s (Told.Handed r ∷ before) =
-    if r == s then handed_count s before + 1 else handed_count s before
+handed_count s (Told.Handed r ∷ before) = handed_count s before + (if r == s then 1 else 0)
 handed_count s (o ∷ before) = handed_count s before
 
 -- whose subscription s is
@@ -91,14 +88,20 @@ last_by s (o ∷ before) = last_by s before
 
 -- ---- what a step adds
 
--- The SENDs of this transaction that these frames left open: those since its BEGIN, where no later frame but
--- a SEND names it. So of BEGIN x, SEND in x, COMMIT x, BEGIN x, two SENDs in x and one in y, the two; after
--- an ABORT x none.
+-- what a frame of this command leaves of the SENDs of its transaction, while that is open
+abbrev pub left_by : Command → Option (List SentMessage) → Option (List SentMessage)
+left_by commands.Begin sends = Some []
+left_by commands.Commit sends = None
+left_by commands.Abort sends = None
+left_by command sends = sends
+
+-- The SENDs of transaction x that these frames left open: a BEGIN opens it, each SEND in it adds itself, and
+-- a COMMIT or an ABORT ends it. So of BEGIN x, SEND in x, COMMIT x, BEGIN x, two SENDs in x and one in y, the
+-- two; after an ABORT x none.
 abbrev pub sends_left : List ℕ → List (List ℕ) → List RawFrame → List SentMessage
-sends_left x names [] = []
-sends_left x names (f ∷ after) =
-    if is_begin f.command && names_transaction x f && not (list_any (names_transaction x) after)
-    then map (send_of names) (filter (is_send_in x) after) else sends_left x names after
+sends_left x names frames = unwrap_or (fold (λ (sends : Option (List SentMessage)) (f : RawFrame).
+    if is_send_in x f then option_map (λ held. held ++ send_of names f ∷ []) sends
+    else if bytes_eq (transaction_of f) x then left_by f.command sends else sends) None frames) []
 
 -- the SENDs that a frame of this command commits, after these accepted frames: a COMMIT those of its
 -- transaction, a SEND alone itself
@@ -108,40 +111,38 @@ sends_by commands.Send names accepted f =
     option_map_or (λ x. []) (first_of (codes "transaction") f.headers) (send_of names f ∷ [])
 sends_by command names accepted f = []
 
--- The last transaction of the sender that connection c speaks for after these steps. So it is an earlier
--- connection's, where that had the same client-id, and c has made none.
-abbrev pub last_txn : ℕ → List CoreStep → List Told → Transaction
-last_txn c older told = last_by (sender_of c (claims_of older)) told
+-- of a step after these, which told this: the names of the topics are then these
+module _ (names : List (List ℕ)) (older : List CoreStep) (past : List Told) where
+  -- The last transaction of the sender that connection c speaks for. So it is an earlier connection's, where
+  -- that had the same client-id, and c has made none.
+  abbrev pub last_txn : ℕ → Transaction
+  last_txn c = last_by (sender_of c (claims_of older)) past
 
--- What a step tells beyond what was told before, where this frame was read, if one was. A refused event, one
--- without memory and a frame that only its session needs tell nothing. A transaction's seq is the one after
--- that of its sender's last.
-abbrev pub told_by : List (List ℕ) → List CoreStep → List Told → Event → Option RawFrame → Outcome → List Told
-told_by names older past (Event.Next c) read (Outcome.Faulted fault cut) = Told.Closed c ∷ []
-told_by names older past (Event.Next c) (Some f) (Outcome.Flying id) =
-    let last = (last_txn c older past).id in
-    let sends = sends_by f.command names (accepted_of c older) f in
-    Told.Begun (record { id = record last { seq = last.seq + 1 }; sends = sends }) ∷ []
-told_by names older past (Event.Next c) (Some f) (Outcome.Subscribed s from) =
-    Told.Subscribed s c (topic_of names f) ∷ []
-told_by names older past (Event.Next c) (Some f) (Outcome.Unsubscribed s to) =
-    Told.Unsubscribed (number_by c (id_of f) older) to ∷ []
-told_by names older past (Event.Next c) (Some f) Outcome.Leaving = Told.Closed c ∷ []
-told_by names older past (Event.Propose c t) read (Outcome.Proposed n) =
-    Told.Ticket (last_txn c older past).id t ∷ []
-told_by names older past (Event.Decide c) read (Outcome.Decided stamp cut) =
-    (if cut then Told.Closed c ∷ [] else []) ++ Told.Decided (last_txn c older past) stamp ∷ []
-told_by names older past (Event.Withdraw c) read (Outcome.Withdrawn cut) =
-    Told.Closed c ∷ Told.Withdrawn (last_txn c older past) ∷ []
-told_by names older past (Event.Cancel c t) read Outcome.Cancelled =
-    Told.Cancelled (last_txn c older past).id t ∷ []
-told_by names older past (Event.Release t) read (Outcome.Released id) = Told.Released t ∷ []
-told_by names older past (Event.Turn t) read (Outcome.Turned count) = Told.Turned t count ∷ []
-told_by names older past (Event.Take s) read (Outcome.Handed n) = Told.Handed s ∷ []
-told_by names older past (Event.Take s) read (Outcome.Faulted fault cut) = Told.Closed (owner_of s past) ∷ []
-told_by names older past (Event.Leave c) read (Outcome.Unsubscribed s to) = Told.Unsubscribed s to ∷ []
-told_by names older past (Event.Lost c) read Outcome.Leaving = Told.Closed c ∷ []
-told_by names older past e read o = []
+  -- What the step tells, where this frame was read, if one was. A refused event, one without memory and a
+  -- frame that only its session needs tell nothing. A transaction's seq is the one after that of its sender's
+  -- last.
+  abbrev pub told_by : Event → Option RawFrame → Outcome → List Told
+  told_by (Next c) read (Outcome.Faulted fault cut) = Told.Closed c ∷ []
+  told_by (Next c) (Some f) (Outcome.Flying id) =
+      let last = (last_txn c).id in
+      let sends = sends_by f.command names (accepted_of c older) f in
+      Told.Begun (record { id = record last { seq = last.seq + 1 }; sends = sends }) ∷ []
+  told_by (Next c) (Some f) (Outcome.Subscribed s from) = Told.Subscribed s c (topic_of names f) ∷ []
+  told_by (Next c) (Some f) (Outcome.Unsubscribed s to) =
+      Told.Unsubscribed (number_by c (id_of f) older) to ∷ []
+  told_by (Next c) (Some f) Outcome.Leaving = Told.Closed c ∷ []
+  told_by (Propose c t) read (Outcome.Proposed n) = Told.Ticket (last_txn c).id t ∷ []
+  told_by (Decide c) read (Outcome.Decided stamp cut) =
+      (if cut then Told.Closed c ∷ [] else []) ++ Told.Decided (last_txn c) stamp ∷ []
+  told_by (Withdraw c) read (Outcome.Withdrawn cut) = Told.Closed c ∷ Told.Withdrawn (last_txn c) ∷ []
+  told_by (Cancel c t) read Outcome.Cancelled = Told.Cancelled (last_txn c).id t ∷ []
+  told_by (Release t) read (Outcome.Released id) = Told.Released t ∷ []
+  told_by (Turn t) read (Outcome.Turned count) = Told.Turned t count ∷ []
+  told_by (Take s) read (Outcome.Handed n) = Told.Handed s ∷ []
+  told_by (Take s) read (Outcome.Faulted fault cut) = Told.Closed (owner_of s past) ∷ []
+  told_by (Leave c) read (Outcome.Unsubscribed s to) = Told.Unsubscribed s to ∷ []
+  told_by (Lost c) read Outcome.Leaving = Told.Closed c ∷ []
+  told_by e read o = []
 
 -- What the steps of a run tell that began with topics of these names, the newest first: each step's
 -- destinations are numbered by the names before it.

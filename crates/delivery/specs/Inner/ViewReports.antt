@@ -44,9 +44,7 @@ handed_items (Some q) = take (known_taken q.gauge.taken) q.accepted
 -- subscription s of these groups, which isn't closed
 abbrev pub open_report : List GroupState → ℕ → SubView → QueueReport
 open_report groups s x = record {
-  topic = x.topic;
-  from = x.from;
-  to = lag_in groups x.topic s;
+  span = record { topic = x.topic; from = x.from; to = lag_in groups x.topic s };
   cause = option_map (λ end. Lag) (lag_in groups x.topic s);
   queued = queued_items (queue_shown groups x.topic s);
   handed = handed_items (queue_shown groups x.topic s);
@@ -55,9 +53,7 @@ open_report groups s x = record {
 -- a closed subscription, which left this
 abbrev pub closed_report : SubView → LeftView → QueueReport
 closed_report x left = record {
-  topic = x.topic;
-  from = x.from;
-  to = Some left.to;
+  span = record { topic = x.topic; from = x.from; to = Some left.to };
   cause = Some left.cause;
   queued = left.accepted;
   handed = take left.taken left.accepted;

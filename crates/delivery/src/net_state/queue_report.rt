@@ -28,9 +28,7 @@ impl<'a> Model for QueueReport<'a> {
     ghost Value = { Reported };
 
     ghost view = { λ q. record {
-      topic = q.topic;
-      from = q.from;
-      to = q.to;
+      span = record { topic = q.topic; from = q.from; to = q.to };
       cause = q.cause;
       queued = queued_items (option_map (λ queue. shown_of queue.now) q.queue);
       handed = handed_items (option_map (λ queue. shown_of queue.now) q.queue);
@@ -40,21 +38,21 @@ impl<'a> Model for QueueReport<'a> {
 impl<'a> QueueReport<'a> {
     /// Its topic.
     pub fn topic(&self) -> Topic
-        ensures { result ≡ self.now.topic }
+        ensures { result ≡ self.now.span.topic }
     {
         self.topic
     }
 
     /// The stamp after which its span begins.
     pub fn from(&self) -> Stamp
-        ensures { result ≡ self.now.from }
+        ensures { result ≡ self.now.span.from }
     {
         self.from
     }
 
     /// The last stamp of its span, if that has ended.
     pub fn to(&self) -> Option<Stamp>
-        ensures { result ≡ self.now.to }
+        ensures { result ≡ self.now.span.to }
     {
         self.to
     }

@@ -30,10 +30,16 @@ impl Verdicts for Pair {
 
     fn find<'a>(&'a self, part: &'a Part) -> Option<Found<'a>> {
         if self.0.id() == part.id() {
-            return Some(Found { verdict: &self.0 });
+            return Some(Found {
+                verdict: &self.0,
+                seen: None,
+            });
         }
         if self.1.id() == part.id() {
-            return Some(Found { verdict: &self.1 });
+            return Some(Found {
+                verdict: &self.1,
+                seen: None,
+            });
         }
         None
     }

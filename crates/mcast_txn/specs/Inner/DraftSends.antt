@@ -1,9 +1,10 @@
 -- Serves proofs only: the SENDs of a draft or a transaction as they are stored, for their models.
 -- Each is stored once, shared with the part that it goes to. No public contract cites this module.
-use Rattle.std.specs.Prelude.{◌≡◌, ℕ, ◌+◌, ◌≤◌, List, [], ◌∷◌, length, map}
+use Rattle.std.specs.Prelude.{◌≡◌, ℕ, ◌+◌, ◌-◌, ◌^◌, ◌≤◌, List, [], ◌∷◌, length, map, min}
 use Rattle.mcast_txn.specs.declared.draft.draft_send.DraftSend.{DraftSend}
 use Rattle.mcast_txn.specs.declared.draft.sent_message.SentMessage.{SentMessage}
 use Rattle.mcast_txn.specs.Draft.{max_sends}
+use Rattle.mcast_txn.specs.Transaction.{weight}
 
 -- the SEND that is stored
 abbrev pub message_of : DraftSend → SentMessage
@@ -22,3 +23,8 @@ IsNumberedFrom i (e ∷ sends) = (e.message.value.index ≡ i) × IsNumberedFrom
 pub record AreDraftSends (sends : List DraftSend) : Type 0 where
   pub numbered : IsNumberedFrom 0 sends
   pub few : length sends ≤ max_sends
+
+-- what a draft stores, with what its SENDs weigh, or 2^64 - 1 where they weigh more
+pub record AreWeighed (sends : List DraftSend) (weighs : ℕ) : Type 0 where
+  pub sound : AreDraftSends sends
+  pub weighed : weighs ≡ min (weight (messages_of sends)) (2 ^ 64 - 1)

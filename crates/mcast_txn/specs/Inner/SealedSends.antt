@@ -8,4 +8,4 @@ use Rattle.mcast_txn.specs.Inner.DraftSends.{messages_of}
 -- the SENDs, in order
 abbrev pub all_sends : SealedSends → List SentMessage
 all_sends (One send) = send ∷ []
-all_sends (Many sends) = messages_of sends.items
+all_sends (Many sends weighs) = messages_of sends.items

@@ -1,20 +1,29 @@
 //! The SENDs of a transaction that is sealed.
 
-ghost use Rattle.std.specs.Prelude.{◌≡◌, ◌-◌, ◌^◌, length, min};
+ghost use Rattle.std.specs.Prelude.{◌≡◌, ◌-◌, ◌^◌, ◌+◌, ◌*◌, length, min, nat_lt};
 ghost use Rattle.mcast_txn.specs.Inner.DraftSends.{messages_of};
 ghost use Rattle.mcast_txn.specs.Inner.SealedSends.{all_sends};
-ghost use Rattle.mcast_txn.specs.Transaction.{octets_at, octets_with};
+ghost use Rattle.mcast_txn.specs.Transaction.{octets_at, octets_with, weight_with};
 
 use crate::draft::SentMessage;
 use crate::draft::draft_send::DraftSend;
 use crate::id::Topic;
 use stomp_frame::{Headers, Octets};
 
-/// The SENDs of a transaction, to which none is added: a single one in place, or a list.
+/// What a SEND weighs for itself, and for each of its headers, beside its octets (our choice).
+const EACH: u64 = 128;
+
+/// What a header weighs at most, where it has as many octets as a line may have.
+const HEADER: u64 = 4_224;
+
+/// A transaction that weighs less is light (our choice).
+pub(crate) const LIGHT: u64 = 32_768;
+
+/// The SENDs of a transaction, to which none is added: a single one in place, or a list, with what that weighs.
 #[derive(Drop)]
 pub(crate) enum SealedSends {
     One(SentMessage),
-    Many(Vec<DraftSend>),
+    Many(Vec<DraftSend>, u64),
 }
 
 impl SealedSends {
@@ -24,11 +33,12 @@ impl SealedSends {
     {
         match self {
             SealedSends::One(_) => 1,
-            SealedSends::Many(sends) => sends.len(),
+            SealedSends::Many(sends, _) => sends.len(),
         }
     }
 
     /// How many octets those to this topic have, or 2^64 - 1 where they have more.
+    #[inline(always)]
     pub(crate) fn octets_at(&self, topic: Topic) -> u64
         ensures { result ≡ min (octets_at topic (all_sends self.now)) (2 ^ 64 - 1) }
     {
@@ -40,12 +50,13 @@ impl SealedSends {
                     0
                 }
             }
-            SealedSends::Many(sends) => octets_among(sends, topic),
+            SealedSends::Many(sends, _) => octets_among(sends, topic),
         }
     }
 }
 
 /// How many octets those of these SENDs have that go to this topic, or 2^64 - 1 where they have more.
+#[inline(never)]
 fn octets_among(sends: &[DraftSend], topic: Topic) -> u64
     ensures { result ≡ min (octets_at topic (messages_of sends.now)) (2 ^ 64 - 1) }
 {
@@ -60,6 +71,7 @@ fn octets_among(sends: &[DraftSend], topic: Topic) -> u64
 }
 
 /// How many octets a SEND of these headers and this body has, or 2^64 - 1 where it has more.
+#[inline(always)]
 fn octets_of(headers: &Headers, body: &Octets) -> u64
     ensures { result ≡ min (octets_with headers.now body.now) (2 ^ 64 - 1) }
 {
@@ -70,4 +82,22 @@ fn octets_of(headers: &Headers, body: &Octets) -> u64
         octets = octets.saturating_add(value.len() as u64);
     }
     octets
+}
+
+/// What a SEND of these headers and this body weighs, or 2^64 - 1 where it weighs more.
+pub(crate) fn weight_of(headers: &Headers, body: &Octets) -> u64
+    ensures { result ≡ min (weight_with headers.now body.now) (2 ^ 64 - 1) }
+{
+    let kept = (headers.len() as u64)
+        .saturating_add(1)
+        .saturating_mul(EACH);
+    octets_of(headers, body).saturating_add(kept)
+}
+
+/// Whether a transaction of a SEND of these headers and this body alone is light.
+pub(crate) fn is_one_light(headers: &Headers, body: &Octets) -> bool
+    ensures { result ≡ nat_lt (length body.now + 4224 * length headers.now) 32768 }
+{
+    let headers = (headers.len() as u64).saturating_mul(HEADER);
+    (body.len() as u64).saturating_add(headers) < LIGHT
 }

@@ -33,6 +33,7 @@ impl Part {
     }
 
     /// The flight's part at a topic.
+    #[inline(always)]
     pub(crate) fn at(
         alloc: Global,
         flight: &Arc<Flight>,

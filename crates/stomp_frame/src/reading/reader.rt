@@ -1,6 +1,6 @@
 //! Reading a stream.
 
-ghost use Rattle.std.specs.Prelude.{◌≡◌, ◌≢◌, ◌⊎◌, ◌↔◌, ◌≤◌, [], drop, vec_len, Option, Some, Result, Ok, Err, IsTrue, IsErrOf, IsSome, IsOk, OnOk, OnErr, IfSome};
+ghost use Rattle.std.specs.Prelude.{◌≡◌, ◌≢◌, ◌⊎◌, ◌↔◌, ◌≤◌, [], drop, length, vec_len, Option, Some, Result, Ok, Err, IsTrue, IsErrOf, IsSome, IsOk, OnOk, OnErr, IfSome};
 ghost use Rattle.stomp_frame.specs.declared.raw_frame.RawFrame.{RawFrame};
 ghost use Rattle.stomp_frame.specs.declared.fault.FrameFault.{FrameFault};
 ghost use Rattle.stomp_frame.specs.Reader.{Unread, ReadsNext, NextReturns, with_piece, unread_of};
@@ -154,6 +154,13 @@ impl FrameReader {
             Some(check) => Err(check.fault()),
             None => self.read_next(alloc),
         }
+    }
+
+    /// How many octets are unread.
+    pub fn unread(&self) -> usize
+        ensures { result ≡ length self.now.text }
+    {
+        self.text.len() - self.start
     }
 
     /// Whether nothing is unread: after a `next` that returned `None`, whether the stream ends after its last frame.

@@ -43,6 +43,7 @@ fn put_optional(
 }
 
 /// Whether a MESSAGE doesn't pass on this header of its SEND.
+#[inline(always)]
 pub(crate) fn is_withheld(name: &[u8]) -> bool
     ensures { result ≡ list_any (λ kept. bytes_eq name.now kept) withheld }
 {

@@ -51,6 +51,7 @@ fn put_part_message(message: &PartMessage, out: &mut Octets) -> Result<(), NoMem
 /// Appends the MESSAGE as `write_server` appends one, with a header `part` behind its content-length, and without the
 /// `part` that its SEND may have: so a subscriber knows when it has all of a transaction at a topic (our choice, not the
 /// standard's). After `NoMemory` the octets are what they were.
+#[inline(never)]
 pub fn write_part_message(message: &PartMessage, out: &mut Octets) -> Result<(), NoMemory>
     ensures ok { OnOk result (out.new ≡ out.old ++ spelling_of (part_message_of message.now)) }
     ensures err { OnErr result (out.new ≡ out.old) }

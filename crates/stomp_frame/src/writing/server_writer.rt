@@ -73,6 +73,7 @@ pub(crate) fn put_named(
 }
 
 /// Appends a message's id. Its line is made from its end, so that each number is written once.
+#[inline(always)]
 pub(crate) fn put_message_id(
     n: u64,
     topic: u32,
@@ -91,6 +92,7 @@ pub(crate) fn put_message_id(
 }
 
 /// Appends a content-length.
+#[inline(always)]
 pub(crate) fn put_content_length(len: usize, out: &mut Octets) -> Result<(), NoMemory>
     ensures ok { OnOk result (out.new
         ≡ out.old ++ (header_line true (codes "content-length", decimal len) ++ 10 ∷ [])) }
@@ -145,6 +147,7 @@ pub(crate) fn put_first_entries(
 }
 
 /// Appends the SEND's first destination, where it has one.
+#[inline(always)]
 pub(crate) fn put_destination(sent: &Headers, out: &mut Octets) -> Result<(), NoMemory>
     ensures ok { OnOk result (out.new ≡ out.old ++ header_lines true
         (optional_header (codes "destination") (first_of (codes "destination") sent.now))) }
@@ -157,6 +160,7 @@ pub(crate) fn put_destination(sent: &Headers, out: &mut Octets) -> Result<(), No
 }
 
 /// Appends the command and the headers of a MESSAGE.
+#[inline(always)]
 fn put_message_headers(
     subscription: &[u8],
     n: u64,
@@ -178,6 +182,7 @@ fn put_message_headers(
 }
 
 /// Appends a MESSAGE.
+#[inline(always)]
 fn put_message(
     subscription: &[u8],
     n: u64,
@@ -257,6 +262,7 @@ fn put_connected(out: &mut Octets) -> Result<(), NoMemory>
 }
 
 /// Appends the frame; after `NoMemory` perhaps a part of it.
+#[inline(always)]
 fn put_server(frame: &ServerFrame, out: &mut Octets) -> Result<(), NoMemory>
     ensures ok { OnOk result (out.new ≡ out.old ++ spelling_of (raw_of_server frame.now)) }
     ensures err { OnErr result (Extends out.old out.new) }
@@ -282,6 +288,7 @@ fn put_server(frame: &ServerFrame, out: &mut Octets) -> Result<(), NoMemory>
 
 /// Appends the frame that `render` returns as `write_frame` does, but makes no frame: each octet of a body is copied
 /// once. After `NoMemory` the octets are what they were.
+#[inline(always)]
 pub fn write_server(frame: &ServerFrame, out: &mut Octets) -> Result<(), NoMemory>
     ensures ok { OnOk result (out.new ≡ out.old ++ spelling_of (raw_of_server frame.now)) }
     ensures err { OnErr result (out.new ≡ out.old) }

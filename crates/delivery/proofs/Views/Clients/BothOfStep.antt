@@ -1,36 +1,13 @@
 -- What a step makes of a core, and of the senders beside it.
 use Rattle.std.proofs.Common.{◌≡◌, ℕ, ◌<◌, nat_lt, Bool, true, false, cond, not, ◌&&◌, ◌||◌, arith, List, [], ◌∷◌, ◌++◌, length, get_or, Option, Some, None, refl, sym, ap, subst, ◌∙◌}
-use Rattle.std.specs.Prelude.{codes, slice_get}
-use Rattle.std.specs.List.{list_all}
-use Rattle.std.specs.Option.{is_some, option_and_then, option_map, option_map_or, option_or, option_to_list, unwrap_or}
-use Rattle.std.proofs.lemmas.Bool.{false≢true, or_parts}
-use Rattle.std.proofs.lemmas.Option.{slice_get-get_or}
-use Rattle.stomp_frame.specs.Cases.{is_connect}
-use Rattle.stomp_frame.specs.declared.raw_frame.RawFrame.{RawFrame}
-use Rattle.stomp_frame.specs.Reader.{Unread}
-use Rattle.stomp_frame.proofs.Whole.{one_answer}
-use Rattle.stomp_session.specs.declared.action.Action.{Action}
+use Rattle.delivery.proofs.Words.Std.{codes, slice_get, list_all, is_some, option_and_then, option_map, option_map_or, option_or, option_to_list, unwrap_or, false≢true, or_parts, slice_get-get_or}
+use Rattle.delivery.proofs.Words.Topics.{GateState, SendersState, after_give_back, Stamp}
+use Rattle.delivery.proofs.Words.Frames.{is_connect, RawFrame, Unread, Action, action_by, client_of, field, has_destination, is_known}
+use Rattle.delivery.proofs.Words.Lemmas.{one_answer, none_some}
+use Rattle.delivery.proofs.Words.Machine.{Objection, World, Undecided, is_gone, connection_at, entry_at, sender_at, speaker, speaker_number, speaks_for, Move, leave_effect, move_effect, move_refusal, oldest_live, world_after, run}
+use Rattle.delivery.proofs.Words.Core.{Event, Outcome, claim_of, claims_of, claim_fault, is_cut, Core, IsReadBy, frame_move, is_faulted, is_no_memory, moves, names_at, session_at, topic_moves, unread_at, Reading, frame_in, has_effect}
+use Rattle.delivery.proofs.Words.Views.{AreClaimed, AreClients, MakesBoth, given_back, idle_gate, Asks, claims_none, IsReached, Makes, EndpointView, SenderView, View, held_sender, sender_view, sending_view, view_of, no_endpoint, end_with, leave_objection, oldest_end, no_sender, left_at}
 use Rattle.stomp_session.specs.declared.action.Action.TheVariants as actions
-use Rattle.stomp_session.specs.Answers.{action_by}
-use Rattle.stomp_session.specs.Frames.{client_of, field, has_destination}
-use Rattle.stomp_session.specs.Names.{is_known}
-use Rattle.sender_gate.specs.Gate.{GateState}
-use Rattle.sender_gate.specs.Senders.{SendersState, after_give_back}
-use Rattle.delivery.specs.declared.event.Event.{Event}
-use Rattle.delivery.specs.declared.outcome.Outcome.{Outcome}
-use Rattle.delivery.specs.Machine.Objections.{Objection}
-use Rattle.delivery.specs.Machine.World.{World, Undecided, is_gone, connection_at, entry_at, sender_at, speaker, speaker_number, speaks_for}
-use Rattle.delivery.specs.Machine.Moves.{Move, leave_effect, move_effect, move_refusal, oldest_live, world_after}
-use Rattle.delivery.specs.Machine.Runs.{run}
-use Rattle.delivery.specs.Core.Claims.{claim_of, claims_of}
-use Rattle.delivery.specs.Core.Outcomes.{claim_fault}
-use Rattle.delivery.specs.Core.Output.{is_cut}
-use Rattle.delivery.specs.Core.State.{Core, IsReadBy, frame_move, is_faulted, is_no_memory, moves, names_at, session_at, topic_moves, unread_at}
-use Rattle.delivery.specs.Core.Steps.{Reading, frame_in, has_effect}
-use Rattle.delivery.specs.Inner.Clients.{AreClaimed, AreClients, MakesBoth, given_back, idle_gate}
-use Rattle.delivery.specs.Inner.Nexts.{Asks, claims_none}
-use Rattle.delivery.specs.Inner.Stands.{IsReached, Makes}
-use Rattle.delivery.specs.Inner.View.{EndpointView, SenderView, View, held_sender, sender_view, sending_view, view_of, no_endpoint}
 use Rattle.delivery.proofs.Core.ClaimsStand.{claims_asked}
 use Rattle.delivery.proofs.Views.Clients.Claiming.{same_clients}
 use Rattle.delivery.proofs.Views.Clients.RestingStay.{Rests, closed_rests, is_still, run_rests}
@@ -42,11 +19,6 @@ use Rattle.delivery.proofs.Views.Senders.HeldSenders.{spoken_used}
 use Rattle.delivery.proofs.Views.Senders.SenderChanges.{endpoint_of, held_of}
 use Rattle.delivery.proofs.Machine.InvariantIsKept.{by_refusal, checked}
 use Rattle.delivery.proofs.Theorem.SendersAreOwn.{no_flight, speaks}
-use Rattle.delivery.specs.Inner.Leaving.{end_with, leave_objection, oldest_end}
-use Rattle.delivery.specs.Inner.Senders.{no_sender}
-use Rattle.delivery.specs.Inner.Subscriptions.{left_at}
-use Rattle.mcast_group.proofs.Parts.{none_some}
-use Rattle.mcast_txn.specs.declared.stamp.Stamp.{Stamp}
 use Rattle.delivery.proofs.Views.Events.NextStep.{ReadsUnless}
 use Rattle.delivery.proofs.Core.Counts.{no_effect}
 

@@ -1,22 +1,17 @@
 -- What the senders that are held say of a claim is what the claims of the run say, and so it is after it.
 use Rattle.std.proofs.Common.{◌≡◌, ◌≢◌, ℕ, ◌+◌, ◌<◌, ◌||◌, nat_lt, Bool, true, false, cond, not, ◌&&◌, List, [], ◌∷◌, length, map, Option, Some, None, refl, sym, ap, subst, ◌∙◌, arith, append-nil}
 use Rattle.std.specs.Prelude.{find, is_none}
-use Rattle.std.specs.Option.{is_some, option_map, option_map_or, option_and_then, option_or, unwrap_or}
-use Rattle.std.specs.Str.{bytes_eq}
-use Rattle.std.proofs.lemmas.Bool.{true≢false, false≢true}
-use Rattle.std.proofs.lemmas.List.{length-map, length-append}
+use Rattle.delivery.proofs.Words.Std.{is_some, option_map, option_map_or, option_and_then, option_or, unwrap_or, bytes_eq, true≢false, false≢true, length-map, length-append}
+use Rattle.delivery.proofs.Words.Topics.{first_refusal, GateState, KeptSender, SendersState, after_claim, claim_refusal, claimed_gate, new_gate}
+use Rattle.delivery.proofs.Words.Lemmas.{some_same, none_some, same_octets, octets_pass}
+use Rattle.delivery.proofs.Words.Machine.{World, is_in_use, sender_at}
+use Rattle.delivery.proofs.Words.Core.{ConnectionFault, Claim, is_kept, begins, begun_count, kept_count, kept_sender, claimed_sender, is_one_too_many}
+use Rattle.delivery.proofs.Words.Views.{AreClaimed, kept_entry, refused_claim, resting_gate}
 use Rattle.std.proofs.lemmas.List.Folds.{find-append}
-use Rattle.mcast_txn.specs.Checks.{first_refusal}
-use Rattle.mcast_group.proofs.Parts.{some_same, none_some}
 use Rattle.sender_gate.specs.declared.fault.ClaimFault.TheVariants as claims
-use Rattle.sender_gate.specs.Gate.{GateState}
 use Rattle.sender_gate.specs.Senders
-use Rattle.sender_gate.specs.Senders.{KeptSender, SendersState, after_claim, claim_refusal, claimed, claimed_gate, find_kept, in_use_by, max_clients, max_senders, new_gate}
-use Rattle.sender_gate.proofs.KeptLemmas.{same_octets, octets_pass}
-use Rattle.delivery.specs.declared.connection_fault.ConnectionFault.{ConnectionFault}
-use Rattle.delivery.specs.Machine.World.{World, is_in_use, sender_at}
-use Rattle.delivery.specs.Core.Claims.{Claim, is_kept, begins, begun_count, kept_count, kept_sender, claimed_sender, is_one_too_many, has_client}
-use Rattle.delivery.specs.Inner.Clients.{AreClaimed, kept_entry, refused_claim, resting_gate}
+use Rattle.sender_gate.specs.Senders.{claimed, in_use_by, max_clients, max_senders}
+use Rattle.delivery.specs.Core.Claims.{has_client}
 
 -- ---- the senders of client-ids
 

@@ -1,23 +1,13 @@
 -- A connection is gone, whose sender is idle: no connection speaks for that sender then, which is resting, and its gate is given back.
 use Rattle.std.proofs.Common.{◌≡◌, ◌≢◌, ℕ, suc, ◌<◌, ◌==◌, ◌||◌, ◌&&◌, Bool, true, false, cond, List, [], ◌∷◌, length, set, get_or, Option, Some, None, refl, sym, ap, ◌∙◌}
 use Rattle.std.specs.Prelude.{is_none}
-use Rattle.std.specs.List.{list_any}
-use Rattle.std.specs.Option.{option_map, option_map_or}
-use Rattle.std.specs.Str.{bytes_eq}
-use Rattle.std.proofs.lemmas.Bool.{true≢false, eqb-true, eq-eqb}
-use Rattle.std.proofs.lemmas.List.{length-map, set-get_or}
-use Rattle.mcast_txn.proofs.Members.{at_set_within}
-use Rattle.mcast_group.proofs.Parts.{some_same, not_true}
-use Rattle.sender_gate.specs.Gate.{GateState}
-use Rattle.sender_gate.specs.Senders.{KeptSender, SendersState, after_give_back, kept_with}
-use Rattle.delivery.specs.Machine.World.{World, Connection, SenderState, Standing, is_gone, new_sender, nobody, connection_at, sender_at, speaks_for, is_in_use}
-use Rattle.delivery.specs.Core.Claims.{Claim, is_kept, kept_sender}
-use Rattle.delivery.specs.Core.Reports.{each_number}
-use Rattle.delivery.specs.Core.State.{Core}
-use Rattle.delivery.specs.Inner.Clients.{AreClaimed, rested_view, resting_gate}
-use Rattle.delivery.specs.Inner.Senders.{sender_in}
-use Rattle.delivery.specs.Inner.Stands.{IsReached}
-use Rattle.delivery.specs.Inner.View.{EndpointView, SenderView, View, held_sender, no_endpoint, rested_sender, sender_view, view_of}
+use Rattle.delivery.proofs.Words.Std.{list_any, option_map, option_map_or, bytes_eq, true≢false, eqb-true, eq-eqb, length-map, set-get_or}
+use Rattle.delivery.proofs.Words.Topics.{GateState, KeptSender, SendersState, after_give_back}
+use Rattle.delivery.proofs.Words.Lemmas.{at_set_within, some_same, not_true}
+use Rattle.delivery.proofs.Words.Machine.{World, Connection, SenderState, Standing, is_gone, new_sender, nobody, connection_at, sender_at, speaks_for, is_in_use}
+use Rattle.delivery.proofs.Words.Core.{Claim, is_kept, kept_sender, each_number, Core}
+use Rattle.delivery.proofs.Words.Views.{AreClaimed, rested_view, resting_gate, sender_in, IsReached, EndpointView, SenderView, View, held_sender, no_endpoint, rested_sender, sender_view, view_of}
+use Rattle.sender_gate.specs.Senders.{kept_with}
 use Rattle.delivery.proofs.Theorem.SendersAreOwn.{Speaks, silent, speaks, spoken_sender}
 use Rattle.delivery.proofs.Views.Clients.Claiming.{find_mapped, resting_none, same_clients}
 use Rattle.delivery.proofs.Views.Clients.RestingStay.{any_set, any_at}

@@ -1,22 +1,10 @@
 -- A sender for which no connection speaks is left as it is by each move but a claim and a connection's last.
 use Rattle.std.proofs.Common.{◌≡◌, ℕ, zero, suc, ◌==◌, ◌||◌, Bool, true, false, cond, not, ◌&&◌, List, [], ◌∷◌, ◌++◌, set, get_or, Option, Some, None, refl, sym, ap, subst, ◌∙◌}
-use Rattle.std.specs.List.{list_any, list_all}
-use Rattle.std.specs.Option.{option_map_or}
-use Rattle.std.proofs.lemmas.Bool.{true≢false, false≢true, and_parts, or_parts, not-false}
-use Rattle.std.proofs.lemmas.List.{get_or-set_other}
-use Rattle.mcast_txn.specs.Ballot.{Decision}
-use Rattle.mcast_txn.specs.declared.id.Topic.{Topic}
-use Rattle.mcast_txn.specs.declared.id.TxnId.{TxnId}
-use Rattle.mcast_txn.specs.declared.draft.sent_message.SentMessage.{SentMessage}
-use Rattle.mcast_txn.specs.Span.{Item}
-use Rattle.mcast_group.specs.declared.fault.ProposeFault.{ProposeFault}
-use Rattle.mcast_group.specs.Machine.{Entry}
-use Rattle.sender_gate.specs.Gate.{GateState}
-use Rattle.delivery.specs.Machine.World.{World, Connection, Leftover, SenderState, Standing, is_gone, nobody, new_sender, connection_at, sender_at, speaker, speaker_number, speaks_for, is_in_use, subscription_at, entry_at}
-use Rattle.delivery.specs.Machine.Moves.{Move, world_after, move_refusal, move_effect, find_leftover, find_verdict, commit_effect, proposal_fault, propose_effect, cancel_effect, learn_effect, take_effect, close_effect_of}
+use Rattle.delivery.proofs.Words.Std.{list_any, list_all, option_map_or, true≢false, false≢true, and_parts, or_parts, not-false, get_or-set_other}
+use Rattle.delivery.proofs.Words.Topics.{Decision, Topic, TxnId, SentMessage, Item, ProposeFault, Entry, GateState}
+use Rattle.delivery.proofs.Words.Machine.{World, Connection, Leftover, SenderState, Standing, is_gone, nobody, new_sender, connection_at, sender_at, speaker, speaker_number, speaks_for, is_in_use, subscription_at, entry_at, Move, world_after, move_refusal, move_effect, find_leftover, find_verdict, commit_effect, proposal_fault, propose_effect, cancel_effect, learn_effect, take_effect, close_effect_of, run}
+use Rattle.delivery.proofs.Words.Views.{resting_gate}
 use Rattle.delivery.specs.Machine.Moves.Move.{Opens, Connects, Commits, Unsubscribes, Disconnects, Errs, Lost, Leaves, Proposes, Decides, Withdraws, Cancels, Learns, Takes}
-use Rattle.delivery.specs.Machine.Runs.{run}
-use Rattle.delivery.specs.Inner.Clients.{resting_gate}
 use Rattle.delivery.proofs.Machine.InvariantIsKept.{by_refusal, checked}
 use Rattle.delivery.proofs.Machine.Speakers.{has_speaker, cancelling_speaker}
 use Rattle.delivery.proofs.Machine.SenderSteps.{leftover_found}

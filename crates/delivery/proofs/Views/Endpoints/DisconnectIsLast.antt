@@ -1,38 +1,17 @@
 -- The frames of a connection that a core accepted: of one that isn't there none, and a DISCONNECT only of one that
 -- isn't open any more, and then only one.
 use Rattle.std.proofs.Common.{◌≡◌, ℕ, ◌≤◌, ◌==◌, Bool, true, false, cond, ◌⊎◌, inl, inr, List, [], ◌∷◌, ◌++◌, filter, length, Option, Some, None, refl, sym, ap, subst, ◌∙◌, arith}
-use Rattle.std.proofs.lemmas.Bool.{eqb-true, false≢true, or_parts, not-false, cases_lt}
-use Rattle.std.proofs.lemmas.List.{append-nil}
-use Rattle.std.specs.List.{flat_map, find}
-use Rattle.std.specs.Option.{option_map_or, option_and_then, option_or, option_to_list}
-use Rattle.stomp_frame.specs.declared.raw_frame.RawFrame.{RawFrame}
-use Rattle.stomp_frame.specs.declared.command.Command.{Command}
+use Rattle.delivery.proofs.Words.Std.{eqb-true, false≢true, or_parts, not-false, cases_lt, append-nil, flat_map, option_map_or, option_and_then, option_or, option_to_list}
+use Rattle.delivery.proofs.Words.Topics.{first_refusal, In}
+use Rattle.delivery.proofs.Words.Frames.{RawFrame, Command, receipt_of, Unread, receipt_frame, action_by, has_destination, is_disconnect}
+use Rattle.delivery.proofs.Words.Lemmas.{at_set_within, passes, none_some}
+use Rattle.delivery.proofs.Words.Machine.{Objection, refusal_of, World, Connection, nobody, is_reading, connection_at, Move, move_effect, needs_idle, run}
+use Rattle.delivery.proofs.Words.Core.{TopicList, Event, Outcome, CoreStep, Reading, frame_in, has_effect, frame_from, accepted_of, receipts_of, Core, core_of, core_after, moves, frame_move, names_at, session_at, is_faulted, topic_moves, IsCoreRun, outcomes, unless, reading_outcomes}
+use Rattle.delivery.proofs.Words.Views.{IsReached, parting_receipt}
+use Rattle.std.specs.List.{find}
 use Rattle.stomp_frame.specs.declared.command.Command.TheVariants as commands
-use Rattle.stomp_frame.specs.Receipts.{receipt_of}
-use Rattle.stomp_frame.specs.Reader.{Unread}
-use Rattle.stomp_frame.specs.ServerFrames.{receipt_frame}
-use Rattle.mcast_txn.specs.Checks.{first_refusal}
-use Rattle.mcast_txn.specs.Lists.{In}
-use Rattle.mcast_txn.proofs.Members.{at_set_within}
-use Rattle.mcast_txn.proofs.CheckLemmas.{passes}
-use Rattle.mcast_group.proofs.Parts.{none_some}
-use Rattle.stomp_session.specs.Answers.{action_by}
 use Rattle.stomp_session.specs.declared.action.Action.TheVariants as actions
-use Rattle.stomp_session.specs.Frames.{has_destination, is_disconnect}
-use Rattle.delivery.specs.Topics.{TopicList}
-use Rattle.delivery.specs.declared.event.Event.{Event}
-use Rattle.delivery.specs.declared.outcome.Outcome.{Outcome}
-use Rattle.delivery.specs.Machine.Objections.{Objection, refusal_of}
-use Rattle.delivery.specs.Machine.World.{World, Connection, nobody, is_reading, connection_at}
-use Rattle.delivery.specs.Machine.Moves.{Move, move_effect, needs_idle}
-use Rattle.delivery.specs.Machine.Runs.{run}
-use Rattle.delivery.specs.Core.Steps.{CoreStep, Reading, frame_in, has_effect, frame_from, accepted_of}
-use Rattle.delivery.specs.Core.Output.{receipts_of}
-use Rattle.delivery.specs.Core.State.{Core, core_of, core_after, moves, frame_move, names_at, session_at, is_faulted, topic_moves}
 use Rattle.delivery.proofs.Core.FrameWorld.{no_topic}
-use Rattle.delivery.specs.Core.Outcomes.{IsCoreRun, outcomes, unless, reading_outcomes}
-use Rattle.delivery.specs.Inner.Stands.{IsReached}
-use Rattle.delivery.specs.Inner.View.{parting_receipt}
 use Rattle.delivery.proofs.Core.Speaking.{open_in}
 use Rattle.delivery.proofs.Core.AccountOfRun.{core_is, in_option, refusal_some}
 use Rattle.delivery.proofs.Views.Endpoints.EndpointsStay.{if_same}

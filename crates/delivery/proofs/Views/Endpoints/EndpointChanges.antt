@@ -1,17 +1,12 @@
 -- Changes of one endpoint of a view, one after another.
 use Rattle.std.proofs.Common.{◌≡◌, ℕ, ◌<◌, Bool, List, ◌++◌, length, get_or, set, take, Option, None, ap, ◌∙◌}
-use Rattle.std.specs.Prelude.{Result, Ok, Err, OnOk, OnErr}
+use Rattle.delivery.proofs.Words.Std.{Result, Ok, Err, OnErr, take-append_seam, get_or-set_same, set-set, length-set, set-get_or}
+use Rattle.delivery.proofs.Words.Frames.{NoMemory, error_frame, spelling_of}
+use Rattle.delivery.proofs.Words.Core.{ConnectionFault, connection_title}
+use Rattle.delivery.proofs.Words.Views.{failed_endpoint, error_text, View, EndpointView, leaving_endpoint, written_endpoint}
+use Rattle.std.specs.Prelude.{OnOk}
 use Rattle.std.specs.Result.{is_err}
-use Rattle.std.proofs.Math.Seq.{take-append_seam}
-use Rattle.std.proofs.lemmas.List.{get_or-set_same, set-set, length-set, set-get_or}
-use Rattle.stomp_escape.specs.declared.no_memory.NoMemory.{NoMemory}
-use Rattle.stomp_frame.specs.ServerFrames.{error_frame}
-use Rattle.stomp_frame.specs.Writing.{spelling_of}
-use Rattle.delivery.specs.declared.connection_fault.ConnectionFault.{ConnectionFault}
-use Rattle.delivery.specs.Faults.{connection_title}
-use Rattle.delivery.specs.Core.Output.{says_version}
-use Rattle.delivery.specs.Inner.Nexts.{failed_endpoint, shortened_endpoint, error_text}
-use Rattle.delivery.specs.Inner.View.{View, EndpointView, leaving_endpoint, written_endpoint}
+use Rattle.delivery.specs.Inner.Nexts.{shortened_endpoint}
 
 -- the view with this endpoint there
 abbrev pub with_endpoint : View → ℕ → EndpointView → View

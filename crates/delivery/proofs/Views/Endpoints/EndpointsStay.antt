@@ -1,25 +1,11 @@
 -- Steps that leave endpoints as they are, but for what the machine says of them.
 use Rattle.std.proofs.Common.{◌≡◌, ℕ, Bool, true, false, ◌==◌, ◌&&◌, List, [], ◌∷◌, ◌++◌, None, cond, refl, ap, ◌∙◌}
-use Rattle.std.proofs.lemmas.List.{append-nil}
-use Rattle.std.specs.List.{flat_map}
-use Rattle.stomp_frame.specs.declared.raw_frame.RawFrame.{RawFrame}
-use Rattle.stomp_frame.specs.Writing.{spelling_of}
-use Rattle.stomp_frame.specs.Reader.{Unread}
-use Rattle.mcast_txn.specs.declared.id.Topic.{Topic}
-use Rattle.mcast_txn.specs.declared.id.TxnId.{TxnId}
-use Rattle.mcast_txn.specs.declared.stamp.Stamp.{Stamp}
-use Rattle.delivery.specs.declared.event.Event.{Event}
-use Rattle.delivery.specs.declared.outcome.Outcome.{Outcome}
-use Rattle.delivery.specs.declared.refusal.Refusal.{Refusal}
-use Rattle.delivery.specs.Machine.World.{World}
-use Rattle.delivery.specs.Core.Steps.{CoreStep, Reading, accepted_of, has_effect, frame_from, names_after}
-use Rattle.delivery.specs.Core.Account.{account_of}
-use Rattle.delivery.specs.Core.Output.{text_out, subscribe_frame, replies_to, is_cut}
-use Rattle.delivery.specs.Core.State.{unread_at, unread_after}
-use Rattle.std.specs.Option.{option_map_or}
-use Rattle.stomp_session.specs.Frames.{with_destination}
-use Rattle.delivery.specs.Inner.Stands.{step_of}
-use Rattle.delivery.specs.Inner.View.{view_with, view_after}
+use Rattle.delivery.proofs.Words.Std.{append-nil, flat_map, option_map_or}
+use Rattle.delivery.proofs.Words.Topics.{Topic, TxnId, Stamp}
+use Rattle.delivery.proofs.Words.Frames.{RawFrame, spelling_of, Unread, with_destination}
+use Rattle.delivery.proofs.Words.Machine.{World}
+use Rattle.delivery.proofs.Words.Core.{Event, Outcome, Refusal, CoreStep, Reading, accepted_of, has_effect, frame_from, names_after, account_of, text_out, subscribe_frame, replies_to, is_cut, unread_at, unread_after}
+use Rattle.delivery.proofs.Words.Views.{step_of, view_with, view_after}
 
 -- one of two that are the same
 pub if_same : {X : Type 0} (b : Bool) (x : X) → cond b x x ≡ x

@@ -1,30 +1,14 @@
 -- What the machine refuses of a frame that its session and its claim let pass.
 use Rattle.std.proofs.Common.{◌≡◌, ℕ, Bool, true, false, cond, not, nat_lt, ◌&&◌, List, [], ◌∷◌, length, Option, Some, None, refl, sym, ap, subst, ◌∙◌, arith}
-use Rattle.std.specs.List.{list_all}
-use Rattle.std.specs.Option.{is_some, option_map_or, option_or}
-use Rattle.std.proofs.lemmas.Bool.{ltb-true}
-use Rattle.stomp_frame.specs.declared.raw_frame.RawFrame.{RawFrame}
-use Rattle.mcast_txn.specs.declared.id.Topic.{Topic}
-use Rattle.mcast_txn.specs.declared.draft.sent_message.SentMessage.{SentMessage}
-use Rattle.mcast_txn.specs.Checks.{first_refusal}
-use Rattle.mcast_txn.proofs.CheckLemmas.{refusal_after}
-use Rattle.mcast_group.specs.Machine.{last_number}
-use Rattle.mcast_group.proofs.Parts.{some_same, none_some}
-use Rattle.stomp_session.specs.declared.action.Action.{Action}
+use Rattle.delivery.proofs.Words.Std.{list_all, is_some, option_map_or, option_or, ltb-true}
+use Rattle.delivery.proofs.Words.Topics.{Topic, SentMessage, first_refusal, last_number}
+use Rattle.delivery.proofs.Words.Frames.{RawFrame, Action, action_by, has_destination, id_of, session_fault}
+use Rattle.delivery.proofs.Words.Lemmas.{refusal_after, some_same, none_some, begins_at, ends}
+use Rattle.delivery.proofs.Words.Machine.{Objection, World, connection_at, is_in_use, speaker, Move, is_topic, move_refusal, needs_idle}
+use Rattle.delivery.proofs.Words.Core.{claimed_sender, claims_of, is_one_too_many, claim_fault, Core, core_for, core_of, frame_move, session_at, number_by}
+use Rattle.delivery.proofs.Words.Views.{IsReached}
 use Rattle.stomp_session.specs.declared.action.Action.TheVariants as actions
-use Rattle.stomp_session.specs.Answers.{action_by}
-use Rattle.stomp_session.specs.Frames.{has_destination, id_of}
-use Rattle.stomp_session.specs.Refusals.{session_fault}
-use Rattle.stomp_session.proofs.Asked.{begins_at, ends}
-use Rattle.delivery.specs.Machine.Objections.{Objection}
-use Rattle.delivery.specs.Machine.World.{World, connection_at, is_in_use, speaker}
-use Rattle.delivery.specs.Machine.Moves.{Move, is_topic, move_refusal, needs_idle}
-use Rattle.delivery.specs.Core.Claims.{claimed_sender, claims_of, is_one_too_many}
 use Rattle.delivery.specs.Core.Connections.{FramesPass}
-use Rattle.delivery.specs.Core.Outcomes.{claim_fault}
-use Rattle.delivery.specs.Core.State.{Core, core_for, core_of, frame_move, session_at}
-use Rattle.delivery.specs.Core.Steps.{number_by}
-use Rattle.delivery.specs.Inner.Stands.{IsReached}
 use Rattle.delivery.proofs.Core.ClaimsStand.{connect_of, connect_plain}
 use Rattle.delivery.proofs.Core.FrameWorld.{by_use, framed_none, idle_for}
 use Rattle.delivery.proofs.Views.Clients.Claiming.{claimed_begun}

@@ -1,30 +1,14 @@
 -- Nothing came of a connection that isn't there yet.
 use Rattle.std.proofs.Common.{◌≡◌, ◌≢◌, ℕ, zero, suc, ◌+◌, ◌<◌, ◌≤◌, ◌==◌, Bool, true, false, cond, not, ◌&&◌, inl, inr, List, [], ◌∷◌, ◌++◌, length, get_or, Option, Some, None, refl, sym, ap, subst, ◌∙◌, arith, ltb}
-use Rattle.std.proofs.lemmas.Bool.{eqb-true, ltb-true, or_parts, not-false}
-use Rattle.std.specs.List.{flat_map}
-use Rattle.std.specs.Option.{is_some}
-use Rattle.std.proofs.lemmas.List.{length_push}
-use Rattle.stomp_frame.specs.declared.raw_frame.RawFrame.{RawFrame}
-use Rattle.stomp_frame.specs.Reader.{Unread, unread_of, with_piece}
-use Rattle.stomp_frame.specs.Writing.{spelling_of}
-use Rattle.mcast_txn.specs.Lists.{In}
-use Rattle.mcast_group.proofs.Parts.{some_same, not_true}
-use Rattle.delivery.specs.Topics.{TopicList}
-use Rattle.delivery.specs.declared.event.Event.{Event}
-use Rattle.delivery.specs.declared.outcome.Outcome.{Outcome}
-use Rattle.delivery.specs.declared.refusal.Refusal.{Refusal}
-use Rattle.delivery.specs.Machine.Objections.{Objection, refusal_of}
-use Rattle.delivery.specs.Machine.World.{World, Subscription, no_subscription, subscription_at}
-use Rattle.delivery.specs.Machine.Moves.{Move, Answer, world_after, answer_to, move_refusal, move_effect, oldest_live, leave_answer}
+use Rattle.delivery.proofs.Words.Std.{eqb-true, ltb-true, or_parts, not-false, flat_map, is_some, length_push}
+use Rattle.delivery.proofs.Words.Topics.{In}
+use Rattle.delivery.proofs.Words.Frames.{RawFrame, Unread, unread_of, with_piece, spelling_of}
+use Rattle.delivery.proofs.Words.Lemmas.{some_same, not_true}
+use Rattle.delivery.proofs.Words.Machine.{Objection, refusal_of, World, Subscription, no_subscription, subscription_at, Move, Answer, world_after, answer_to, move_refusal, move_effect, oldest_live, leave_answer, Run, answers_of, final_world}
+use Rattle.delivery.proofs.Words.Core.{TopicList, Event, Outcome, Refusal, Beginning, no_beginning, account_of, beginning_of, next_replies, take_replies, replies_to, is_cut, text_out, Core, IsReadBy, core_of, moves, unread_at, unread_after, CoreStep, Reading, frame_in, is_fed, accepted_of, reader_limits, outcomes, unless, outcome_of, move_outcome, reading_outcomes, cut_of, IsReadAt, IsCoreRun, live_numbers}
+use Rattle.delivery.proofs.Words.Views.{IsReached}
 use Rattle.delivery.specs.Machine.Moves.Move.{Decides, Withdraws, Leaves, Takes}
-use Rattle.delivery.specs.Theorem.Laws.{Run, answers_of, final_world}
-use Rattle.delivery.specs.Core.Account.{Beginning, no_beginning, account_of, beginning_of}
-use Rattle.delivery.specs.Core.Output.{next_replies, take_replies, replies_to, is_cut, text_out}
-use Rattle.delivery.specs.Core.State.{Core, IsReadBy, core_of, moves, unread_at, unread_after, left_by}
-use Rattle.delivery.specs.Core.Steps.{CoreStep, Reading, frame_in, is_fed, accepted_of, reader_limits}
-use Rattle.delivery.specs.Core.Outcomes.{outcomes, unless, outcome_of, move_outcome, reading_outcomes, cut_of, IsReadAt, IsCoreRun}
-use Rattle.delivery.specs.Inner.Stands.{IsReached}
-use Rattle.delivery.specs.Core.Connections.{live_numbers}
+use Rattle.delivery.specs.Core.State.{left_by}
 use Rattle.delivery.proofs.Machine.SubscriptionSteps.{at_push_two}
 use Rattle.delivery.proofs.Machine.InvariantIsKept.{by_refusal, checked}
 use Rattle.delivery.proofs.Core.ByRun.{by_run}

@@ -1,24 +1,18 @@
 -- What an open endpoint makes of what its reader gives.
 use Rattle.std.proofs.Common.{◌≡◌, ◌≢◌, ℕ, ◌+◌, ◌⊎◌, Bool, true, false, cond, inl, inr, List, [], ◌∷◌, ◌++◌, Option, Some, None, refl, sym, ap, subst, ◌∙◌, arith}
 use Rattle.std.proofs.lemmas.Bool.{lt-leb}
-use Rattle.std.specs.Prelude.{Result, Ok, Err, MatchOption}
-use Rattle.stomp_frame.specs.declared.fault.Check.{Check}
+use Rattle.delivery.proofs.Words.Std.{Result, Ok, Err}
+use Rattle.delivery.proofs.Words.Frames.{Check, RawFrame, fault_of, Limits, Halt, Unread, ReadsNext, Step, with_destination, held_after, state_of}
+use Rattle.delivery.proofs.Words.Lemmas.{answers_none}
+use Rattle.delivery.proofs.Words.Core.{ConnectionFault, OpenEndpoint, is_any, Reading}
+use Rattle.delivery.proofs.Words.Views.{IsRefusedAs, Judgement}
+use Rattle.std.specs.Prelude.{MatchOption}
 use Rattle.stomp_frame.specs.declared.fault.FrameFault.{FrameFault}
-use Rattle.stomp_frame.specs.declared.raw_frame.RawFrame.{RawFrame}
-use Rattle.stomp_frame.specs.Faults.{fault_of}
-use Rattle.stomp_frame.specs.declared.limits.Limits.{Limits}
-use Rattle.stomp_frame.specs.Inner.Parser.{Halt, ◌>>=◌, after_eols, body_at, command_of, frame_at, headers_at, line_at}
+use Rattle.stomp_frame.specs.Inner.Parser.{◌>>=◌, after_eols, body_at, command_of, frame_at, headers_at, line_at}
 use Rattle.stomp_frame.specs.Commands.{has_escapes}
-use Rattle.stomp_frame.specs.Reader.{Unread, ReadsNext, NextReturns}
-use Rattle.stomp_frame.proofs.Whole.{answers_none}
-use Rattle.stomp_session.specs.declared.action.Step.{Step}
-use Rattle.stomp_session.specs.Frames.{with_destination}
-use Rattle.stomp_session.specs.Open.{SessionState, held_after, state_of}
-use Rattle.delivery.specs.declared.connection_fault.ConnectionFault.{ConnectionFault}
-use Rattle.delivery.specs.declared.open_endpoint.OpenEndpoint.{OpenEndpoint}
-use Rattle.delivery.specs.Core.Outcomes.{is_any}
-use Rattle.delivery.specs.Core.Steps.{Reading}
-use Rattle.delivery.specs.Inner.Nexts.{IsAccepted, IsRefusedAs, Judgement, reader_fault}
+use Rattle.stomp_frame.specs.Reader.{NextReturns}
+use Rattle.stomp_session.specs.Open.{SessionState}
+use Rattle.delivery.specs.Inner.Nexts.{IsAccepted, reader_fault}
 
 -- what a reader returns before a fault
 reads : (u v : Unread) (r : Result (Option RawFrame) FrameFault) → u.answered ≡ None → NextReturns u r v → ReadsNext u r v

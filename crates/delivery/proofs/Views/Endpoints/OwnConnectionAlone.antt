@@ -1,39 +1,16 @@
 -- What every run makes of its connections: a step changes none but its event's own, and an accepted UNSUBSCRIBE names a live
 -- subscription.
 use Rattle.std.proofs.Common.{◌≡◌, ◌≢◌, ℕ, zero, suc, ◌==◌, Bool, true, false, cond, not, ◌&&◌, List, [], ◌∷◌, ◌++◌, length, set, get_or, Option, Some, None, refl, sym, ap, ◌∙◌, append-nil}
-use Rattle.std.specs.Prelude.{codes, slice_get}
-use Rattle.std.specs.List.{flat_map}
-use Rattle.std.specs.Option.{option_map_or, option_to_list}
-use Rattle.std.proofs.lemmas.List.{get_or-set_other}
-use Rattle.stomp_frame.specs.declared.raw_frame.RawFrame.{RawFrame}
-use Rattle.stomp_frame.specs.Reader.{Unread, with_piece}
-use Rattle.stomp_frame.specs.Writing.{spelling_of}
-use Rattle.mcast_txn.specs.declared.id.Topic.{Topic}
-use Rattle.mcast_txn.specs.declared.id.TxnId.{TxnId}
-use Rattle.mcast_txn.specs.declared.draft.sent_message.SentMessage.{SentMessage}
-use Rattle.mcast_txn.specs.Ballot.{Decision}
-use Rattle.mcast_txn.specs.Span.{Item}
-use Rattle.mcast_group.specs.declared.fault.ProposeFault.{ProposeFault}
-use Rattle.mcast_group.specs.Machine.{Entry}
-use Rattle.stomp_session.specs.declared.action.Action.{Action}
+use Rattle.delivery.proofs.Words.Std.{codes, slice_get, flat_map, option_map_or, option_to_list, get_or-set_other}
+use Rattle.delivery.proofs.Words.Topics.{Topic, TxnId, SentMessage, Decision, Item, ProposeFault, Entry}
+use Rattle.delivery.proofs.Words.Frames.{RawFrame, Unread, with_piece, spelling_of, Action, action_by, field, has_destination, id_of, is_known}
+use Rattle.delivery.proofs.Words.Machine.{World, Connection, Leftover, Standing, nobody, connection_at, subscription_at, speaker, entry_at, accepted_at, Move, Answer, world_after, move_effect, find_leftover, find_verdict, oldest_live, commit_effect, proposal_fault, propose_effect, cancel_effect, learn_effect, take_effect, leave_effect, close_effect_of, run}
+use Rattle.delivery.proofs.Words.Core.{Event, Outcome, account_of, beginning_of, is_cut, next_replies, replies_to, text_out, take_replies, Core, core_of, frame_move, is_faulted, is_no_memory, is_out_of_memory, moves, names_at, next_moves, session_at, topic_moves, unread_at, unread_after, claims_of, claimed_sender, CoreStep, Reading, accepted_of, frame_in, has_effect, is_fed, is_next, number_by}
+use Rattle.delivery.proofs.Words.Views.{IsReached}
 use Rattle.stomp_session.specs.declared.action.Action.TheVariants as actions
-use Rattle.stomp_session.specs.Answers.{action_by}
-use Rattle.stomp_session.specs.Frames.{field, has_destination, id_of}
-use Rattle.stomp_session.specs.Names.{is_known}
-use Rattle.delivery.specs.declared.event.Event.{Event}
-use Rattle.delivery.specs.declared.outcome.Outcome.{Outcome}
-use Rattle.delivery.specs.Machine.World.{World, Connection, Leftover, Standing, nobody, connection_at, subscription_at, speaker, entry_at}
-use Rattle.delivery.specs.Machine.Observed.{accepted_at}
-use Rattle.delivery.specs.Machine.Moves.{Move, Answer, world_after, move_effect, find_leftover, find_verdict, oldest_live, commit_effect, proposal_fault, propose_effect, cancel_effect, learn_effect, take_effect, leave_effect, close_effect_of}
 use Rattle.delivery.specs.Machine.Moves.Move.{AddsTopic, Opens, Connects, Commits, Subscribes, Unsubscribes, Disconnects, Errs, Lost, Leaves, Proposes, Decides, Withdraws, Cancels, Learns, Releases, Turns, Takes}
-use Rattle.delivery.specs.Machine.Runs.{run}
-use Rattle.delivery.specs.Core.Account.{account_of, beginning_of}
 use Rattle.delivery.specs.Core.Connections.{event_connection, OpenAreLive, UnsubscribesFind, OtherConnectionsStay}
-use Rattle.delivery.specs.Core.Output.{is_cut, next_replies, replies_to, text_out, take_replies}
-use Rattle.delivery.specs.Core.State.{Core, core_of, frame_move, is_faulted, is_no_memory, is_out_of_memory, left_by, moves, names_at, next_moves, session_at, topic_moves, unread_at, unread_after}
-use Rattle.delivery.specs.Core.Claims.{claims_of, claimed_sender}
-use Rattle.delivery.specs.Core.Steps.{CoreStep, Reading, accepted_of, frame_in, has_effect, is_fed, is_next, number_by}
-use Rattle.delivery.specs.Inner.Stands.{IsReached}
+use Rattle.delivery.specs.Core.State.{left_by}
 use Rattle.delivery.proofs.Machine.InvariantIsKept.{by_refusal}
 use Rattle.delivery.proofs.Core.AccountOfRun.{core_is}
 use Rattle.delivery.proofs.Core.NamesKnown.{other_open}

@@ -1,11 +1,8 @@
 -- Connections of a core that a run leads to: whose they are, and which were closed.
 use Rattle.std.proofs.Common.{◌≡◌, ℕ, ◌<◌, not, length, ◌∙◌}
-use Rattle.delivery.specs.Machine.World.{is_reading, connection_at}
-use Rattle.delivery.specs.Theorem.Laws.{answers_of}
-use Rattle.delivery.specs.Core.Account.{account_of}
-use Rattle.delivery.specs.Core.Output.{has_closed}
-use Rattle.delivery.specs.Core.State.{Core}
-use Rattle.delivery.specs.Inner.Stands.{IsReached}
+use Rattle.delivery.proofs.Words.Machine.{is_reading, connection_at, answers_of}
+use Rattle.delivery.proofs.Words.Core.{account_of, has_closed, Core}
+use Rattle.delivery.proofs.Words.Views.{IsReached}
 use Rattle.delivery.proofs.Core.Said.{has_closed_said}
 use Rattle.delivery.proofs.Views.Runs.ByRunOfCore.{by_account}
 use Rattle.delivery.proofs.Views.Endpoints.StandingOfConnection.{closed_where_shut}

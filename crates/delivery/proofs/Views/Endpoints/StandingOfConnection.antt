@@ -1,24 +1,12 @@
 -- How each move changes the connections: one more is open, one isn't open any more, or none is changed. So a
 -- connection is closed where its standing says so, and never opens again.
 use Rattle.std.proofs.Common.{◌≡◌, ◌≢◌, ℕ, ◌<◌, ◌≤◌, ◌==◌, Bool, true, false, not, ◌||◌, ◌⊎◌, inl, inr, List, [], ◌∷◌, ◌++◌, length, get_or, set, Option, Some, None, refl, sym, ap, subst, ◌∙◌, arith}
-use Rattle.std.proofs.lemmas.Bool.{eqb-true, eq-eqb, false≢true, or_parts, not-false, cases_lt}
-use Rattle.std.proofs.lemmas.List.{length_push}
-use Rattle.mcast_txn.specs.declared.id.Topic.{Topic}
-use Rattle.mcast_txn.specs.declared.id.TxnId.{TxnId}
-use Rattle.mcast_txn.specs.declared.draft.sent_message.SentMessage.{SentMessage}
-use Rattle.mcast_txn.specs.Ballot.{Decision}
-use Rattle.mcast_txn.specs.Span.{Item}
-use Rattle.mcast_txn.proofs.Members.{at_set, at_set_within}
-use Rattle.mcast_group.specs.declared.fault.ProposeFault.{ProposeFault}
-use Rattle.mcast_group.specs.Machine.{Pending, Entry, due_part}
-use Rattle.mcast_group.proofs.Parts.{not_true}
-use Rattle.delivery.specs.Machine.World.{World, Connection, Leftover, Standing, is_reading, nobody, topic_at, subscription_at, speaker, entry_at}
-use Rattle.delivery.specs.Machine.Moves.{Move, Answer, world_after, answer_to, move_refusal, move_effect, move_answer, find_leftover, find_verdict, oldest_live, commit_effect, commit_answer, proposal_fault, propose_effect, propose_answer, cancel_effect, cancel_answer, learn_effect, release_answer, take_effect, take_answer, leave_effect, leave_answer, close_effect_of}
+use Rattle.delivery.proofs.Words.Std.{eqb-true, eq-eqb, false≢true, or_parts, not-false, cases_lt, length_push}
+use Rattle.delivery.proofs.Words.Topics.{Topic, TxnId, SentMessage, Decision, Item, ProposeFault, Pending, Entry, due_part}
+use Rattle.delivery.proofs.Words.Lemmas.{at_set, at_set_within, not_true}
+use Rattle.delivery.proofs.Words.Machine.{World, Connection, Leftover, Standing, is_reading, nobody, topic_at, subscription_at, speaker, entry_at, Move, Answer, world_after, answer_to, move_refusal, move_effect, move_answer, find_leftover, find_verdict, oldest_live, commit_effect, commit_answer, proposal_fault, propose_effect, propose_answer, cancel_effect, cancel_answer, learn_effect, release_answer, take_effect, take_answer, leave_effect, leave_answer, close_effect_of, run, Run, answers_of, final_world, closes}
+use Rattle.delivery.proofs.Words.Core.{has_closed}
 use Rattle.delivery.specs.Machine.Moves.Move.{Opens, Connects, Commits, Unsubscribes, Disconnects, Errs, Lost, Leaves, Proposes, Withdraws, Cancels, Learns, Releases, Takes}
-use Rattle.delivery.specs.Machine.Runs.{run}
-use Rattle.delivery.specs.Theorem.Laws.{Run, answers_of, final_world}
-use Rattle.delivery.specs.Theorem.Settled.{closes}
-use Rattle.delivery.specs.Core.Output.{has_closed}
 use Rattle.delivery.proofs.Machine.SubscriptionSteps.{at_old, set_length, beyond}
 use Rattle.delivery.proofs.Machine.InvariantIsKept.{by_refusal, checked}
 use Rattle.delivery.proofs.Core.ByRun.{by_run}

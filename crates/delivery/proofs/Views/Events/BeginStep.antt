@@ -1,20 +1,14 @@
 -- A transaction that begins.
 use Rattle.std.proofs.Common.{◌≡◌, ℕ, ◌+◌, ◌<◌, ◌≤◌, nat_lt, true, List, [], ◌∷◌, ◌++◌, length, get_or, set, Option, Some, None, refl, sym, ap, ◌∙◌, arith}
-use Rattle.std.proofs.lemmas.Bool.{lt-ltb}
+use Rattle.delivery.proofs.Words.Std.{lt-ltb}
+use Rattle.delivery.proofs.Words.Topics.{SentMessage, Decision, last_number}
+use Rattle.delivery.proofs.Words.Frames.{RawFrame, Unread}
+use Rattle.delivery.proofs.Words.Machine.{World, Undecided, SenderState, Standing, is_reading, connection_at, sender_at, speaker, with_sender, speaker_number, find_verdict, next_txn, commit_effect}
+use Rattle.delivery.proofs.Words.Core.{receipt_asked, commit_frame, Core, each_number}
+use Rattle.delivery.proofs.Words.Views.{speaker_at, sender_in, launched_id, launched_view, asked_view, gate_of, IsReached, View, EndpointView, SenderView, held_sender, view_with, sender_view, sending_view, endpoint_view, stage_view, no_endpoint, verdict_list}
 use Rattle.std.proofs.lemmas.List.FromFn.{map-range_with_len_more}
-use Rattle.stomp_frame.specs.declared.raw_frame.RawFrame.{RawFrame}
-use Rattle.stomp_frame.specs.Reader.{Unread}
-use Rattle.mcast_txn.specs.declared.draft.sent_message.SentMessage.{SentMessage}
-use Rattle.mcast_txn.specs.Ballot.{Decision}
-use Rattle.mcast_group.specs.Machine.{last_number}
-use Rattle.delivery.specs.Machine.World.{World, Undecided, SenderState, Standing, is_reading, connection_at, sender_at, speaker, with_sender, speaker_number}
-use Rattle.delivery.specs.Machine.Moves.{find_verdict, next_txn, commit_effect}
-use Rattle.delivery.specs.Core.Output.{receipt_asked, commit_frame}
-use Rattle.delivery.specs.Core.State.{Core}
-use Rattle.delivery.specs.Core.Reports.{each_number}
-use Rattle.delivery.specs.Inner.Senders.{speaker_at, sender_in, launched_sender, launched_id, launched_view, asked_endpoint, asked_view, gate_of}
-use Rattle.delivery.specs.Inner.Stands.{IsReached}
-use Rattle.delivery.specs.Inner.View.{View, EndpointView, SenderView, held_sender, is_idle, view_with, sender_view, sending_view, endpoint_view, stage_view, no_endpoint, verdict_list}
+use Rattle.delivery.specs.Inner.Senders.{launched_sender, asked_endpoint}
+use Rattle.delivery.specs.Inner.View.{is_idle}
 use Rattle.delivery.proofs.Views.Lists.ByNumber.{length-each_number}
 use Rattle.delivery.proofs.Views.Senders.SenderChanges.{IsSpeaking, number_at, endpoint_in, speaker_is, sender_is, speaker_there, speaker_with, speaking_used, lists_with, endpoints_with_sender, endpoint_with_sender, next_undecided}
 

@@ -1,36 +1,13 @@
 -- A ticket is cancelled.
 use Rattle.std.proofs.Common.{◌≡◌, ℕ, suc, ◌+◌, ◌<◌, ◌==◌, Bool, true, false, cond, not, ◌&&◌, nat_lt, List, [], ◌∷◌, map, length, get_or, set, Option, Some, None, Result, Ok, Err, inl, inr, refl, sym, ap, subst, ◌∙◌, arith}
-use Rattle.std.specs.Prelude.{slice_get}
-use Rattle.std.proofs.lemmas.Bool.{lt-ltb, ltb-true, cases_Bool}
-use Rattle.std.proofs.lemmas.List.{append-nil}
-use Rattle.std.specs.List.{position, position_or_len, remove}
-use Rattle.std.specs.Option.{is_some, option_or, option_map}
-use Rattle.mcast_txn.specs.declared.ballot.ticket.Ticket.{Ticket}
-use Rattle.mcast_txn.specs.declared.id.Topic.{Topic}
-use Rattle.mcast_txn.specs.declared.id.TxnId.{TxnId}
-use Rattle.mcast_txn.specs.declared.stamp.Stamp.{Stamp}
-use Rattle.mcast_txn.specs.Ids.{same_id}
-use Rattle.mcast_txn.specs.Lists.{In}
-use Rattle.mcast_txn.proofs.Orders.{id_itself}
-use Rattle.mcast_txn.proofs.CheckLemmas.{refusal_first, refusal_after}
-use Rattle.mcast_group.specs.declared.fault.CancelFault.{CancelFault}
-use Rattle.mcast_group.specs.Group.{GroupState, result_of}
-use Rattle.mcast_group.specs.Machine.{Pending, cancel_fault, cancel_fault_of, after_cancel}
-use Rattle.mcast_group.proofs.Parts.{Waits, found_part, finds_part, none_some, some_same}
-use Rattle.delivery.specs.declared.event.Event.{Event}
-use Rattle.delivery.specs.declared.outcome.Outcome.{Outcome}
-use Rattle.delivery.specs.declared.refusal.Refusal.{Refusal}
+use Rattle.delivery.proofs.Words.Std.{slice_get, lt-ltb, ltb-true, cases_Bool, append-nil, position, position_or_len, remove, is_some, option_or, option_map}
+use Rattle.delivery.proofs.Words.Topics.{Ticket, Topic, TxnId, Stamp, same_id, In, CancelFault, GroupState, result_of, Pending, cancel_fault, cancel_fault_of, after_cancel}
+use Rattle.delivery.proofs.Words.Lemmas.{id_itself, refusal_first, refusal_after, Waits, found_part, finds_part, none_some, some_same}
+use Rattle.delivery.proofs.Words.Machine.{Objection, refusal_of, World, Leftover, SenderState, topic_at, sender_at, speaker, with_sender, with_topic, speaker_number, Move, Answer, move_refusal, needs_connection, is_topic, find_leftover, drop_leftover, cancel_objection, cancel_objection_of, cancel_effect, cancel_answer, Run, final_world}
+use Rattle.delivery.proofs.Words.Core.{Event, Outcome, Refusal, CoreStep, Reading, accepted_of, text_out, subscribe_frame, Core, names_at, unread_at}
+use Rattle.delivery.proofs.Words.Views.{there_objection, speaker_at, sender_in, is_group, cancel_refusal_in, cancelled_view, IsReached, Makes, step_of, View, SenderView, view_of, view_after, sender_view, group_view, ticket_of, group_in, no_group}
 use Rattle.delivery.specs.declared.refusal.Refusal.TheVariants as refusal
-use Rattle.delivery.specs.Machine.Objections.{Objection, refusal_of}
-use Rattle.delivery.specs.Machine.World.{World, Leftover, SenderState, topic_at, sender_at, speaker, with_sender, with_topic, speaker_number}
-use Rattle.delivery.specs.Machine.Moves.{Move, Answer, move_refusal, needs_connection, is_topic, find_leftover, drop_leftover, cancel_objection, cancel_objection_of, cancel_effect, cancel_answer}
-use Rattle.delivery.specs.Theorem.Laws.{Run, final_world}
-use Rattle.delivery.specs.Core.Steps.{CoreStep, Reading, accepted_of}
-use Rattle.delivery.specs.Core.Output.{text_out, subscribe_frame}
-use Rattle.delivery.specs.Core.State.{Core, names_at, unread_at}
-use Rattle.delivery.specs.Inner.Senders.{there_objection, speaker_at, sender_in, no_ticket, is_group, leftover_at, leftover_in, cancel_refusal_in, leftover_view, cancelled_view}
-use Rattle.delivery.specs.Inner.Stands.{IsReached, Makes, step_of}
-use Rattle.delivery.specs.Inner.View.{View, SenderView, view_of, view_after, sender_view, group_view, ticket_of, group_in, no_group}
+use Rattle.delivery.specs.Inner.Senders.{no_ticket, leftover_at, leftover_in, leftover_view}
 use Rattle.delivery.proofs.Machine.Effects.{made_world, made_answer}
 use Rattle.delivery.proofs.Machine.Invariant.{topic_in}
 use Rattle.delivery.proofs.Machine.SenderSteps.{leftover_found}

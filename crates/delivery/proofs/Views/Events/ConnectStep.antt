@@ -1,40 +1,15 @@
 -- A Next whose frame is a CONNECT: its connection speaks for the sender that it claims.
 use Rattle.std.proofs.Common.{◌≡◌, ◌≢◌, ℕ, ◌<◌, nat_lt, Bool, true, false, cond, not, List, [], ◌∷◌, ◌++◌, length, get_or, set, Option, Some, None, refl, sym, ap, subst, ◌∙◌, arith, append-nil}
-use Rattle.std.specs.List.{flat_map}
-use Rattle.std.specs.Option.{is_some, option_map, option_map_or, option_or, unwrap_or}
-use Rattle.std.proofs.lemmas.Bool.{lt-ltb, ltb-true}
-use Rattle.std.proofs.lemmas.List.{get_or-set_same, get_or-set_other, set-get_or}
-use Rattle.mcast_txn.specs.Checks.{first_refusal}
-use Rattle.mcast_group.proofs.Parts.{some_same, none_some, not_true}
-use Rattle.stomp_frame.specs.Cases.{is_connect}
-use Rattle.stomp_frame.specs.declared.raw_frame.RawFrame.{RawFrame}
-use Rattle.stomp_frame.specs.Reader.{Unread}
-use Rattle.stomp_frame.specs.ServerFrames.{connected_frame}
-use Rattle.stomp_frame.specs.Writing.{spelling_of}
+use Rattle.delivery.proofs.Words.Std.{flat_map, is_some, option_map, option_map_or, option_or, unwrap_or, lt-ltb, ltb-true, get_or-set_same, get_or-set_other, set-get_or}
+use Rattle.delivery.proofs.Words.Topics.{first_refusal, GateState, SendersState, after_claim, claim_refusal, claimed_gate, new_gate}
+use Rattle.delivery.proofs.Words.Frames.{is_connect, RawFrame, Unread, connected_frame, spelling_of, client_of}
+use Rattle.delivery.proofs.Words.Lemmas.{some_same, none_some, not_true}
+use Rattle.delivery.proofs.Words.Machine.{Objection, World, Connection, SenderState, Undecided, is_gone, nobody, new_sender, connection_at, sender_at, speaker, speaks_for, is_in_use, Move, claimed_senders, connect_effect, move_refusal, needs_idle, run}
+use Rattle.delivery.proofs.Words.Core.{ConnectionFault, Event, Outcome, Sending, begun_count, claim_of, claimed_sender, claims_of, is_one_too_many, receipts_of, subscribe_frame, text_out, claim_fault, frame_no_memory, Core, core_for, next_moves, session_at, unread_at, Reading, accepted_of, each_number, live_numbers}
+use Rattle.delivery.proofs.Words.Views.{AreClaimed, AreClients, MakesBoth, MayResume, refused_claim, with_sender_of, Asks, MayEnd, no_sender, sender_in, EndpointView, SenderView, View, endpoint_view, held_sender, sender_view, sending_view, stage_view, verdict_list, view_after, view_with, written_endpoint}
 use Rattle.stomp_session.specs.declared.action.Action.TheVariants as actions
-use Rattle.stomp_session.specs.Frames.{client_of}
 use Rattle.sender_gate.specs.declared.fault.ClaimFault.{ClaimFault}
-use Rattle.sender_gate.specs.Gate.{GateState}
-use Rattle.sender_gate.specs.Senders.{SendersState, after_claim, claim_refusal, claimed_gate, new_gate}
-use Rattle.delivery.specs.declared.connection_fault.ConnectionFault.{ConnectionFault}
-use Rattle.delivery.specs.declared.event.Event.{Event}
-use Rattle.delivery.specs.declared.outcome.Outcome.{Outcome}
-use Rattle.delivery.specs.declared.sending.Sending.{Sending}
-use Rattle.delivery.specs.Machine.Objections.{Objection}
-use Rattle.delivery.specs.Machine.World.{World, Connection, SenderState, Undecided, is_gone, nobody, new_sender, connection_at, sender_at, speaker, speaks_for, is_in_use}
-use Rattle.delivery.specs.Machine.Moves.{Move, claim_refusals, claimed_senders, connect_effect, move_refusal, needs_idle}
-use Rattle.delivery.specs.Machine.Runs.{run}
-use Rattle.delivery.specs.Core.Claims.{begun_count, claim_of, claimed_sender, claims_of, is_one_too_many}
-use Rattle.delivery.specs.Core.Output.{receipts_of, subscribe_frame, text_out}
-use Rattle.delivery.specs.Core.Outcomes.{claim_fault, frame_no_memory}
-use Rattle.delivery.specs.Core.State.{Core, core_for, next_moves, session_at, unread_at}
-use Rattle.delivery.specs.Core.Steps.{Reading, accepted_of}
-use Rattle.delivery.specs.Core.Reports.{each_number}
-use Rattle.delivery.specs.Core.Connections.{live_numbers}
-use Rattle.delivery.specs.Inner.Clients.{AreClaimed, AreClients, MakesBoth, MayResume, refused_claim, with_sender_of}
-use Rattle.delivery.specs.Inner.Nexts.{Asks, MayEnd}
-use Rattle.delivery.specs.Inner.Senders.{no_sender, sender_in}
-use Rattle.delivery.specs.Inner.View.{EndpointView, SenderView, View, endpoint_view, held_sender, sender_view, sending_view, stage_view, verdict_list, view_after, view_with, written_endpoint}
+use Rattle.delivery.specs.Machine.Moves.{claim_refusals}
 use Rattle.delivery.proofs.Core.ClaimsStand.{connect_of, connect_plain}
 use Rattle.delivery.proofs.Core.FrameWorld.{framed_none}
 use Rattle.delivery.proofs.Machine.SubscriptionSteps.{beyond}

@@ -1,29 +1,12 @@
 -- Events of a connection that isn't gone: the checks that they begin with, a refused one, and one that replies.
 use Rattle.std.proofs.Common.{◌≡◌, ℕ, ◌<◌, Bool, true, false, cond, not, nat_lt, List, [], ◌∷◌, length, get_or, Option, Some, None, inl, inr, refl, sym, ap, subst, ◌∙◌}
-use Rattle.std.specs.Prelude.{slice_get}
-use Rattle.std.proofs.lemmas.Bool.{ltb-true, ltb-false, cases_Bool}
-use Rattle.std.proofs.lemmas.Option.{slice_get-get_or, slice_get_past}
-use Rattle.std.specs.Option.{is_some, option_map, option_and_then, option_to_list}
-use Rattle.mcast_txn.specs.Lists.{In}
-use Rattle.mcast_txn.specs.Checks.{first_refusal}
-use Rattle.stomp_frame.specs.declared.raw_frame.RawFrame.{RawFrame}
-use Rattle.stomp_frame.specs.Reader.{Unread}
-use Rattle.mcast_group.proofs.Parts.{none_some, some_same}
-use Rattle.delivery.specs.declared.event.Event.{Event}
-use Rattle.delivery.specs.declared.outcome.Outcome.{Outcome}
-use Rattle.delivery.specs.declared.refusal.Refusal.{Refusal}
-use Rattle.delivery.specs.Machine.Objections.{Objection, refusal_of}
-use Rattle.delivery.specs.Machine.World.{World, Undecided, Leftover, Standing, connection_at, speaker, speaker_number, is_gone}
-use Rattle.delivery.specs.Machine.Moves.{Move, Answer, move_refusal, answer_to, needs_connection}
-use Rattle.delivery.specs.Machine.Runs.{run}
-use Rattle.delivery.specs.Core.Account.{account_of}
-use Rattle.delivery.specs.Core.Output.{replies_to}
-use Rattle.delivery.specs.Core.Steps.{Reading, accepted_of}
-use Rattle.delivery.specs.Core.State.{Core, moves, unread_at, names_at}
-use Rattle.delivery.specs.Core.Outcomes.{outcomes, outcome_of, move_outcome, reply_outcomes, cut_of, is_any, IsReadAt}
-use Rattle.delivery.specs.Inner.Senders.{gone_objection, there_objection}
-use Rattle.delivery.specs.Inner.Stands.{Makes, step_of}
-use Rattle.delivery.specs.Inner.View.{EndpointView, view_of, view_after, stage_view}
+use Rattle.delivery.proofs.Words.Std.{slice_get, ltb-true, ltb-false, cases_Bool, slice_get-get_or, slice_get_past, is_some, option_map, option_and_then, option_to_list}
+use Rattle.delivery.proofs.Words.Topics.{In, first_refusal}
+use Rattle.delivery.proofs.Words.Frames.{RawFrame, Unread}
+use Rattle.delivery.proofs.Words.Lemmas.{none_some, some_same}
+use Rattle.delivery.proofs.Words.Machine.{Objection, refusal_of, World, Undecided, Leftover, Standing, connection_at, speaker, speaker_number, is_gone, Move, Answer, move_refusal, answer_to, needs_connection, run}
+use Rattle.delivery.proofs.Words.Core.{Event, Outcome, Refusal, account_of, replies_to, Reading, accepted_of, Core, moves, unread_at, names_at, outcomes, outcome_of, move_outcome, reply_outcomes, cut_of, is_any, IsReadAt}
+use Rattle.delivery.proofs.Words.Views.{gone_objection, there_objection, Makes, step_of, EndpointView, view_of, view_after, stage_view}
 use Rattle.delivery.proofs.Machine.Effects.{refused_answer, same_world}
 use Rattle.delivery.proofs.Views.Endpoints.EndpointsStay.{quiet_view, refused_is_quiet}
 use Rattle.delivery.proofs.Machine.Speakers.{cancelling_speaker}

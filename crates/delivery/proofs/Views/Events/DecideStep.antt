@@ -1,44 +1,16 @@
 -- A transaction is decided.
 use Rattle.std.proofs.Common.{◌≡◌, ◌≢◌, ℕ, zero, suc, ◌-◌, ◌<◌, ◌==◌, Bool, true, false, cond, not, ◌&&◌, ◌||◌, List, [], ◌∷◌, ◌++◌, map, length, get_or, set, Option, Some, None, refl, sym, ap, ◌∙◌}
-use Rattle.std.specs.Prelude.{slice_get}
-use Rattle.std.proofs.lemmas.Bool.{eq-eqb, lt-ltb}
-use Rattle.std.proofs.lemmas.List.{map-append, append-nil, set-get_or}
-use Rattle.std.specs.List.{list_any, list_all, find, flat_map}
-use Rattle.std.specs.Option.{is_some, is_none, option_map, option_map_or, option_and_then}
-use Rattle.stomp_frame.specs.declared.raw_frame.RawFrame.{RawFrame}
-use Rattle.stomp_frame.specs.Reader.{Unread}
-use Rattle.stomp_frame.specs.Receipts.{receipt_of}
-use Rattle.stomp_frame.specs.ServerFrames.{receipt_frame}
-use Rattle.stomp_frame.specs.Writing.{spelling_of}
-use Rattle.mcast_txn.specs.declared.id.Topic.{Topic}
-use Rattle.mcast_txn.specs.declared.id.TxnId.{TxnId}
-use Rattle.mcast_txn.specs.declared.stamp.Stamp.{Stamp}
-use Rattle.mcast_txn.specs.Ballot.{Decision, row_at}
-use Rattle.mcast_txn.specs.Checks.{first_refusal}
-use Rattle.mcast_txn.specs.Span.{LogRow}
-use Rattle.mcast_txn.specs.Stamp.{greatest}
-use Rattle.mcast_txn.specs.Transaction.{topics_of}
-use Rattle.mcast_txn.proofs.CheckLemmas.{refusal_first, refusal_after}
-use Rattle.mcast_group.specs.declared.fault.ProposeFault.{ProposeFault}
-use Rattle.delivery.specs.declared.event.Event.{Event}
-use Rattle.delivery.specs.declared.outcome.Outcome.{Outcome}
-use Rattle.delivery.specs.declared.refusal.Refusal.{Refusal}
+use Rattle.delivery.proofs.Words.Std.{slice_get, eq-eqb, lt-ltb, map-append, append-nil, set-get_or, list_any, list_all, flat_map, is_some, option_map, option_map_or, option_and_then}
+use Rattle.delivery.proofs.Words.Topics.{Topic, TxnId, Stamp, Decision, row_at, first_refusal, LogRow, greatest, topics_of, ProposeFault}
+use Rattle.delivery.proofs.Words.Frames.{RawFrame, Unread, receipt_of, receipt_frame, spelling_of}
+use Rattle.delivery.proofs.Words.Lemmas.{refusal_first, refusal_after}
+use Rattle.delivery.proofs.Words.Machine.{log_row, Objection, refusal_of, World, Undecided, SenderState, Connection, Standing, is_reading, is_gone, nobody, connection_at, sender_at, speaker, with_sender, speaker_number, Move, Answer, move_refusal, needs_connection, has_ticket, is_complete, undecided_or_none, undecided_at, decide_effect, with_leaving, run}
+use Rattle.delivery.proofs.Words.Core.{Event, Outcome, Refusal, Sending, account_of, has_closed, receipts_of, receipt_asked, commit_frame, replies_to, text_out, subscribe_frame, Reading, accepted_of, Core, unread_at, names_at, each_number, move_outcome, is_any}
+use Rattle.delivery.proofs.Words.Views.{there_objection, speaker_at, sender_in, decide_refusal, decision_of, decided_row, decided_sender, decided_view, receipt_in, confirmed_view, IsReached, Makes, step_of, EndpointView, SenderView, held_sender, view_of, view_with, view_after, sender_view, sending_view, undecided_view, endpoint_view, stage_view, parting_receipt, leaving_endpoint, no_endpoint, verdict_list}
+use Rattle.std.specs.List.{find}
+use Rattle.std.specs.Option.{is_none}
 use Rattle.delivery.specs.declared.refusal.Refusal.TheVariants as refusal
-use Rattle.delivery.specs.declared.sending.Sending.{Sending}
-use Rattle.delivery.specs.Theorem.Due.{log_row}
-use Rattle.delivery.specs.Machine.Objections.{Objection, refusal_of}
-use Rattle.delivery.specs.Machine.World.{World, Undecided, SenderState, Connection, Standing, is_reading, is_gone, nobody, connection_at, sender_at, speaker, with_sender, speaker_number}
-use Rattle.delivery.specs.Machine.Moves.{Move, Answer, move_refusal, needs_connection, has_ticket, is_complete, undecided_or_none, undecided_at, decide_effect, with_leaving}
-use Rattle.delivery.specs.Machine.Runs.{run}
-use Rattle.delivery.specs.Core.Account.{account_of}
-use Rattle.delivery.specs.Core.Output.{has_closed, receipts_of, receipt_asked, commit_frame, replies_to, text_out, subscribe_frame}
-use Rattle.delivery.specs.Core.Steps.{Reading, accepted_of}
-use Rattle.delivery.specs.Core.State.{Core, unread_at, names_at}
-use Rattle.delivery.specs.Core.Reports.{each_number}
-use Rattle.delivery.specs.Core.Outcomes.{move_outcome, is_any}
-use Rattle.delivery.specs.Inner.Senders.{there_objection, speaker_at, sender_in, decide_refusal, decision_of, decided_row, decided_sender, verdicts_with, decided_view, asked_stage, receipt_in, with_receipt, confirmed_endpoint, confirmed_view}
-use Rattle.delivery.specs.Inner.Stands.{IsReached, Makes, step_of}
-use Rattle.delivery.specs.Inner.View.{EndpointView, SenderView, held_sender, view_of, view_with, view_after, sender_view, sending_view, undecided_view, endpoint_view, stage_view, parting_receipt, leaving_endpoint, no_endpoint, verdict_list}
+use Rattle.delivery.specs.Inner.Senders.{verdicts_with, asked_stage, with_receipt, confirmed_endpoint}
 use Rattle.delivery.proofs.Machine.Effects.{made_world, made_answer}
 use Rattle.delivery.proofs.Views.Runs.AccountOfTransactions.{flight_id}
 use Rattle.delivery.proofs.Views.Endpoints.SpeakerAndEnd.{closed_is}

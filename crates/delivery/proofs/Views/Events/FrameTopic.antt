@@ -1,27 +1,13 @@
 -- A Next whose frame is accepted: its destination has its topic before anything else is done.
 use Rattle.std.proofs.Common.{◌≡◌, ℕ, Bool, true, false, cond, not, ◌&&◌, List, [], ◌∷◌, ◌++◌, map, length, Option, refl, sym, ap, subst, ◌∙◌}
-use Rattle.std.specs.Prelude.{codes}
-use Rattle.std.proofs.lemmas.List.{length-map, map-append}
-use Rattle.mcast_txn.specs.Lists.{In}
-use Rattle.mcast_group.specs.Group.{GroupState}
-use Rattle.mcast_group.specs.Machine.{new_topic}
-use Rattle.stomp_frame.specs.declared.raw_frame.RawFrame.{RawFrame}
-use Rattle.stomp_frame.specs.Reader.{Unread}
-use Rattle.stomp_session.specs.Frames.{field, has_destination, with_destination}
-use Rattle.stomp_session.specs.Names.{is_known}
-use Rattle.stomp_session.specs.Open.{IsKnownTo}
-use Rattle.stomp_session.proofs.Later.{state-later}
-use Rattle.delivery.specs.declared.stage.Stage.{Stage}
-use Rattle.delivery.specs.Machine.World.{Standing, Undecided, connection_at, speaker}
-use Rattle.delivery.specs.Machine.Moves.{Move}
-use Rattle.delivery.specs.Machine.Runs.{run}
-use Rattle.delivery.specs.Core.Connections.{live_numbers}
-use Rattle.delivery.specs.Core.Output.{text_out}
-use Rattle.delivery.specs.Core.Reports.{each_number}
-use Rattle.delivery.specs.Core.State.{Core, core_for, log_limit, names_at, unread_at}
-use Rattle.delivery.specs.Core.Steps.{accepted_of}
-use Rattle.delivery.specs.Inner.Stands.{IsReached}
-use Rattle.delivery.specs.Inner.View.{View, EndpointView, endpoint_view, group_view, made_group, named_view, new_group, stage_view, view_of}
+use Rattle.delivery.proofs.Words.Std.{codes, length-map, map-append}
+use Rattle.delivery.proofs.Words.Topics.{In, GroupState, new_topic}
+use Rattle.delivery.proofs.Words.Frames.{RawFrame, Unread, field, has_destination, with_destination, is_known, IsKnownTo}
+use Rattle.delivery.proofs.Words.Lemmas.{state-later}
+use Rattle.delivery.proofs.Words.Machine.{Standing, Undecided, connection_at, speaker, Move, run}
+use Rattle.delivery.proofs.Words.Core.{Stage, live_numbers, text_out, each_number, Core, core_for, log_limit, names_at, unread_at, accepted_of}
+use Rattle.delivery.proofs.Words.Views.{IsReached, View, EndpointView, endpoint_view, group_view, made_group, new_group, stage_view, view_of}
+use Rattle.delivery.specs.Inner.View.{named_view}
 use Rattle.delivery.proofs.Core.Counts.{limit_counted}
 use Rattle.delivery.proofs.Core.FrameWorld.{with_topic}
 use Rattle.delivery.proofs.Core.NamesKnown.{known_all}

@@ -1,26 +1,11 @@
 -- A topic learns the verdict of a transaction.
 use Rattle.std.proofs.Common.{◌≡◌, ◌<◌, ◌≤◌, ◌⊎◌, inl, inr, Bool, true, false, not, List, [], ◌∷◌, map, length, get_or, set, Option, Some, None, Result, Ok, Err, refl, sym, ap, subst, ◌∙◌}
-use Rattle.std.specs.Option.{option_or}
-use Rattle.std.proofs.lemmas.Bool.{lt-ltb, le-ltb}
-use Rattle.std.proofs.lemmas.List.{map-set, set-get_or}
-use Rattle.mcast_txn.specs.declared.id.Topic.{Topic}
-use Rattle.mcast_txn.specs.declared.id.TxnId.{TxnId}
-use Rattle.mcast_txn.specs.Ballot.{Decision}
-use Rattle.mcast_txn.specs.Checks.{first_refusal}
-use Rattle.mcast_group.specs.declared.fault.LearnFault.{LearnFault}
-use Rattle.mcast_group.specs.Group.{GroupState, result_of}
-use Rattle.mcast_group.specs.Machine.{learn_fault, after_try, after_learn, decided_stamp}
-use Rattle.delivery.specs.declared.event.Event.{Event}
-use Rattle.delivery.specs.declared.outcome.Outcome.{Outcome}
-use Rattle.delivery.specs.declared.refusal.Refusal.{Refusal}
-use Rattle.delivery.specs.Machine.Objections.{Objection}
-use Rattle.delivery.specs.Machine.World.{World, topic_at, with_topic}
-use Rattle.delivery.specs.Machine.Moves.{Move, Answer, is_topic, find_verdict, verdict_in, learn_objection, learn_objection_of, learn_effect, move_refusal}
-use Rattle.delivery.specs.Core.Steps.{Reading}
-use Rattle.delivery.specs.Core.State.{Core}
-use Rattle.delivery.specs.Inner.Stands.{IsReached, Makes, step_of}
-use Rattle.delivery.specs.Inner.TopicSteps.{verdict_held, learn_result, group_after_try, after_learn_at}
-use Rattle.delivery.specs.Inner.View.{view_of, view_after, group_view, no_group}
+use Rattle.delivery.proofs.Words.Std.{option_or, lt-ltb, le-ltb, map-set, set-get_or}
+use Rattle.delivery.proofs.Words.Topics.{Topic, TxnId, Decision, first_refusal, LearnFault, GroupState, result_of, learn_fault, after_try, after_learn, decided_stamp}
+use Rattle.delivery.proofs.Words.Machine.{Objection, World, topic_at, with_topic, Move, Answer, is_topic, find_verdict, verdict_in, learn_objection, learn_objection_of, learn_effect, move_refusal}
+use Rattle.delivery.proofs.Words.Core.{Event, Outcome, Refusal, Reading, Core}
+use Rattle.delivery.proofs.Words.Views.{IsReached, Makes, step_of, verdict_held, learn_result, after_learn_at, view_of, view_after, group_view, no_group}
+use Rattle.delivery.specs.Inner.TopicSteps.{group_after_try}
 use Rattle.delivery.proofs.Machine.Effects.{made_world, made_answer}
 use Rattle.delivery.proofs.Theorem.StepLaws.{found_is_learnt}
 use Rattle.delivery.proofs.Views.Runs.ByRunOfCore.{by_world}

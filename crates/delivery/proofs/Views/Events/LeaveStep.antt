@@ -1,42 +1,14 @@
 -- The steps of a connection's leaving.
 use Rattle.std.proofs.Common.{◌≡◌, ◌≢◌, ℕ, ◌+◌, ◌<◌, ◌≤◌, ◌==◌, nat_lt, Bool, true, false, cond, not, ◌&&◌, ◌||◌, ◌⊎◌, inl, inr, List, [], ◌∷◌, ◌++◌, length, get_or, set, Option, Some, None, refl, sym, ap, subst, ◌∙◌, arith}
 use Rattle.std.proofs.Common.{eq-eqb, filter}
-use Rattle.std.specs.Prelude.{slice_get}
-use Rattle.std.specs.List.{flat_map}
-use Rattle.std.specs.Option.{is_some, option_map, option_map_or, option_and_then, option_or, option_to_list, unwrap_or}
-use Rattle.std.proofs.lemmas.Bool.{lt-ltb, ltb-true, ltb-false, false≢true, cases_Bool, cases_lt}
-use Rattle.std.proofs.lemmas.Option.{slice_get-get_or, slice_get_past}
-use Rattle.std.proofs.lemmas.List.{append-nil, length-map, get_or-set_same, get_or-set_other}
-use Rattle.mcast_txn.specs.Lists.{In}
-use Rattle.mcast_txn.specs.Checks.{first_refusal}
-use Rattle.mcast_txn.specs.declared.stamp.Stamp.{Stamp}
-use Rattle.mcast_group.specs.declared.fault.ProposeFault.{ProposeFault}
-use Rattle.mcast_group.proofs.Parts.{some_same, none_some}
-use Rattle.stomp_frame.specs.declared.raw_frame.RawFrame.{RawFrame}
-use Rattle.stomp_frame.specs.Reader.{Unread}
-use Rattle.stomp_frame.specs.ServerFrames.{receipt_frame}
-use Rattle.stomp_frame.specs.Writing.{spelling_of}
-use Rattle.stomp_session.specs.Frames.{is_disconnect}
-use Rattle.delivery.specs.declared.event.Event.{Event}
-use Rattle.delivery.specs.declared.outcome.Outcome.{Outcome}
-use Rattle.delivery.specs.declared.refusal.Refusal.{Refusal}
-use Rattle.delivery.specs.declared.stage.Stage.{Stage}
-use Rattle.delivery.specs.Machine.Objections.{Objection, refusal_of}
-use Rattle.delivery.specs.Machine.World.{World, Undecided, SenderState, Connection, Subscription, Standing, nobody, new_sender, connection_at, sender_at, speaker, is_reading, is_gone, speaker_number}
-use Rattle.delivery.specs.Machine.Moves.{Move, Answer, move_refusal, move_refusals, oldest_live, is_live, leave_effect, leave_answer, close_effect, end_now}
-use Rattle.delivery.specs.Machine.Runs.{run}
-use Rattle.delivery.specs.Core.Steps.{Reading, accepted_of}
-use Rattle.delivery.specs.Core.Account.{account_of}
-use Rattle.delivery.specs.Core.Output.{text_out, subscribe_frame, receipts_of, replies_to}
-use Rattle.delivery.specs.Core.State.{Core, unread_at, names_at}
-use Rattle.delivery.specs.Core.Outcomes.{outcome_of, move_outcome, reply_outcomes, is_any}
-use Rattle.delivery.specs.Core.Reports.{each_number}
-use Rattle.delivery.specs.Inner.Stands.{IsReached, Makes, step_of}
-use Rattle.delivery.specs.Core.Connections.{live_numbers}
-use Rattle.delivery.specs.Inner.View.{View, EndpointView, SenderView, LeftView, view_of, view_after, view_with, sender_view, sending_view, undecided_view, stage_view, endpoint_view, parting_receipt, no_endpoint, is_undecided, number_among, held_sender}
-use Rattle.delivery.specs.Inner.Subscriptions.{no_sub, left_at, closed_if_left, closed_view}
-use Rattle.delivery.specs.Inner.Clients.{rested_view}
-use Rattle.delivery.specs.Inner.Leaving.{is_busy, end_with, leaving_objection, waits, leave_objection, oldest_in, oldest_end, oldest_closed, parting_text, has_parting, gone_endpoint, gone_view}
+use Rattle.delivery.proofs.Words.Std.{slice_get, flat_map, is_some, option_map, option_map_or, option_and_then, option_or, option_to_list, unwrap_or, lt-ltb, ltb-true, ltb-false, false≢true, cases_Bool, cases_lt, slice_get-get_or, slice_get_past, append-nil, length-map, get_or-set_same, get_or-set_other}
+use Rattle.delivery.proofs.Words.Topics.{In, first_refusal, Stamp, ProposeFault}
+use Rattle.delivery.proofs.Words.Frames.{RawFrame, Unread, receipt_frame, spelling_of, is_disconnect}
+use Rattle.delivery.proofs.Words.Lemmas.{some_same, none_some}
+use Rattle.delivery.proofs.Words.Machine.{Objection, refusal_of, World, Undecided, SenderState, Connection, Subscription, Standing, nobody, new_sender, connection_at, sender_at, speaker, is_reading, is_gone, speaker_number, Move, Answer, move_refusal, move_refusals, oldest_live, is_live, leave_effect, leave_answer, close_effect, end_now, run}
+use Rattle.delivery.proofs.Words.Core.{Event, Outcome, Refusal, Stage, Reading, accepted_of, account_of, text_out, subscribe_frame, receipts_of, replies_to, Core, unread_at, names_at, outcome_of, move_outcome, reply_outcomes, is_any, each_number, live_numbers}
+use Rattle.delivery.proofs.Words.Views.{IsReached, Makes, step_of, View, EndpointView, SenderView, LeftView, view_of, view_after, view_with, sender_view, sending_view, undecided_view, stage_view, endpoint_view, parting_receipt, no_endpoint, is_undecided, number_among, held_sender, no_sub, left_at, closed_if_left, closed_view, rested_view, end_with, leaving_objection, waits, leave_objection, oldest_end, oldest_closed, has_parting, gone_view}
+use Rattle.delivery.specs.Inner.Leaving.{is_busy, oldest_in, parting_text, gone_endpoint}
 use Rattle.delivery.proofs.Machine.Effects.{made_world, made_answer, refused_answer}
 use Rattle.delivery.proofs.Machine.SubscriptionSteps.{set_length, beyond}
 use Rattle.delivery.proofs.Views.Lists.ByNumber.{each_number-set, get_or-each_number, length-each_number}

@@ -1,21 +1,11 @@
 -- The loss of a connection.
 use Rattle.std.proofs.Common.{◌≡◌, ℕ, true, ◌∷◌, get_or, set, Option, Some, None, refl, sym, ap, ◌∙◌}
-use Rattle.std.specs.Prelude.{slice_get}
+use Rattle.delivery.proofs.Words.Std.{slice_get, option_or, option_and_then}
+use Rattle.delivery.proofs.Words.Frames.{RawFrame, receipt_of, is_disconnect}
+use Rattle.delivery.proofs.Words.Machine.{Objection, refusal_of, World, connection_at, is_reading, Move, Answer, move_refusal, with_leaving}
+use Rattle.delivery.proofs.Words.Core.{Event, Outcome, Refusal, Reading, accepted_of, Core}
+use Rattle.delivery.proofs.Words.Views.{Makes, step_of, endpoint_objection, EndpointView, view_of, view_after, leaving_endpoint, parting_receipt}
 use Rattle.std.specs.List.{find}
-use Rattle.std.specs.Option.{option_or, option_and_then}
-use Rattle.stomp_frame.specs.declared.raw_frame.RawFrame.{RawFrame}
-use Rattle.stomp_frame.specs.Receipts.{receipt_of}
-use Rattle.stomp_session.specs.Frames.{is_disconnect}
-use Rattle.delivery.specs.declared.event.Event.{Event}
-use Rattle.delivery.specs.declared.outcome.Outcome.{Outcome}
-use Rattle.delivery.specs.declared.refusal.Refusal.{Refusal}
-use Rattle.delivery.specs.Machine.Objections.{Objection, refusal_of}
-use Rattle.delivery.specs.Machine.World.{World, connection_at, is_reading}
-use Rattle.delivery.specs.Machine.Moves.{Move, Answer, move_refusal, with_leaving}
-use Rattle.delivery.specs.Core.Steps.{Reading, accepted_of}
-use Rattle.delivery.specs.Core.State.{Core}
-use Rattle.delivery.specs.Inner.Stands.{Makes, step_of, endpoint_objection}
-use Rattle.delivery.specs.Inner.View.{EndpointView, view_of, view_after, leaving_endpoint, parting_receipt}
 use Rattle.delivery.proofs.Machine.Effects.{made_world, made_answer}
 use Rattle.delivery.proofs.Theorem.SendersAreOwn.{reading_there}
 use Rattle.delivery.proofs.Views.Endpoints.EndpointsStay.{quiet_view, lost_is_quiet}

@@ -1,45 +1,16 @@
 -- A Next that reads no whole frame, and one that ends its connection by an ERROR.
 use Rattle.std.proofs.Common.{◌≡◌, ℕ, ◌<◌, Bool, true, false, cond, inl, inr, List, [], ◌∷◌, ◌++◌, length, get_or, Option, Some, None, refl, sym, ap, subst, ◌∙◌, arith, ◌||◌}
-use Rattle.std.specs.Prelude.{Result, Ok, Err}
-use Rattle.std.specs.List.{flat_map, list_any}
-use Rattle.std.specs.Option.{option_map, option_map_or, option_or, option_and_then, option_to_list, unwrap_or}
-use Rattle.std.proofs.lemmas.List.{append-nil, get_or-set_same}
-use Rattle.mcast_txn.specs.Checks.{first_refusal}
-use Rattle.mcast_txn.specs.Lists.{In}
-use Rattle.stomp_frame.specs.declared.case_fault.CaseFault.{CaseFault}
-use Rattle.stomp_frame.specs.declared.raw_frame.RawFrame.{RawFrame}
-use Rattle.stomp_frame.specs.declared.command.Command.{Command}
+use Rattle.delivery.proofs.Words.Std.{Result, Ok, Err, flat_map, list_any, option_map, option_map_or, option_or, option_and_then, option_to_list, unwrap_or, append-nil, get_or-set_same, true≢false}
+use Rattle.delivery.proofs.Words.Topics.{first_refusal, In}
+use Rattle.delivery.proofs.Words.Frames.{CaseFault, RawFrame, Command, case_fault, is_connect, Unread, receipt_of, spelling_of, Step, SessionFault, Action, action_by, takes_memory, with_destination, Held, held_after, state_of, session_fault}
+use Rattle.delivery.proofs.Words.Machine.{Objection, refusal_of, World, Connection, Standing, nobody, connection_at, sender_at, speaker, is_gone, Move, needs_idle, move_refusal, with_leaving}
+use Rattle.delivery.proofs.Words.Core.{Event, ConnectionFault, OpenEndpoint, Outcome, Refusal, Stage, Reading, frame_in, accepted_of, is_cut, receipt_asked, says_version, next_replies, text_out, Core, IsReadBy, core_for, frame_move, session_at, unread_at, names_at, claim_fault, fault_outcomes, frame_fault, frame_no_memory, frame_outcome, reading_outcomes, unless, accepted_outcomes, is_any, outcomes_without, wants_memory, live_numbers}
+use Rattle.delivery.proofs.Words.Views.{AsksNamed, IsRefusedAs, Judgement, EndpointFault, error_text, failed_endpoint, idle_objection, staged_endpoint, accepted_stage, MayEnd, MayLack, IsReached, Makes, step_of, View, EndpointView, view_of, view_after, stage_view, endpoint_view, no_endpoint, parting_receipt}
 use Rattle.stomp_frame.specs.declared.command.Command.TheVariants as commands
-use Rattle.stomp_frame.specs.Cases.{case_fault, is_connect}
-use Rattle.stomp_frame.specs.Reader.{Unread}
-use Rattle.stomp_frame.specs.Receipts.{receipt_of}
-use Rattle.stomp_frame.specs.Writing.{spelling_of}
-use Rattle.stomp_session.specs.declared.action.Step.{Step}
-use Rattle.stomp_session.specs.declared.fault.SessionFault.{SessionFault}
-use Rattle.stomp_session.specs.declared.action.Action.{Action}
 use Rattle.stomp_session.specs.declared.action.Action.TheVariants as actions
-use Rattle.stomp_session.specs.Answers.{Refuses, action_by, takes_memory}
-use Rattle.stomp_session.specs.Frames.{with_destination}
-use Rattle.stomp_session.specs.Open.{Held, held_after, state_of}
-use Rattle.stomp_session.specs.Refusals.{session_fault}
-use Rattle.delivery.specs.declared.event.Event.{Event}
-use Rattle.delivery.specs.declared.connection_fault.ConnectionFault.{ConnectionFault}
-use Rattle.delivery.specs.declared.open_endpoint.OpenEndpoint.{OpenEndpoint}
-use Rattle.delivery.specs.declared.outcome.Outcome.{Outcome}
-use Rattle.delivery.specs.declared.refusal.Refusal.{Refusal}
-use Rattle.delivery.specs.declared.stage.Stage.{Stage}
-use Rattle.delivery.specs.Machine.Objections.{Objection, refusal_of}
-use Rattle.delivery.specs.Machine.World.{World, Connection, Standing, nobody, connection_at, sender_at, speaker, is_gone}
-use Rattle.delivery.specs.Machine.Moves.{Move, needs_idle, move_refusal, with_leaving}
-use Rattle.delivery.specs.Core.Steps.{Reading, frame_in, accepted_of}
-use Rattle.delivery.specs.Core.Output.{is_cut, receipt_asked, says_version, next_replies, text_out}
-use Rattle.delivery.specs.Core.State.{Core, IsReadBy, core_for, frame_move, left_by, session_at, unread_at, names_at}
-use Rattle.delivery.specs.Core.Outcomes.{claim_fault, fault_outcomes, frame_fault, frame_no_memory, frame_outcome, reading_outcomes, unless, accepted_outcomes, is_any, outcomes_without, wants_memory}
-use Rattle.delivery.specs.Inner.Nexts.{AsksNamed, Ends, HasFault, IsRefusedAs, JudgesReading, Judgement, JudgesAt, EndpointFault, error_text, failed_endpoint, idle_objection, staged_endpoint, accepted_stage, MayEnd, MayLack}
-use Rattle.delivery.specs.Inner.Stands.{IsReached, Makes, step_of}
-use Rattle.delivery.specs.Core.Connections.{live_numbers}
-use Rattle.delivery.specs.Inner.View.{View, EndpointView, view_of, view_after, stage_view, endpoint_view, no_endpoint, parting_receipt}
-use Rattle.std.proofs.lemmas.Bool.{true≢false}
+use Rattle.stomp_session.specs.Answers.{Refuses}
+use Rattle.delivery.specs.Core.State.{left_by}
+use Rattle.delivery.specs.Inner.Nexts.{Ends, HasFault, JudgesReading, JudgesAt}
 use Rattle.delivery.proofs.Machine.Effects.{made_world}
 use Rattle.delivery.proofs.Core.ClaimsStand.{connect_of}
 use Rattle.delivery.proofs.Core.FramesRead.{unanswered}

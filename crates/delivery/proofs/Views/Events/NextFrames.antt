@@ -1,49 +1,20 @@
 -- A Next whose frame is accepted, and asks for nothing of the machine but that its connection ends.
 use Rattle.std.proofs.Common.{◌≡◌, ℕ, ◌<◌, Bool, true, false, cond, inl, List, [], ◌∷◌, ◌++◌, length, get_or, Option, Some, None, refl, sym, ap, subst, ◌∙◌}
-use Rattle.std.specs.Prelude.{codes}
-use Rattle.std.specs.List.{flat_map, find}
-use Rattle.std.specs.Option.{option_map, option_map_or, option_or, option_and_then, option_to_list, unwrap_or}
-use Rattle.std.proofs.lemmas.List.{append-nil, get_or-set_same}
-use Rattle.mcast_txn.specs.Lists.{In}
-use Rattle.mcast_txn.specs.declared.draft.sent_message.SentMessage.{SentMessage}
-use Rattle.mcast_txn.proofs.Members.{In-append_left}
-use Rattle.stomp_frame.specs.declared.command.Command.{Command}
+use Rattle.delivery.proofs.Words.Std.{codes, flat_map, option_map, option_map_or, option_or, option_and_then, option_to_list, unwrap_or, append-nil, get_or-set_same}
+use Rattle.delivery.proofs.Words.Topics.{In, SentMessage, first_refusal}
+use Rattle.delivery.proofs.Words.Frames.{Command, RawFrame, is_connect, first_of, Unread, receipt_of, connected_frame, receipt_frame, spelling_of, Action, action_by, commit, with_destination, is_disconnect, send_of, transaction_of, Held, sends_in}
+use Rattle.delivery.proofs.Words.Lemmas.{In-append_left}
+use Rattle.delivery.proofs.Words.Machine.{Objection, World, Connection, Standing, nobody, connection_at, sender_at, speaker, is_gone, Move, move_refusal, move_effect, move_answer, needs_idle, with_leaving, run}
+use Rattle.delivery.proofs.Words.Core.{ConnectionFault, Event, Outcome, Stage, Reading, has_effect, accepted_of, is_cut, receipts_of, text_out, Core, core_for, frame_move, is_faulted, next_moves, session_at, names_at, topic_moves, MayStep, claim_fault, fault_outcomes, frame_fault, frame_no_memory, frame_outcome, move_outcome, outcome_of, reading_outcomes, accepted_outcomes, outcomes_without, wants_memory, live_numbers}
+use Rattle.delivery.proofs.Words.Views.{Asks, AsksUnnamed, accepted_stage, error_text, failed_endpoint, receipt_text, staged_endpoint, MayEnd, Makes, View, EndpointView, view_of, view_after, stage_view, leaving_endpoint, no_endpoint, parting_receipt, written_endpoint}
+use Rattle.std.specs.List.{find}
 use Rattle.stomp_frame.specs.declared.command.Command.TheVariants as commands
-use Rattle.stomp_frame.specs.declared.raw_frame.RawFrame.{RawFrame}
-use Rattle.stomp_frame.specs.Cases.{is_connect}
-use Rattle.stomp_frame.specs.Headers.{first_of}
-use Rattle.stomp_frame.specs.Reader.{Unread}
-use Rattle.stomp_frame.specs.Receipts.{receipt_of}
-use Rattle.stomp_frame.specs.ServerFrames.{connected_frame, receipt_frame}
-use Rattle.stomp_frame.specs.Writing.{spelling_of}
-use Rattle.stomp_session.specs.declared.action.Action.{Action}
 use Rattle.stomp_session.specs.declared.action.Action.TheVariants as actions
-use Rattle.stomp_session.specs.Answers.{action_by, commit}
-use Rattle.stomp_session.specs.Frames.{with_destination, is_disconnect, send_of, transaction_of}
-use Rattle.stomp_session.specs.Open.{Held}
-use Rattle.stomp_session.specs.Refusals.{sends_in}
-use Rattle.delivery.specs.declared.connection_fault.ConnectionFault.{ConnectionFault}
-use Rattle.delivery.specs.declared.event.Event.{Event}
-use Rattle.delivery.specs.declared.outcome.Outcome.{Outcome}
-use Rattle.delivery.specs.declared.stage.Stage.{Stage}
-use Rattle.delivery.specs.Machine.Objections.{Objection}
-use Rattle.delivery.specs.Machine.World.{World, Connection, Standing, nobody, connection_at, sender_at, speaker, is_gone}
-use Rattle.delivery.specs.Machine.Moves.{Move, move_refusal, move_effect, move_answer, needs_idle, with_leaving}
-use Rattle.delivery.specs.Machine.Runs.{run}
-use Rattle.delivery.specs.Core.Steps.{Reading, has_effect, accepted_of}
-use Rattle.delivery.specs.Core.Output.{is_cut, receipts_of, text_out}
-use Rattle.delivery.specs.Core.State.{Core, core_for, frame_move, is_faulted, next_moves, session_at, names_at, topic_moves}
-use Rattle.delivery.specs.Core.Outcomes.{MayStep, claim_fault, fault_outcomes, frame_fault, frame_no_memory, frame_outcome, move_outcome, outcome_of, reading_outcomes, accepted_outcomes, outcomes_without, wants_memory}
-use Rattle.delivery.specs.Inner.Nexts.{Asks, AsksUnnamed, accepted_stage, error_text, failed_endpoint, receipt_text, staged_endpoint, MayEnd}
-use Rattle.delivery.specs.Inner.Stands.{Makes}
-use Rattle.delivery.specs.Core.Connections.{live_numbers}
-use Rattle.delivery.specs.Inner.View.{View, EndpointView, view_of, view_after, stage_view, leaving_endpoint, no_endpoint, parting_receipt, written_endpoint}
 use Rattle.delivery.proofs.Machine.Effects.{made_answer, made_world}
 use Rattle.delivery.proofs.Views.Endpoints.EndpointChanges.{with_endpoint, endpoint_again}
 use Rattle.delivery.proofs.Core.ByRun.{run_append}
 use Rattle.delivery.proofs.Core.FrameWorld.{idle_for}
 use Rattle.delivery.proofs.Views.Events.FrameTopic.{named_is}
-use Rattle.mcast_txn.specs.Checks.{first_refusal}
 use Rattle.delivery.proofs.Views.Events.UntoldVersion.{untold}
 use Rattle.delivery.proofs.Views.Events.NextFaults.{asked_objection, fault_is, endpoint_of, endpoint_there, next_ends, within_endpoints}
 use Rattle.delivery.proofs.Views.Events.NextStep.{view_by, held_still, next_of, next_endpoint, next_makes, next_may, next_still, next_written, text_added, frames_added, idle_there, idle_reads, idle_stage, idle_open}

@@ -1,32 +1,14 @@
 -- A Next: the endpoint of its connection alone has another reader, session and text, and the rest is what the machine makes
 -- of it.
 use Rattle.std.proofs.Common.{◌≡◌, ◌≢◌, ℕ, ◌+◌, ◌<◌, ◌==◌, Bool, true, false, cond, inl, inr, List, [], ◌∷◌, ◌++◌, length, set, Option, Some, None, refl, sym, ap, subst, ◌∙◌, arith, eq-eqb}
-use Rattle.std.specs.List.{flat_map}
-use Rattle.std.specs.Option.{option_to_list, is_some, unwrap_or}
-use Rattle.std.proofs.lemmas.Bool.{eqb-true, ltb-true, or_parts, not-false, cases_Bool}
-use Rattle.std.proofs.lemmas.List.{append-nil, get_or-set_other, set-get_or}
-use Rattle.mcast_txn.specs.Checks.{first_refusal}
-use Rattle.mcast_txn.specs.Lists.{In}
-use Rattle.mcast_txn.proofs.CheckLemmas.{passes}
-use Rattle.stomp_frame.specs.declared.raw_frame.RawFrame.{RawFrame}
-use Rattle.stomp_frame.specs.Reader.{Unread}
-use Rattle.stomp_frame.specs.Writing.{spelling_of}
-use Rattle.stomp_session.specs.Open.{held_after, state_of}
-use Rattle.delivery.specs.declared.event.Event.{Event}
-use Rattle.delivery.specs.declared.outcome.Outcome.{Outcome}
-use Rattle.delivery.specs.declared.stage.Stage.{Stage}
-use Rattle.delivery.specs.Machine.Objections.{Objection}
-use Rattle.delivery.specs.Machine.World.{World, Undecided, Connection, Standing, nobody, connection_at, sender_at, speaker, is_reading, speaks_for}
-use Rattle.delivery.specs.Machine.Moves.{needs_idle}
-use Rattle.delivery.specs.Machine.Runs.{run}
-use Rattle.delivery.specs.Core.Steps.{CoreStep, Reading, frame_in, has_effect, accepted_of}
-use Rattle.delivery.specs.Core.Output.{is_cut, next_replies, subscribe_frame, text_out}
-use Rattle.delivery.specs.Core.State.{Core, IsReadBy, left_by, next_moves, unread_at}
-use Rattle.delivery.specs.Core.Outcomes.{MayStep, reading_outcomes, unless}
-use Rattle.delivery.specs.Core.Reports.{each_number}
-use Rattle.delivery.specs.Inner.Stands.{Makes, step_of}
-use Rattle.delivery.specs.Core.Connections.{live_numbers}
-use Rattle.delivery.specs.Inner.View.{View, EndpointView, view_with, view_after, stage_view, endpoint_view}
+use Rattle.delivery.proofs.Words.Std.{flat_map, option_to_list, is_some, unwrap_or, eqb-true, ltb-true, or_parts, not-false, cases_Bool, append-nil, get_or-set_other, set-get_or}
+use Rattle.delivery.proofs.Words.Topics.{first_refusal, In}
+use Rattle.delivery.proofs.Words.Frames.{RawFrame, Unread, spelling_of, held_after, state_of}
+use Rattle.delivery.proofs.Words.Lemmas.{passes}
+use Rattle.delivery.proofs.Words.Machine.{Objection, World, Undecided, Connection, Standing, nobody, connection_at, sender_at, speaker, is_reading, speaks_for, needs_idle, run}
+use Rattle.delivery.proofs.Words.Core.{Event, Outcome, Stage, CoreStep, Reading, frame_in, has_effect, accepted_of, is_cut, next_replies, subscribe_frame, text_out, Core, IsReadBy, next_moves, unread_at, MayStep, reading_outcomes, unless, each_number, live_numbers}
+use Rattle.delivery.proofs.Words.Views.{Makes, step_of, View, EndpointView, view_with, view_after, stage_view, endpoint_view}
+use Rattle.delivery.specs.Core.State.{left_by}
 use Rattle.delivery.proofs.Views.Endpoints.EndpointChanges.{with_endpoint}
 use Rattle.delivery.proofs.Views.Lists.ByNumber.{each_number-set}
 use Rattle.delivery.proofs.Views.Endpoints.EndpointsStay.{if_same}

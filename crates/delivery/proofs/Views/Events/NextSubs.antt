@@ -1,40 +1,20 @@
 -- A Next whose frame is a SUBSCRIBE or an UNSUBSCRIBE.
 use Rattle.std.proofs.Common.{◌≡◌, ◌≢◌, ℕ, ◌<◌, ◌||◌, Bool, true, false, cond, inl, inr, List, [], ◌∷◌, ◌++◌, length, get_or, Option, Some, None, codes, refl, sym, ap, subst, ◌∙◌, arith}
-use Rattle.std.specs.Option.{is_some, option_map}
-use Rattle.std.proofs.lemmas.Bool.{ltb-true}
-use Rattle.std.proofs.lemmas.List.{get_or-map, get_or-set_same, length-map}
-use Rattle.mcast_txn.specs.Lists.{In}
-use Rattle.mcast_txn.specs.declared.id.Topic.{Topic}
-use Rattle.mcast_txn.specs.declared.stamp.Stamp.{Stamp}
-use Rattle.mcast_group.specs.declared.fault.SubFault.{SubFault}
-use Rattle.mcast_group.specs.Machine.{Entry, find_entry, new_topic, subscribe_fault}
-use Rattle.mcast_group.proofs.Parts.{some_same}
-use Rattle.stomp_frame.specs.declared.command.Command.{Command}
+use Rattle.delivery.proofs.Words.Std.{is_some, option_map, ltb-true, get_or-map, get_or-set_same, length-map}
+use Rattle.delivery.proofs.Words.Topics.{In, Topic, Stamp, SubFault, Entry, find_entry, new_topic, subscribe_fault}
+use Rattle.delivery.proofs.Words.Frames.{Command, RawFrame, first_of, Unread, action_by, has_destination, id_of, is_disconnect, is_subscribe, transaction_of, wants_parts, Held, held_after, is_ended, state_of, sends_in}
+use Rattle.delivery.proofs.Words.Lemmas.{some_same, begins_at, ends, sent_subscribes, committed_subscribes}
+use Rattle.delivery.proofs.Words.Machine.{subscription_at, topic_at, Move, end_now, is_live, is_topic, move_effect, move_refusal, final_world}
+use Rattle.delivery.proofs.Words.Core.{Event, Outcome, Reading, accepted_of, has_effect, number_by, subscribe_frame, text_out, Core, core_for, names_at, session_at, unread_at}
+use Rattle.delivery.proofs.Words.Views.{Asks, accepted_stage, receipt_text, staged_endpoint, IsReached, Makes, closed_view, left_at, number_in, subscribed_view, View, EndpointView, LeftView, group_view, no_endpoint, no_group, view_after, view_with, written_endpoint, group_in}
 use Rattle.stomp_frame.specs.declared.command.Command.TheVariants as commands
-use Rattle.stomp_frame.specs.declared.raw_frame.RawFrame.{RawFrame}
-use Rattle.stomp_frame.specs.Headers.{first_of}
-use Rattle.stomp_frame.specs.Reader.{Unread}
 use Rattle.stomp_session.specs.declared.action.Action.TheVariants as actions
-use Rattle.stomp_session.specs.Answers.{action_by}
 use Rattle.stomp_session.proofs.Later.{with_destination-none}
-use Rattle.stomp_session.specs.Frames.{has_destination, id_of, is_disconnect, is_subscribe, transaction_of, wants_parts}
-use Rattle.stomp_session.specs.Open.{Held, asks_parts, held_after, is_ended, state_of}
-use Rattle.stomp_session.specs.Refusals.{sends_in}
+use Rattle.stomp_session.specs.Open.{asks_parts}
 use Rattle.stomp_session.proofs.LeftOpen.{list_any-push}
 use Rattle.stomp_session.proofs.Parts.{held_asks}
-use Rattle.stomp_session.proofs.Asked.{begins, begins_at, ends, sent_subscribes, committed_subscribes}
-use Rattle.delivery.specs.declared.event.Event.{Event}
-use Rattle.delivery.specs.declared.outcome.Outcome.{Outcome}
-use Rattle.delivery.specs.Machine.World.{subscription_at, topic_at}
-use Rattle.delivery.specs.Machine.Moves.{Move, end_now, is_live, is_topic, move_effect, move_refusal}
-use Rattle.delivery.specs.Theorem.Laws.{final_world}
-use Rattle.delivery.specs.Core.Steps.{Reading, accepted_of, has_effect, number_by}
-use Rattle.delivery.specs.Core.Output.{subscribe_frame, text_out}
-use Rattle.delivery.specs.Core.State.{Core, core_for, names_at, session_at, unread_at}
-use Rattle.delivery.specs.Inner.Nexts.{Asks, accepted_stage, receipt_text, staged_endpoint}
-use Rattle.delivery.specs.Inner.Stands.{IsReached, Makes}
-use Rattle.delivery.specs.Inner.Subscriptions.{closed_view, left_at, number_in, parts_in, stage_parts, subscribed_view}
-use Rattle.delivery.specs.Inner.View.{View, EndpointView, LeftView, group_view, no_endpoint, no_group, view_after, view_with, written_endpoint, group_in}
+use Rattle.stomp_session.proofs.Asked.{begins}
+use Rattle.delivery.specs.Inner.Subscriptions.{parts_in, stage_parts}
 use Rattle.delivery.proofs.Views.Subscriptions.ClosedIsDropped.{closed_is, closed_end}
 use Rattle.delivery.proofs.Views.Endpoints.EndpointChanges.{with_endpoint}
 use Rattle.delivery.proofs.Views.Events.NextFrames.{changed_view, move_makes, names_for, receipt_is, replied_view, there_for}

@@ -1,29 +1,12 @@
 -- A Next whose frame commits a transaction.
 use Rattle.std.proofs.Common.{◌≡◌, ℕ, ◌≤◌, Bool, true, false, cond, not, nat_lt, ◌&&◌, List, [], ◌∷◌, ◌++◌, length, Option, Some, None, refl, sym, ap, subst, ◌∙◌}
-use Rattle.std.specs.List.{list_all, last_or}
-use Rattle.std.specs.Option.{option_or, is_some}
-use Rattle.std.proofs.lemmas.List.{append-nil}
-use Rattle.mcast_txn.specs.Checks.{first_refusal}
-use Rattle.mcast_txn.specs.declared.draft.sent_message.SentMessage.{SentMessage}
-use Rattle.mcast_txn.specs.declared.id.TxnId.{TxnId}
-use Rattle.mcast_group.specs.Machine.{last_number}
-use Rattle.stomp_frame.specs.declared.raw_frame.RawFrame.{RawFrame}
-use Rattle.stomp_frame.specs.Reader.{Unread}
-use Rattle.stomp_session.specs.declared.action.Action.{Action}
+use Rattle.delivery.proofs.Words.Std.{list_all, last_or, option_or, is_some, append-nil}
+use Rattle.delivery.proofs.Words.Topics.{first_refusal, SentMessage, TxnId, last_number}
+use Rattle.delivery.proofs.Words.Frames.{RawFrame, Unread, Action}
+use Rattle.delivery.proofs.Words.Machine.{Objection, World, is_gone, connection_at, speaker, speaker_number, Move, commit_effect, is_topic, move_refusal, needs_idle, next_txn}
+use Rattle.delivery.proofs.Words.Core.{Event, Outcome, Reading, accepted_of, commit_frame, receipt_asked, subscribe_frame, text_out, Core, core_for, session_at, unread_at, live_numbers}
+use Rattle.delivery.proofs.Words.Views.{Asks, accepted_stage, staged_endpoint, asked_view, launched_id, launched_view, IsReached, Makes, View, EndpointView, view_with}
 use Rattle.stomp_session.specs.declared.action.Action.TheVariants as actions
-use Rattle.delivery.specs.declared.event.Event.{Event}
-use Rattle.delivery.specs.declared.outcome.Outcome.{Outcome}
-use Rattle.delivery.specs.Machine.Objections.{Objection}
-use Rattle.delivery.specs.Machine.World.{World, is_gone, connection_at, speaker, speaker_number}
-use Rattle.delivery.specs.Machine.Moves.{Move, commit_effect, is_topic, move_refusal, needs_idle, next_txn}
-use Rattle.delivery.specs.Core.Steps.{Reading, accepted_of}
-use Rattle.delivery.specs.Core.Output.{commit_frame, receipt_asked, subscribe_frame, text_out}
-use Rattle.delivery.specs.Core.State.{Core, core_for, session_at, unread_at}
-use Rattle.delivery.specs.Inner.Nexts.{Asks, accepted_stage, staged_endpoint}
-use Rattle.delivery.specs.Inner.Senders.{asked_view, launched_id, launched_view}
-use Rattle.delivery.specs.Inner.Stands.{IsReached, Makes}
-use Rattle.delivery.specs.Core.Connections.{live_numbers}
-use Rattle.delivery.specs.Inner.View.{View, EndpointView, view_with}
 use Rattle.delivery.proofs.Views.Events.BeginStep.{IsIdleIn, idle_in, begun_is, begun_id_is, begun_free}
 use Rattle.delivery.proofs.Views.Senders.SendsAreToTopics.{committed_sends}
 use Rattle.delivery.proofs.Views.Endpoints.EndpointChanges.{with_endpoint}

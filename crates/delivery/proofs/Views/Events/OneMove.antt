@@ -1,30 +1,12 @@
 -- Steps of one move, and a refused one.
 use Rattle.std.proofs.Common.{◌≡◌, ◌≢◌, ℕ, ◌+◌, ◌<◌, ◌≤◌, Bool, true, false, not, nat_lt, List, [], ◌∷◌, ◌++◌, length, get_or, set, Option, Some, None, refl, sym, ap, ◌∙◌, arith}
 use Rattle.std.proofs.Common.{inl, inr}
-use Rattle.std.specs.Prelude.{slice_get}
-use Rattle.std.proofs.lemmas.Bool.{ltb-true, ltb-false, cases_Bool}
-use Rattle.std.proofs.lemmas.Option.{slice_get-get_or, slice_get_past}
-use Rattle.std.specs.Option.{option_map, option_to_list, unwrap_or}
-use Rattle.std.proofs.lemmas.List.{get_or-set_same, get_or-set_other, set-get_or}
-use Rattle.mcast_txn.specs.Lists.{In}
-use Rattle.mcast_txn.specs.Checks.{first_refusal}
-use Rattle.stomp_frame.specs.declared.raw_frame.RawFrame.{RawFrame}
-use Rattle.stomp_frame.specs.Reader.{Unread}
-use Rattle.delivery.specs.declared.event.Event.{Event}
-use Rattle.delivery.specs.declared.outcome.Outcome.{Outcome}
-use Rattle.delivery.specs.declared.refusal.Refusal.{Refusal}
-use Rattle.delivery.specs.Machine.Objections.{Objection, refusal_of}
-use Rattle.delivery.specs.Machine.World.{World, Undecided, Connection, Standing, nobody, new_sender, connection_at, sender_at, speaker, is_reading, is_gone}
-use Rattle.delivery.specs.Machine.Moves.{Move, Answer, move_refusal, answer_to, needs_open, with_leaving}
-use Rattle.delivery.specs.Machine.Runs.{run}
-use Rattle.delivery.specs.Core.Steps.{Reading, accepted_of}
-use Rattle.delivery.specs.Core.Output.{text_out, subscribe_frame}
-use Rattle.delivery.specs.Core.State.{Core, moves, unread_at, names_at}
-use Rattle.delivery.specs.Core.Outcomes.{outcomes, outcome_of, move_outcome, IsReadAt}
-use Rattle.delivery.specs.Core.Reports.{each_number}
-use Rattle.delivery.specs.Inner.Stands.{Makes, step_of, stage_objection, endpoint_objection}
-use Rattle.delivery.specs.Core.Connections.{live_numbers}
-use Rattle.delivery.specs.Inner.View.{EndpointView, view_of, view_with, view_after, written_endpoint, stage_view, endpoint_view, leaving_endpoint, parting_receipt}
+use Rattle.delivery.proofs.Words.Std.{slice_get, ltb-true, ltb-false, cases_Bool, slice_get-get_or, slice_get_past, option_map, option_to_list, unwrap_or, get_or-set_same, get_or-set_other, set-get_or}
+use Rattle.delivery.proofs.Words.Topics.{In, first_refusal}
+use Rattle.delivery.proofs.Words.Frames.{RawFrame, Unread}
+use Rattle.delivery.proofs.Words.Machine.{Objection, refusal_of, World, Undecided, Connection, Standing, nobody, new_sender, connection_at, sender_at, speaker, is_reading, is_gone, Move, Answer, move_refusal, answer_to, needs_open, with_leaving, run}
+use Rattle.delivery.proofs.Words.Core.{Event, Outcome, Refusal, Reading, accepted_of, text_out, subscribe_frame, Core, moves, unread_at, names_at, outcomes, outcome_of, move_outcome, IsReadAt, each_number, live_numbers}
+use Rattle.delivery.proofs.Words.Views.{Makes, step_of, stage_objection, endpoint_objection, EndpointView, view_of, view_with, view_after, written_endpoint, stage_view, endpoint_view, leaving_endpoint, parting_receipt}
 use Rattle.delivery.proofs.Machine.Effects.{refused_answer, same_world}
 use Rattle.delivery.proofs.Views.Lists.ByNumber.{each_number-set, get_or-each_number, length-each_number}
 use Rattle.delivery.proofs.Views.Endpoints.EndpointsStay.{quiet_view, refused_is_quiet}

@@ -1,20 +1,13 @@
 -- A connection that is opened.
 use Rattle.std.proofs.Common.{◌≡◌, ℕ, zero, suc, ◌+◌, ◌<◌, List, [], ◌∷◌, ◌++◌, length, get_or, inl, inr, refl, sym, ap, ◌∙◌, arith, None}
-use Rattle.std.proofs.lemmas.List.{get_or_append_left}
-use Rattle.delivery.specs.declared.event.Event.{Event}
-use Rattle.delivery.specs.declared.outcome.Outcome.{Outcome}
-use Rattle.delivery.specs.Machine.World.{Connection, Standing, nobody, new_sender, connection_at, sender_at, speaker_number, speaks_for}
-use Rattle.delivery.specs.Machine.Moves.{Move, move_effect}
-use Rattle.delivery.specs.Core.Steps.{Reading, accepted_of}
-use Rattle.delivery.specs.Core.Output.{text_out}
-use Rattle.delivery.specs.Core.State.{Core, unread_at, names_at}
-use Rattle.delivery.specs.Core.Reports.{each_number}
-use Rattle.delivery.specs.Inner.Stands.{Makes, step_of}
-use Rattle.delivery.specs.Inner.View.{view_of, stage_view, endpoint_view, new_endpoint, with_new_endpoint}
+use Rattle.delivery.proofs.Words.Std.{get_or_append_left, unwrap_or}
+use Rattle.delivery.proofs.Words.Machine.{Connection, Standing, nobody, new_sender, connection_at, sender_at, speaker_number, speaks_for, Move, move_effect}
+use Rattle.delivery.proofs.Words.Core.{Event, Outcome, Reading, accepted_of, text_out, Core, unread_at, names_at, each_number}
+use Rattle.delivery.proofs.Words.Views.{Makes, step_of, view_of, stage_view, endpoint_view, with_new_endpoint}
+use Rattle.delivery.specs.Inner.View.{new_endpoint}
 use Rattle.delivery.proofs.Views.Lists.ByNumber.{each_number-push, each_number-same}
 use Rattle.delivery.proofs.Views.Endpoints.NothingBeforeOpen.{IsUntouched}
 use Rattle.delivery.proofs.Views.Endpoints.EndpointsStay.{quiet_view, open_is_quiet, open_without_is_quiet}
-use Rattle.std.specs.Option.{unwrap_or}
 use Rattle.delivery.proofs.Machine.SubscriptionSteps.{beyond}
 use Rattle.delivery.proofs.Views.Events.OneMove.{same_endpoint}
 use Rattle.delivery.proofs.Views.Senders.HeldSenders.{senders_same}

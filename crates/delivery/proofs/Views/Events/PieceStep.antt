@@ -1,25 +1,12 @@
 -- Octets that a connection is fed.
 use Rattle.std.proofs.Common.{◌≡◌, ◌≢◌, ℕ, ◌+◌, ◌==◌, Bool, true, false, ◌&&◌, cond, List, [], ◌∷◌, get_or, set, Option, Some, None, inl, inr, refl, sym, ap, ◌∙◌, arith, eq-eqb}
-use Rattle.std.specs.Prelude.{slice_get}
-use Rattle.std.specs.Option.{option_map, option_to_list}
-use Rattle.std.proofs.lemmas.Bool.{eqb-true, cases_Bool}
-use Rattle.std.proofs.lemmas.List.{append-nil, set-get_or}
-use Rattle.mcast_txn.specs.Checks.{first_refusal}
-use Rattle.stomp_frame.specs.declared.raw_frame.RawFrame.{RawFrame}
-use Rattle.stomp_frame.specs.Reader.{Unread, with_piece}
-use Rattle.delivery.specs.declared.event.Event.{Event}
-use Rattle.delivery.specs.declared.outcome.Outcome.{Outcome}
-use Rattle.delivery.specs.declared.refusal.Refusal.{Refusal}
-use Rattle.delivery.specs.Machine.Objections.{Objection, refusal_of}
-use Rattle.delivery.specs.Machine.World.{Undecided, Connection, Standing, nobody, connection_at, speaker, is_reading}
-use Rattle.delivery.specs.Machine.Moves.{needs_open}
-use Rattle.delivery.specs.Core.Steps.{Reading, accepted_of}
-use Rattle.delivery.specs.Core.Output.{text_out}
-use Rattle.delivery.specs.Core.State.{Core, unread_at, names_at}
-use Rattle.delivery.specs.Core.Outcomes.{unless}
-use Rattle.delivery.specs.Core.Reports.{each_number}
-use Rattle.delivery.specs.Inner.Stands.{Makes, step_of, endpoint_objection}
-use Rattle.delivery.specs.Inner.View.{EndpointView, view_of, view_with, stage_view, endpoint_view, fed_endpoint, fed_stage}
+use Rattle.delivery.proofs.Words.Std.{slice_get, option_map, option_to_list, eqb-true, cases_Bool, append-nil, set-get_or}
+use Rattle.delivery.proofs.Words.Topics.{first_refusal}
+use Rattle.delivery.proofs.Words.Frames.{RawFrame, Unread, with_piece}
+use Rattle.delivery.proofs.Words.Machine.{Objection, refusal_of, Undecided, Connection, Standing, nobody, connection_at, speaker, is_reading, needs_open}
+use Rattle.delivery.proofs.Words.Core.{Event, Outcome, Refusal, Reading, accepted_of, text_out, Core, unread_at, names_at, unless, each_number}
+use Rattle.delivery.proofs.Words.Views.{Makes, step_of, endpoint_objection, EndpointView, view_of, view_with, stage_view, endpoint_view, fed_endpoint}
+use Rattle.delivery.specs.Inner.View.{fed_stage}
 use Rattle.delivery.proofs.Views.Lists.ByNumber.{each_number-set}
 use Rattle.delivery.proofs.Views.Endpoints.EndpointsStay.{quiet_view, refused_is_quiet, piece_without_is_quiet}
 use Rattle.delivery.proofs.Views.Events.OneMove.{in_one, endpoint_at, open_checked, checked_there, checked_open}

@@ -1,44 +1,19 @@
 -- A transaction is proposed at a topic.
 use Rattle.std.proofs.Common.{◌≡◌, ℕ, ◌<◌, ◌==◌, Bool, true, false, cond, not, ◌&&◌, ◌||◌, nat_lt, List, [], ◌∷◌, ◌++◌, map, length, get_or, set, Option, Some, None, Result, Ok, Err, is_ok, inl, inr, refl, sym, ap, subst, ◌∙◌, arith}
-use Rattle.std.specs.Prelude.{slice_get}
+use Rattle.delivery.proofs.Words.Std.{slice_get, and_parts, eq-eqb, lt-ltb, ltb-true, cases_Bool, append-nil, get_or_default, length-map, set-get_or, is_some, option_or, option_and_then}
+use Rattle.delivery.proofs.Words.Topics.{Ticket, Topic, Stamp, row_at, first_refusal, In, part_at, Slots, slot_at, held_at, with_slot, names, TopicPart, topics_of, ProposeFault, GroupState, TopicState, next_number, propose_fault, after_propose, FlightState}
+use Rattle.delivery.proofs.Words.Lemmas.{In-append_left, id_itself, refusal_first, refusal_after, none_some, some_same}
+use Rattle.delivery.proofs.Words.Machine.{Objection, refusal_of, World, Undecided, SenderState, topic_at, sender_at, speaker, is_in_use, with_sender, with_topic, speaker_number, Move, Answer, move_refusal, needs_connection, is_topic, has_ticket, insert_ticket, undecided_or_none, undecided_at, next_ticket, proposal_fault, or_out_of_memory, propose_effect, propose_answer}
+use Rattle.delivery.proofs.Words.Core.{Event, Outcome, Refusal, Sending, CoreStep, Reading, accepted_of, has_effect, names_after, text_out, subscribe_frame, Core, names_at, unread_at, is_out_of_memory, move_outcome, outcomes}
+use Rattle.delivery.proofs.Words.Views.{there_objection, speaker_at, sender_in, gate_of, is_slot, part_refusal, part_in, taken_sender, takes_ticket, is_group, propose_refusal_in, taken_view, floor_in, ticket_in, IsProposed, no_sender, IsReached, Makes, step_of, View, SenderView, held_sender, view_of, view_after, sender_view, sending_view, undecided_view, group_view, pending_receipt, ticket_of, group_in, no_group}
 use Rattle.std.proofs.Math.Nat.{le-max_right}
-use Rattle.std.proofs.lemmas.Bool.{and_parts, eq-eqb, lt-ltb, ltb-true, cases_Bool}
-use Rattle.std.proofs.lemmas.List.{append-nil, get_or_default, length-map, set-get_or}
-use Rattle.std.specs.Option.{is_some, option_or, option_and_then}
-use Rattle.mcast_txn.specs.declared.ballot.ticket.Ticket.{Ticket}
-use Rattle.mcast_txn.specs.declared.id.Topic.{Topic}
 use Rattle.mcast_txn.specs.declared.fault.BallotFault.TheVariants.{NotNamed}
-use Rattle.mcast_txn.specs.declared.stamp.Stamp.{Stamp}
-use Rattle.mcast_txn.specs.Ballot.{row_at, slot_answer}
-use Rattle.mcast_txn.specs.Checks.{first_refusal}
-use Rattle.mcast_txn.specs.Lists.{In}
-use Rattle.mcast_txn.specs.Part.{part_at}
-use Rattle.mcast_txn.specs.Slots.{Slots, slot_at, held_at, with_slot}
-use Rattle.mcast_txn.specs.TopicSet.{names}
-use Rattle.mcast_txn.specs.Transaction.{TopicPart, topics_of}
-use Rattle.mcast_txn.proofs.Members.{In-append_left}
-use Rattle.mcast_txn.proofs.Orders.{id_itself}
-use Rattle.mcast_txn.proofs.CheckLemmas.{refusal_first, refusal_after}
-use Rattle.mcast_group.specs.declared.fault.ProposeFault.{ProposeFault}
-use Rattle.mcast_group.specs.Group.{GroupState, or_no_memory}
-use Rattle.mcast_group.specs.Machine.{TopicState, next_number, propose_fault, after_propose}
-use Rattle.mcast_group.proofs.Parts.{none_some, some_same}
-use Rattle.sender_gate.specs.Gate.{FlightState, flight_answer, over_floor}
-use Rattle.delivery.specs.declared.event.Event.{Event}
-use Rattle.delivery.specs.declared.outcome.Outcome.{Outcome}
-use Rattle.delivery.specs.declared.refusal.Refusal.{Refusal}
+use Rattle.mcast_txn.specs.Ballot.{slot_answer}
+use Rattle.mcast_group.specs.Group.{or_no_memory}
+use Rattle.sender_gate.specs.Gate.{flight_answer, over_floor}
 use Rattle.delivery.specs.declared.refusal.Refusal.TheVariants as refusal
-use Rattle.delivery.specs.declared.sending.Sending.{Sending}
-use Rattle.delivery.specs.Machine.Objections.{Objection, refusal_of}
-use Rattle.delivery.specs.Machine.World.{World, Undecided, SenderState, topic_at, sender_at, speaker, is_in_use, with_sender, with_topic, speaker_number}
-use Rattle.delivery.specs.Machine.Moves.{Move, Answer, move_refusal, needs_connection, is_topic, has_ticket, insert_ticket, undecided_or_none, undecided_at, next_ticket, proposal_fault, or_out_of_memory, propose_effect, propose_answer}
-use Rattle.delivery.specs.Core.Steps.{CoreStep, Reading, accepted_of, has_effect, names_after}
-use Rattle.delivery.specs.Core.Output.{text_out, subscribe_frame}
-use Rattle.delivery.specs.Core.State.{Core, names_at, unread_at, is_out_of_memory}
-use Rattle.delivery.specs.Core.Outcomes.{move_outcome, outcomes}
-use Rattle.delivery.specs.Inner.Senders.{there_objection, speaker_at, sender_in, gate_of, is_slot, flight_refusal, part_refusal, part_in, taken_sending, taken_sender, takes_ticket, put_sender, failed_sender, is_group, propose_refusal_in, taken_view, floor_in, ticket_in, proposed_view, failed_view, IsProposed, no_sender}
-use Rattle.delivery.specs.Inner.Stands.{IsReached, Makes, step_of}
-use Rattle.delivery.specs.Inner.View.{View, SenderView, held_sender, view_of, view_after, sender_view, sending_view, undecided_view, flight_view, group_view, pending_receipt, ticket_of, group_in, no_group}
+use Rattle.delivery.specs.Inner.Senders.{flight_refusal, taken_sending, put_sender, failed_sender, proposed_view, failed_view}
+use Rattle.delivery.specs.Inner.View.{flight_view}
 use Rattle.delivery.proofs.Machine.Effects.{made_world, made_answer}
 use Rattle.delivery.proofs.Theorem.AcceptedIsDue.{reached}
 use Rattle.delivery.proofs.Views.Events.DecideStep.{flying_is}

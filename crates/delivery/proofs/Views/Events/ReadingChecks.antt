@@ -1,26 +1,13 @@
 -- What stands against reading a frame of a connection.
 use Rattle.std.proofs.Common.{◌≡◌, ℕ, ◌+◌, ◌<◌, ◌≤◌, Bool, true, false, not, nat_lt, cond, ◌||◌, inl, inr, List, [], ◌∷◌, length, get_or, Option, Some, None, refl, sym, ap, ◌∙◌, arith}
-use Rattle.std.specs.Prelude.{slice_get}
-use Rattle.std.specs.Option.{is_some, option_or, unwrap_or}
-use Rattle.std.proofs.lemmas.Bool.{ltb-true, ltb-false, cases_Bool, cases_lt}
-use Rattle.std.proofs.lemmas.Option.{slice_get-get_or, slice_get_past}
-use Rattle.std.proofs.lemmas.List.{get_or_default}
+use Rattle.delivery.proofs.Words.Std.{slice_get, is_some, option_or, unwrap_or, ltb-true, ltb-false, cases_Bool, cases_lt, slice_get-get_or, slice_get_past, get_or_default}
+use Rattle.delivery.proofs.Words.Topics.{first_refusal, Stamp, ProposeFault}
+use Rattle.delivery.proofs.Words.Frames.{RawFrame, Unread}
+use Rattle.delivery.proofs.Words.Machine.{Objection, Undecided, SenderState, Standing, connection_at, sender_at, speaker, is_reading, is_gone, new_sender, speaker_number, needs_idle}
+use Rattle.delivery.proofs.Words.Core.{accepted_of, text_out, Core, unread_at, names_at, each_number}
+use Rattle.delivery.proofs.Words.Views.{sending_objection, idle_objection, stage_objection, endpoint_objection, View, EndpointView, SenderView, view_of, stage_view, endpoint_view, sending_view, undecided_view, is_undecided, number_among, held_sender}
 use Rattle.std.proofs.Math.ListN.{get_or-eq_default}
-use Rattle.stomp_frame.specs.declared.raw_frame.RawFrame.{RawFrame}
-use Rattle.stomp_frame.specs.Reader.{Unread}
-use Rattle.mcast_txn.specs.Checks.{first_refusal}
-use Rattle.mcast_txn.specs.declared.stamp.Stamp.{Stamp}
-use Rattle.mcast_group.specs.declared.fault.ProposeFault.{ProposeFault}
-use Rattle.delivery.specs.Machine.Objections.{Objection}
-use Rattle.delivery.specs.Machine.World.{Undecided, SenderState, Standing, connection_at, sender_at, speaker, is_reading, is_gone, new_sender, speaker_number}
-use Rattle.delivery.specs.Machine.Moves.{needs_idle}
-use Rattle.delivery.specs.Core.Steps.{accepted_of}
-use Rattle.delivery.specs.Core.Output.{text_out}
-use Rattle.delivery.specs.Core.State.{Core, unread_at, names_at}
-use Rattle.delivery.specs.Core.Reports.{each_number}
-use Rattle.delivery.specs.Inner.Nexts.{is_sending, sending_objection, idle_objection}
-use Rattle.delivery.specs.Inner.Stands.{stage_objection, endpoint_objection}
-use Rattle.delivery.specs.Inner.View.{View, EndpointView, SenderView, view_of, stage_view, endpoint_view, sending_view, undecided_view, is_undecided, number_among, held_sender}
+use Rattle.delivery.specs.Inner.Nexts.{is_sending}
 use Rattle.delivery.proofs.Views.Lists.ByNumber.{get_or-each_number, length-each_number}
 use Rattle.delivery.proofs.Views.Events.OneMove as steps
 use Rattle.delivery.specs.Inner.View as views

@@ -1,30 +1,14 @@
 -- A release of a topic's group.
 use Rattle.std.proofs.Common.{◌≡◌, ℕ, ◌<◌, Bool, true, false, nat_lt, List, [], ◌∷◌, map, length, get_or, set, Option, Some, None, inl, inr, refl, sym, ap, subst, ◌∙◌, ◌≤◌, arith}
-use Rattle.mcast_txn.specs.Lists.{In}
-use Rattle.mcast_txn.specs.declared.id.TxnId.{TxnId}
-use Rattle.sub_queue.specs.Shown.{Gauge}
-use Rattle.mcast_group.specs.Counted.{takes_in, takes_of}
-use Rattle.mcast_group.specs.Group.{GroupState}
-use Rattle.mcast_group.specs.Machine.{TopicState, Entry, Pending, new_topic, after_release, due_part, item_of, entry_after}
+use Rattle.delivery.proofs.Words.Std.{is_some, option_or, option_map, lt-ltb, ltb-true, cases_Bool, get_or-map, map-set, set-get_or}
+use Rattle.delivery.proofs.Words.Topics.{In, TxnId, Gauge, takes_of, GroupState, TopicState, Entry, Pending, new_topic, after_release, due_part, item_of, entry_after, first_refusal, Topic}
+use Rattle.delivery.proofs.Words.Lemmas.{after_release_if, delivered_by}
+use Rattle.delivery.proofs.Words.Machine.{Objection, World, topic_at, with_topic, Move, Answer, move_refusal, queue_has_room, release_answer}
+use Rattle.delivery.proofs.Words.Core.{Event, Outcome, Refusal, Reading, Core}
+use Rattle.delivery.proofs.Words.Views.{Makes, step_of, View, view_of, view_after, group_view, no_group, queue_gauge}
+use Rattle.mcast_group.specs.Counted.{takes_in}
 use Rattle.mcast_group.specs.Group.{group_after_release}
-use Rattle.mcast_group.proofs.Parts.{after_release_if}
-use Rattle.mcast_group.proofs.Releasing.{delivered_by}
 use Rattle.std.proofs.Common.{not}
-use Rattle.std.specs.Option.{is_some, option_or, option_map}
-use Rattle.std.proofs.lemmas.Bool.{lt-ltb, ltb-true, cases_Bool}
-use Rattle.std.proofs.lemmas.List.{get_or-map, map-set, set-get_or}
-use Rattle.mcast_txn.specs.Checks.{first_refusal}
-use Rattle.mcast_txn.specs.declared.id.Topic.{Topic}
-use Rattle.delivery.specs.declared.event.Event.{Event}
-use Rattle.delivery.specs.declared.outcome.Outcome.{Outcome}
-use Rattle.delivery.specs.declared.refusal.Refusal.{Refusal}
-use Rattle.delivery.specs.Machine.Objections.{Objection}
-use Rattle.delivery.specs.Machine.World.{World, topic_at, with_topic}
-use Rattle.delivery.specs.Machine.Moves.{Move, Answer, move_refusal, queue_has_room, release_answer}
-use Rattle.delivery.specs.Core.Steps.{Reading}
-use Rattle.delivery.specs.Core.State.{Core}
-use Rattle.delivery.specs.Inner.Stands.{Makes, step_of}
-use Rattle.delivery.specs.Inner.View.{View, view_of, view_after, group_view, no_group, queue_gauge}
 use Rattle.delivery.proofs.Machine.Effects.{made_world, made_answer}
 use Rattle.delivery.proofs.Views.Lists.ByNumber.{map_alike}
 use Rattle.delivery.proofs.Machine.QueueSteps.{Goes, release_goes}

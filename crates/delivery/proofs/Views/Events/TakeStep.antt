@@ -1,40 +1,14 @@
 -- A take of a subscription.
 use Rattle.std.proofs.Common.{◌≡◌, ◌≢◌, ℕ, ◌<◌, ◌≤◌, ◌==◌, Bool, true, false, cond, not, nat_lt, ◌&&◌, ◌||◌, inl, inr, List, [], ◌∷◌, ◌++◌, map, length, get_or, set, Option, Some, None, refl, sym, ap, subst, ◌∙◌, arith, eq-eqb}
-use Rattle.std.specs.Prelude.{slice_get}
-use Rattle.std.specs.List.{flat_map}
-use Rattle.std.specs.Option.{is_some, option_map, option_or, option_and_then, option_to_list}
-use Rattle.std.proofs.lemmas.Bool.{ltb-true, ltb-false, lt-ltb, le-ltb, or_parts, or_right, false≢true, not-false, cases_Bool, cases_lt}
-use Rattle.std.proofs.lemmas.List.{append-nil, get_or_past}
-use Rattle.std.proofs.lemmas.Option.{slice_get-get_or, slice_get_past}
-use Rattle.mcast_txn.specs.Checks.{first_refusal}
-use Rattle.mcast_txn.specs.Span.{Item}
-use Rattle.mcast_txn.proofs.Members.{In-push, In-append_left}
-use Rattle.mcast_txn.proofs.CheckLemmas.{passes}
-use Rattle.mcast_group.specs.Counted.{group_after_take}
-use Rattle.mcast_group.specs.Group.{GroupState}
-use Rattle.mcast_group.specs.Machine.{Entry, EntryEnd}
-use Rattle.mcast_group.proofs.Parts.{some_same, none_some}
-use Rattle.stomp_frame.specs.declared.raw_frame.RawFrame.{RawFrame}
-use Rattle.stomp_frame.specs.Receipts.{receipt_of}
-use Rattle.stomp_frame.specs.ServerFrames.{error_frame}
-use Rattle.stomp_frame.specs.Writing.{spelling_of}
-use Rattle.delivery.specs.declared.connection_fault.ConnectionFault.{ConnectionFault}
-use Rattle.delivery.specs.declared.event.Event.{Event}
-use Rattle.delivery.specs.declared.outcome.Outcome.{Outcome}
-use Rattle.delivery.specs.declared.refusal.Refusal.{Refusal}
-use Rattle.delivery.specs.Faults.{connection_title}
-use Rattle.delivery.specs.Machine.Objections.{Objection, refusal_of}
-use Rattle.delivery.specs.Machine.World.{World, Subscription, Connection, Standing, nobody, connection_at, speaker, subscription_at, entry_at, is_reading, is_gone}
-use Rattle.delivery.specs.Machine.Moves.{Move, Answer, move_refusal, needs_open, with_leaving, take_effect, take_answer}
-use Rattle.delivery.specs.Machine.Observed.{accepted_at, end_at, entry_items, entry_to}
-use Rattle.delivery.specs.Core.Steps.{Reading, accepted_of}
-use Rattle.delivery.specs.Core.Account.{account_of, beginning_of, next_item, no_item}
-use Rattle.delivery.specs.Core.Output.{text_out, subscribe_frame, sub_id_text, sub_parts, messages_for}
-use Rattle.delivery.specs.Core.State.{Core, unread_at, names_at}
-use Rattle.delivery.specs.Core.Outcomes.{unless, move_outcome}
-use Rattle.delivery.specs.Core.Reports.{each_number}
-use Rattle.delivery.specs.Inner.Stands.{IsReached, Makes, step_of, endpoint_objection}
-use Rattle.delivery.specs.Inner.Takes.{sub_objection, take_objection, sub_held, next_of, group_held, next_held, has_lagged, after_item, after_next_item}
+use Rattle.delivery.proofs.Words.Std.{slice_get, flat_map, is_some, option_map, option_or, option_and_then, option_to_list, ltb-true, ltb-false, lt-ltb, le-ltb, or_parts, or_right, false≢true, not-false, cases_Bool, cases_lt, append-nil, get_or_past, slice_get-get_or, slice_get_past}
+use Rattle.delivery.proofs.Words.Topics.{first_refusal, Item, group_after_take, GroupState, Entry, EntryEnd}
+use Rattle.delivery.proofs.Words.Frames.{RawFrame, receipt_of, error_frame, spelling_of}
+use Rattle.delivery.proofs.Words.Lemmas.{In-push, In-append_left, passes, some_same, none_some}
+use Rattle.delivery.proofs.Words.Machine.{Objection, refusal_of, World, Subscription, Connection, Standing, nobody, connection_at, speaker, subscription_at, entry_at, is_reading, is_gone, Move, Answer, move_refusal, needs_open, with_leaving, take_effect, take_answer, accepted_at, end_at, entry_items, entry_to}
+use Rattle.delivery.proofs.Words.Core.{ConnectionFault, Event, Outcome, Refusal, connection_title, Reading, accepted_of, account_of, beginning_of, next_item, no_item, text_out, subscribe_frame, sub_id_text, sub_parts, Core, unread_at, names_at, unless, move_outcome, each_number}
+use Rattle.delivery.proofs.Words.Views.{IsReached, Makes, step_of, endpoint_objection, sub_objection, take_objection, sub_held, next_of, group_held, next_held, has_lagged, after_next_item}
+use Rattle.delivery.specs.Core.Output.{messages_for}
+use Rattle.delivery.specs.Inner.Takes.{after_item}
 use Rattle.delivery.specs.Inner.View.{View, EndpointView, SubView, view_of, view_with, view_after, group_view, sub_view, stage_view, leaving_endpoint, written_endpoint, parting_receipt, left_view as left_in_view, no_endpoint, no_group}
 use Rattle.delivery.proofs.Machine.Effects.{made_world, made_answer, same_world}
 use Rattle.delivery.proofs.Theorem.ClosedIsSilent.{none_of}

@@ -1,22 +1,12 @@
 -- A topic that an accepted frame makes, and its being taken back where the frame finds no memory.
 use Rattle.std.proofs.Common.{◌≡◌, ℕ, ◌-◌, ◌<◌, Bool, true, false, cond, not, ◌&&◌, List, [], ◌∷◌, ◌++◌, length, refl, sym, ap, ◌∙◌, arith}
-use Rattle.std.specs.Prelude.{codes, nat_lt, take, Option}
-use Rattle.std.proofs.lemmas.Bool.{false≢true, lt-ltb, ltb-true, and_parts}
-use Rattle.std.proofs.lemmas.List.{length-append, length-map}
-use Rattle.stomp_frame.specs.declared.command.Command.{Command}
+use Rattle.delivery.proofs.Words.Std.{codes, nat_lt, take, Option, false≢true, lt-ltb, ltb-true, and_parts, length-append, length-map}
+use Rattle.delivery.proofs.Words.Frames.{Command, RawFrame, is_connect, Unread, Action, takes_memory, field, has_destination, with_destination, is_known, max_topics, Held}
+use Rattle.delivery.proofs.Words.Core.{Core, names_at, session_at}
+use Rattle.delivery.proofs.Words.Views.{Asks, AsksNamed, AsksUnnamed, MayLack, accepted_stage, staged_endpoint, IsReached, View, EndpointView, group_view, made_group, view_of}
 use Rattle.stomp_frame.specs.declared.command.Command.TheVariants as commands
-use Rattle.stomp_frame.specs.declared.raw_frame.RawFrame.{RawFrame}
-use Rattle.stomp_frame.specs.Cases.{is_connect}
-use Rattle.stomp_frame.specs.Reader.{Unread}
-use Rattle.stomp_session.specs.declared.action.Action.{Action}
-use Rattle.stomp_session.specs.Answers.{takes_memory}
-use Rattle.stomp_session.specs.Frames.{field, has_destination, with_destination}
-use Rattle.stomp_session.specs.Names.{is_known, max_topics}
-use Rattle.stomp_session.specs.Open.{Held}
-use Rattle.delivery.specs.Core.State.{Core, names_at, session_at}
-use Rattle.delivery.specs.Inner.Nexts.{Asks, AsksNamed, AsksUnnamed, MayLack, accepted_stage, changed_endpoint, staged_endpoint}
-use Rattle.delivery.specs.Inner.Stands.{IsReached}
-use Rattle.delivery.specs.Inner.View.{View, EndpointView, group_view, grouped_view, made_group, view_of}
+use Rattle.delivery.specs.Inner.Nexts.{changed_endpoint}
+use Rattle.delivery.specs.Inner.View.{grouped_view}
 use Rattle.delivery.proofs.Core.NamesFew.{room_for}
 use Rattle.delivery.proofs.Views.Events.WantsMemory.{by_session}
 use Rattle.delivery.proofs.Views.Senders.SendsAreToTopics.{topics_as_named}

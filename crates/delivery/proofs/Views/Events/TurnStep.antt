@@ -1,27 +1,11 @@
 -- A turn of a topic.
 use Rattle.std.proofs.Common.{◌≡◌, ℕ, ◌<◌, ◌≤◌, ◌-◌, Bool, true, false, not, List, [], ◌∷◌, map, length, get_or, set, Option, None, refl, sym, ap, ◌∙◌}
-use Rattle.std.specs.Option.{option_or}
-use Rattle.std.proofs.lemmas.Bool.{lt-ltb, le-ltb}
-use Rattle.std.proofs.lemmas.List.{map-set}
-use Rattle.mcast_txn.specs.declared.id.Topic.{Topic}
-use Rattle.mcast_txn.specs.declared.id.TxnId.{TxnId}
-use Rattle.mcast_txn.specs.Ballot.{Decision}
-use Rattle.mcast_txn.specs.Checks.{first_refusal}
-use Rattle.mcast_group.specs.Counted.{takes_of}
-use Rattle.mcast_group.specs.Group.{GroupState, AreFound}
-use Rattle.mcast_group.specs.Machine.{TopicState, after_turn}
-use Rattle.delivery.specs.declared.event.Event.{Event}
-use Rattle.delivery.specs.declared.outcome.Outcome.{Outcome}
-use Rattle.delivery.specs.declared.refusal.Refusal.{Refusal}
-use Rattle.delivery.specs.Machine.Objections.{Objection}
-use Rattle.delivery.specs.Machine.World.{World, topic_at, with_topic}
-use Rattle.delivery.specs.Machine.Moves.{Move, Answer, is_topic, queue_has_room, verdict_in, move_refusal}
-use Rattle.delivery.specs.Core.Steps.{Reading}
-use Rattle.delivery.specs.Core.State.{Core}
-use Rattle.delivery.specs.Inner.Stands.{IsReached, Makes, step_of}
-use Rattle.delivery.specs.Inner.TopicSteps.{verdict_held, group_after_turn, group_turn_count, after_turn_at}
-use Rattle.delivery.specs.Inner.Verdicts.{verdict_at}
-use Rattle.delivery.specs.Inner.View.{view_of, view_after, group_view, no_group}
+use Rattle.delivery.proofs.Words.Std.{option_or, lt-ltb, le-ltb, map-set}
+use Rattle.delivery.proofs.Words.Topics.{Topic, TxnId, Decision, first_refusal, takes_of, GroupState, TopicState, after_turn}
+use Rattle.delivery.proofs.Words.Machine.{Objection, World, topic_at, with_topic, Move, Answer, is_topic, queue_has_room, verdict_in, move_refusal}
+use Rattle.delivery.proofs.Words.Core.{Event, Outcome, Refusal, Reading, Core}
+use Rattle.delivery.proofs.Words.Views.{IsReached, Makes, step_of, verdict_held, group_after_turn, group_turn_count, after_turn_at, verdict_at, view_of, view_after, group_view, no_group}
+use Rattle.mcast_group.specs.Group.{AreFound}
 use Rattle.delivery.proofs.Machine.Effects.{made_world, made_answer}
 use Rattle.delivery.proofs.Machine.QueueSteps.{turned_goes}
 use Rattle.delivery.proofs.Views.Endpoints.EndpointsStay.{quiet_view, turn_is_quiet}

@@ -1,27 +1,13 @@
 -- The ERROR of a frame that its session accepted doesn't say the version.
 use Rattle.std.proofs.Common.{◌≡◌, ℕ, Bool, true, false, List, [], ◌∷◌, ◌++◌, Option, Some, None, refl, sym, ap, subst, ◌∙◌, ◌||◌}
-use Rattle.std.specs.List.{list_any}
-use Rattle.std.specs.Option.{option_map, option_map_or, option_or, option_to_list}
-use Rattle.std.proofs.lemmas.Bool.{true≢false, or_parts}
-use Rattle.mcast_txn.specs.Checks.{first_refusal}
-use Rattle.mcast_txn.proofs.Members.{any_from}
-use Rattle.stomp_frame.specs.declared.raw_frame.RawFrame.{RawFrame}
-use Rattle.stomp_frame.specs.Cases.{case_fault}
-use Rattle.stomp_session.specs.declared.action.Action.{Action}
+use Rattle.delivery.proofs.Words.Std.{list_any, option_map, option_map_or, option_or, option_to_list, true≢false, or_parts}
+use Rattle.delivery.proofs.Words.Topics.{first_refusal}
+use Rattle.delivery.proofs.Words.Frames.{RawFrame, case_fault, Action, action_by, session_fault}
+use Rattle.delivery.proofs.Words.Lemmas.{any_from}
+use Rattle.delivery.proofs.Words.Machine.{Objection, refusal_of, is_in_use, Answer, Move, answer_to}
+use Rattle.delivery.proofs.Words.Core.{ConnectionFault, Outcome, Refusal, claims_of, claimed_sender, is_one_too_many, says_version, Core, core_for, frame_move, session_at, accepted_outcomes, claim_fault, fault_outcomes, frame_fault, frame_no_memory, frame_outcome, move_outcome, outcome_of, outcomes_without, wants_memory}
+use Rattle.delivery.proofs.Words.Views.{MayEnd}
 use Rattle.stomp_session.specs.declared.action.Action.TheVariants as actions
-use Rattle.stomp_session.specs.Answers.{action_by}
-use Rattle.stomp_session.specs.Refusals.{session_fault}
-use Rattle.delivery.specs.declared.connection_fault.ConnectionFault.{ConnectionFault}
-use Rattle.delivery.specs.declared.outcome.Outcome.{Outcome}
-use Rattle.delivery.specs.declared.refusal.Refusal.{Refusal}
-use Rattle.delivery.specs.Machine.Objections.{Objection, refusal_of}
-use Rattle.delivery.specs.Machine.World.{is_in_use}
-use Rattle.delivery.specs.Machine.Moves.{Answer, Move, answer_to}
-use Rattle.delivery.specs.Core.Claims.{claims_of, claimed_sender, is_one_too_many}
-use Rattle.delivery.specs.Core.Output.{says_version}
-use Rattle.delivery.specs.Core.State.{Core, core_for, frame_move, session_at}
-use Rattle.delivery.specs.Core.Outcomes.{accepted_outcomes, claim_fault, fault_outcomes, frame_fault, frame_no_memory, frame_outcome, move_outcome, outcome_of, outcomes_without, wants_memory}
-use Rattle.delivery.specs.Inner.Nexts.{MayEnd}
 use Rattle.delivery.proofs.Views.Events.NextFaults.{asked_objection, fault_of_frame}
 
 -- the outcome is an ERROR of this frame, which says the version

@@ -1,39 +1,16 @@
 -- Which accepted frames want memory: wherever the core answers that there was none, its frame does.
-use Rattle.std.specs.Prelude.{codes}
+use Rattle.delivery.proofs.Words.Std.{codes, list_any, append-nil, is_some, option_map, option_map_or, option_to_list, option_and_then, or_right, or_from}
+use Rattle.delivery.proofs.Words.Topics.{SentMessage, Topic, In}
+use Rattle.delivery.proofs.Words.Frames.{Command, RawFrame, case_fault, is_connect, first_of, Unread, receipt_of, connected_frame, receipt_frame, Action, action_by, commit, takes_memory, id_of, transaction_of, Held, sends_in, session_fault}
+use Rattle.delivery.proofs.Words.Lemmas.{sent_subscribes, committed_subscribes}
+use Rattle.delivery.proofs.Words.Machine.{Objection, Answer, Move, end_now, move_answer, move_refusal}
+use Rattle.delivery.proofs.Words.Core.{ConnectionFault, Outcome, claims_of, claimed_sender, Reading, number_by, next_replies, receipts_of, Core, core_for, frame_move, session_at, unread_at, accepted_outcomes, claim_fault, fault_outcomes, frame_fault, frame_no_memory, frame_outcome, is_any, move_outcome, outcome_of, outcomes_without, reading_outcomes, wants_memory}
+use Rattle.delivery.proofs.Words.Views.{Asks, MayLack, View}
 use Rattle.std.proofs.Common.{◌≡◌, ℕ, Bool, true, false, cond, ◌||◌, List, [], ◌∷◌, ◌++◌, Option, Some, None, refl, sym, ap, subst, ◌∙◌}
-use Rattle.std.specs.List.{list_any}
-use Rattle.std.proofs.lemmas.List.{append-nil}
-use Rattle.std.specs.Option.{is_some, option_map, option_map_or, option_to_list, option_and_then}
-use Rattle.std.proofs.lemmas.Bool.{or_left, or_right, or_from}
-use Rattle.mcast_txn.specs.declared.draft.sent_message.SentMessage.{SentMessage}
-use Rattle.mcast_txn.specs.declared.id.Topic.{Topic}
-use Rattle.mcast_txn.specs.Lists.{In}
-use Rattle.stomp_frame.specs.declared.command.Command.{Command}
+use Rattle.std.proofs.lemmas.Bool.{or_left}
 use Rattle.stomp_frame.specs.declared.command.Command.TheVariants as commands
-use Rattle.stomp_frame.specs.declared.raw_frame.RawFrame.{RawFrame}
-use Rattle.stomp_frame.specs.Cases.{case_fault, is_connect}
-use Rattle.stomp_frame.specs.Headers.{first_of}
-use Rattle.stomp_frame.specs.Reader.{Unread}
-use Rattle.stomp_frame.specs.Receipts.{receipt_of}
-use Rattle.stomp_frame.specs.ServerFrames.{connected_frame, receipt_frame}
-use Rattle.stomp_session.specs.declared.action.Action.{Action}
 use Rattle.stomp_session.specs.declared.action.Action.TheVariants as actions
-use Rattle.stomp_session.specs.Answers.{action_by, commit, has_sends, takes_memory}
-use Rattle.stomp_session.specs.Frames.{id_of, transaction_of}
-use Rattle.stomp_session.specs.Open.{Held}
-use Rattle.stomp_session.specs.Refusals.{sends_in, session_fault}
-use Rattle.stomp_session.proofs.Asked.{sent_subscribes, committed_subscribes}
-use Rattle.delivery.specs.declared.connection_fault.ConnectionFault.{ConnectionFault}
-use Rattle.delivery.specs.declared.outcome.Outcome.{Outcome}
-use Rattle.delivery.specs.Machine.Objections.{Objection}
-use Rattle.delivery.specs.Machine.Moves.{Answer, Move, end_now, move_answer, move_refusal}
-use Rattle.delivery.specs.Core.Claims.{claims_of, claimed_sender}
-use Rattle.delivery.specs.Core.Steps.{Reading, number_by}
-use Rattle.delivery.specs.Core.Output.{next_replies, receipts_of}
-use Rattle.delivery.specs.Core.State.{Core, core_for, frame_move, session_at, unread_at}
-use Rattle.delivery.specs.Core.Outcomes.{accepted_outcomes, claim_fault, fault_outcomes, frame_fault, frame_no_memory, frame_outcome, is_any, move_outcome, outcome_of, outcomes_without, reading_outcomes, wants_memory}
-use Rattle.delivery.specs.Inner.Nexts.{Asks, MayLack}
-use Rattle.delivery.specs.Inner.View.{View}
+use Rattle.stomp_session.specs.Answers.{has_sends}
 use Rattle.delivery.proofs.Machine.Effects.{made_answer}
 use Rattle.delivery.proofs.Core.ClaimsStand.{unobjected}
 use Rattle.delivery.proofs.Views.Events.NextFaults.{asked_claim, asked_objection, fault_is}

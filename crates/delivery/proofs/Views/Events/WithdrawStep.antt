@@ -1,41 +1,15 @@
 -- A transaction is withdrawn.
 use Rattle.std.proofs.Common.{◌≡◌, ◌≢◌, ℕ, ◌<◌, Bool, true, false, cond, not, ◌&&◌, List, [], ◌∷◌, ◌++◌, map, length, get_or, set, Option, Some, None, refl, sym, ap, ◌∙◌}
-use Rattle.std.specs.Prelude.{slice_get}
-use Rattle.std.proofs.lemmas.Bool.{eq-eqb}
-use Rattle.std.proofs.lemmas.List.{map-append, append-nil, set-get_or}
+use Rattle.delivery.proofs.Words.Std.{slice_get, eq-eqb, map-append, append-nil, set-get_or, flat_map, is_some, option_or, option_and_then}
+use Rattle.delivery.proofs.Words.Topics.{Ticket, TxnId, first_refusal, In, ProposeFault, propose_title}
+use Rattle.delivery.proofs.Words.Frames.{RawFrame, Unread, receipt_of, error_frame, spelling_of}
+use Rattle.delivery.proofs.Words.Lemmas.{refusal_first, refusal_after, some_same}
+use Rattle.delivery.proofs.Words.Machine.{Objection, refusal_of, World, Undecided, SenderState, Connection, Standing, is_reading, is_gone, nobody, connection_at, sender_at, speaker, with_sender, speaker_number, Move, Answer, move_refusal, needs_connection, undecided_or_none, undecided_at, leftover, with_leaving}
+use Rattle.delivery.proofs.Words.Core.{Event, Outcome, Refusal, Sending, Stage, account_of, last_of, has_closed, receipt_asked, commit_frame, failed_title, replies_to, text_out, Reading, accepted_of, Core, unread_at, names_at, each_number, move_outcome, is_any}
+use Rattle.delivery.proofs.Words.Views.{gone_objection, there_objection, speaker_at, sender_in, withdraw_refusal, failure_of, withdrawn_view, reads_frames, refused_view, IsReached, Makes, step_of, EndpointView, SenderView, view_of, view_after, sender_view, sending_view, undecided_view, endpoint_view, stage_view, parting_receipt, leaving_endpoint, no_endpoint, ticket_of}
 use Rattle.std.proofs.lemmas.Simd.{map-map}
-use Rattle.std.specs.List.{flat_map}
-use Rattle.std.specs.Option.{is_some, option_or, option_and_then}
-use Rattle.stomp_frame.specs.declared.raw_frame.RawFrame.{RawFrame}
-use Rattle.stomp_frame.specs.Reader.{Unread}
-use Rattle.stomp_frame.specs.Receipts.{receipt_of}
-use Rattle.stomp_frame.specs.ServerFrames.{error_frame}
-use Rattle.stomp_frame.specs.Writing.{spelling_of}
-use Rattle.mcast_txn.specs.declared.ballot.ticket.Ticket.{Ticket}
-use Rattle.mcast_txn.specs.declared.id.TxnId.{TxnId}
-use Rattle.mcast_txn.specs.Checks.{first_refusal}
-use Rattle.mcast_txn.specs.Lists.{In}
-use Rattle.mcast_txn.proofs.CheckLemmas.{refusal_first, refusal_after}
-use Rattle.mcast_group.specs.declared.fault.ProposeFault.{ProposeFault}
-use Rattle.mcast_group.specs.Faults.{propose_title}
-use Rattle.mcast_group.proofs.Parts.{some_same}
-use Rattle.delivery.specs.declared.event.Event.{Event}
-use Rattle.delivery.specs.declared.outcome.Outcome.{Outcome}
-use Rattle.delivery.specs.declared.refusal.Refusal.{Refusal}
-use Rattle.delivery.specs.declared.sending.Sending.{Sending}
-use Rattle.delivery.specs.declared.stage.Stage.{Stage}
-use Rattle.delivery.specs.Machine.Objections.{Objection, refusal_of}
-use Rattle.delivery.specs.Machine.World.{World, Undecided, SenderState, Connection, Standing, is_reading, is_gone, nobody, connection_at, sender_at, speaker, with_sender, speaker_number}
-use Rattle.delivery.specs.Machine.Moves.{Move, Answer, move_refusal, needs_connection, undecided_or_none, undecided_at, leftover, with_leaving}
-use Rattle.delivery.specs.Core.Account.{account_of, last_of}
-use Rattle.delivery.specs.Core.Output.{has_closed, receipt_asked, commit_frame, failed_title, replies_to, text_out}
-use Rattle.delivery.specs.Core.Steps.{Reading, accepted_of}
-use Rattle.delivery.specs.Core.State.{Core, unread_at, names_at}
-use Rattle.delivery.specs.Core.Reports.{each_number}
-use Rattle.delivery.specs.Core.Outcomes.{move_outcome, is_any}
-use Rattle.delivery.specs.Inner.Senders.{gone_objection, there_objection, speaker_at, sender_in, withdraw_refusal, failure_of, withdrawn_sender, withdrawn_view, reads_frames, shut_stage, with_error, refused_endpoint, refused_view}
-use Rattle.delivery.specs.Inner.Stands.{IsReached, Makes, step_of}
-use Rattle.delivery.specs.Inner.View.{EndpointView, SenderView, view_of, view_after, sender_view, sending_view, undecided_view, gate_view, endpoint_view, stage_view, parting_receipt, leaving_endpoint, no_endpoint, ticket_of}
+use Rattle.delivery.specs.Inner.Senders.{withdrawn_sender, shut_stage, with_error, refused_endpoint}
+use Rattle.delivery.specs.Inner.View.{gate_view}
 use Rattle.delivery.proofs.Machine.Effects.{made_world, made_answer}
 use Rattle.delivery.proofs.Views.Runs.AccountOfTransactions.{flight_id, last_is}
 use Rattle.delivery.proofs.Views.Endpoints.SpeakerAndEnd.{closed_is}

@@ -1,15 +1,12 @@
 -- Lists of values by their numbers, and new topics.
 use Rattle.std.proofs.Common.{◌≡◌, ◌≢◌, ℕ, zero, suc, ◌+◌, ◌<◌, ◌≤◌, List, [], ◌∷◌, ◌++◌, map, length, get_or, set, refl, ap, ◌∙◌, arith, ltb, inl, inr, Bool, true, false, cond, Some, None}
-use Rattle.std.specs.List.{position, position_or_len}
-use Rattle.std.proofs.lemmas.Bool.{ltb-false}
+use Rattle.delivery.proofs.Words.Std.{position, position_or_len, ltb-false, map-append, take_more}
+use Rattle.delivery.proofs.Words.Topics.{In, TopicState, new_topic, GroupState}
+use Rattle.delivery.proofs.Words.Machine.{World, new_topics}
+use Rattle.delivery.proofs.Words.Core.{each_number}
+use Rattle.delivery.proofs.Words.Views.{group_view, new_group}
 use Rattle.std.proofs.Common.{take}
-use Rattle.std.proofs.lemmas.List.{map-append, take_more, length-take}
-use Rattle.mcast_txn.specs.Lists.{In}
-use Rattle.mcast_group.specs.Machine.{TopicState, new_topic}
-use Rattle.mcast_group.specs.Group.{GroupState}
-use Rattle.delivery.specs.Machine.World.{World, new_topics}
-use Rattle.delivery.specs.Core.Reports.{each_number}
-use Rattle.delivery.specs.Inner.View.{group_view, new_group}
+use Rattle.std.proofs.lemmas.List.{length-take}
 
 -- one more topic
 pub new_topics-push : (i limit : ℕ) (clocks : List ℕ) (clock : ℕ)

@@ -1,16 +1,10 @@
 -- The text of an item's MESSAGEs, SEND by SEND.
 use Rattle.std.proofs.Common.{◌≡◌, ℕ, ◌+◌, ◌<◌, List, [], ◌∷◌, ◌++◌, map, take, length, Some, sym, ap, ◌∙◌, arith}
-use Rattle.std.specs.Prelude.{slice_get}
-use Rattle.std.specs.List.{enumerate_from, flat_map}
-use Rattle.std.proofs.lemmas.List.{map-append, append-nil, append_assoc, take_more}
+use Rattle.delivery.proofs.Words.Std.{slice_get, enumerate_from, flat_map, map-append, append-nil, append_assoc, take_more, length-enumerate_from, get_or_from_slice_get, slice_get-get_or}
+use Rattle.delivery.proofs.Words.Topics.{PartMessage, Stamp}
+use Rattle.delivery.proofs.Words.Frames.{RawFrame, message_frame, message_id, part_message_frame, spelling_of}
 use Rattle.std.proofs.lemmas.List.Concat.{flat_map-append}
-use Rattle.std.proofs.lemmas.List.FromFn.{get_or-enumerate_from, length-enumerate_from}
-use Rattle.std.proofs.lemmas.Option.{get_or_from_slice_get, slice_get-get_or}
-use Rattle.stomp_frame.specs.declared.raw_frame.RawFrame.{RawFrame}
-use Rattle.stomp_frame.specs.ServerFrames.{message_frame, message_id, part_message_frame}
-use Rattle.stomp_frame.specs.Writing.{spelling_of}
-use Rattle.mcast_txn.specs.declared.parts.part_message.PartMessage.{PartMessage}
-use Rattle.mcast_txn.specs.declared.stamp.Stamp.{Stamp}
+use Rattle.std.proofs.lemmas.List.FromFn.{get_or-enumerate_from}
 
 -- the MESSAGE of a SEND
 abbrev pub message_of : List ℕ → Stamp → PartMessage → RawFrame

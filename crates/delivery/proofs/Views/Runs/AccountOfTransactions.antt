@@ -1,18 +1,11 @@
 -- What the account of a core that a run leads to says of its undecided transactions and its subscriptions.
 use Rattle.std.proofs.Common.{◌≡◌, ◌≢◌, ℕ, ◌<◌, cond, not, length, Option, Some, None, sym, ap, ◌∙◌}
-use Rattle.std.specs.Prelude.{slice_get}
-use Rattle.std.specs.Option.{is_some}
-use Rattle.std.proofs.lemmas.Option.{slice_get-get_or}
-use Rattle.mcast_group.specs.declared.fault.NoSub.{NoSub}
-use Rattle.mcast_group.specs.Machine.{Entry}
-use Rattle.mcast_group.proofs.Parts.{none_some}
-use Rattle.delivery.specs.Machine.World.{Undecided, sender_at, speaker, subscription_at, entry_at}
-use Rattle.delivery.specs.Machine.Moves.{undecided_or_none}
-use Rattle.delivery.specs.Machine.Observed.{accepted_at}
-use Rattle.delivery.specs.Theorem.Laws.{final_world}
-use Rattle.delivery.specs.Core.Account.{account_of, last_of, beginning_of, next_item, no_item}
-use Rattle.delivery.specs.Core.State.{Core}
-use Rattle.delivery.specs.Inner.Stands.{IsReached}
+use Rattle.delivery.proofs.Words.Std.{slice_get, is_some, slice_get-get_or}
+use Rattle.delivery.proofs.Words.Topics.{NoSub, Entry}
+use Rattle.delivery.proofs.Words.Lemmas.{none_some}
+use Rattle.delivery.proofs.Words.Machine.{Undecided, sender_at, speaker, subscription_at, entry_at, undecided_or_none, accepted_at, final_world}
+use Rattle.delivery.proofs.Words.Core.{account_of, last_of, beginning_of, next_item, no_item, Core}
+use Rattle.delivery.proofs.Words.Views.{IsReached}
 use Rattle.delivery.proofs.Theorem.NeverRefused.{entries_are_there}
 use Rattle.delivery.proofs.Core.AccountOfRun.{Own, spoken, undecided_is}
 use Rattle.delivery.proofs.Core.NextItem.{next_item_is, connection_is}

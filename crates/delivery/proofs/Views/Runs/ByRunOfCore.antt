@@ -1,13 +1,9 @@
 -- What holds of each run of the machine holds of each core that a run leads to.
 use Rattle.std.proofs.Common.{◌≡◌, List, sym, subst, ap, ◌∙◌}
-use Rattle.delivery.specs.Machine.World.{World}
-use Rattle.delivery.specs.Machine.Moves.{Answer}
-use Rattle.delivery.specs.Theorem.Laws.{Run, answers_of, final_world}
-use Rattle.delivery.specs.Core.Account.{account_of}
-use Rattle.delivery.specs.Core.State.{Core}
-use Rattle.delivery.specs.Inner.Stands.{IsReached}
+use Rattle.delivery.proofs.Words.Machine.{World, Answer, Run, answers_of, final_world}
+use Rattle.delivery.proofs.Words.Core.{account_of, Core, claims_of}
+use Rattle.delivery.proofs.Words.Views.{IsReached}
 use Rattle.delivery.proofs.Core.Said.{said}
-use Rattle.delivery.specs.Core.Claims.{claims_of}
 use Rattle.delivery.proofs.Theorem.SendersAreOwn.{Speaks, speak}
 use Rattle.delivery.proofs.Core.ClaimsStand.{Stand, core_stands}
 use Rattle.delivery.proofs.Core.AccountOfRun.{run_of, world_is, core_is, account_is}

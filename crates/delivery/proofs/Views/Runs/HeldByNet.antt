@@ -1,13 +1,9 @@
 -- What a net holds is held of a core that a run leads to, and the senders beside it are those of that core.
 use Rattle.std.proofs.Common.{ℕ, List, refl}
-use Rattle.sender_gate.specs.Senders.{SendersState}
-use Rattle.delivery.specs.declared.kept.Kept.{Kept}
-use Rattle.delivery.specs.Topics.{TopicList}
-use Rattle.delivery.specs.Core.State.{core_of}
+use Rattle.delivery.proofs.Words.Topics.{SendersState}
+use Rattle.delivery.proofs.Words.Core.{Kept, TopicList, core_of}
+use Rattle.delivery.proofs.Words.Views.{KeepsBoth, IsReached, View}
 use Rattle.delivery.specs.Inner.Clients.{AreHeld}
-use Rattle.delivery.specs.Inner.NetInvariant.{KeepsBoth}
-use Rattle.delivery.specs.Inner.Stands.{IsReached}
-use Rattle.delivery.specs.Inner.View.{View}
 
 pub are_held : (topics : TopicList) (capacity : ℕ) (kept : List Kept) (held : View) (clients : SendersState)
     → KeepsBoth topics capacity kept held clients → AreHeld held clients

@@ -1,27 +1,13 @@
 -- What a net keeps: it is delivered, and it grows by a step.
 use Rattle.std.proofs.Common.{◌≡◌, ℕ, ◌-◌, ◌≤◌, List, [], ◌∷◌, ◌++◌, map, length, reverse, refl, sym, ap, subst, ◌∙◌, append_assoc, append-nil}
-use Rattle.std.proofs.lemmas.List.{map-append, reverse-append}
+use Rattle.delivery.proofs.Words.Std.{map-append, take}
+use Rattle.delivery.proofs.Words.Topics.{SendersState}
+use Rattle.delivery.proofs.Words.Frames.{max_topics}
+use Rattle.delivery.proofs.Words.Machine.{World}
+use Rattle.delivery.proofs.Words.Core.{Event, Outcome, Kept, TopicList, KeptRun, HasTaken, HasAnswered, IsDelivered, HasReport, CoreStep, kept_of, names_after, IsCoreRun, Core, core_of, names_at, new_core, Report, report_of, Delivery, kept_run}
+use Rattle.delivery.proofs.Words.Views.{reading_at, steps_of, KeepsBoth, KeepsRun, AreClients, MakesBoth, IsReached, step_of, View, view_of, report_in}
+use Rattle.std.proofs.lemmas.List.{reverse-append}
 use Rattle.std.proofs.lemmas.Grind.{reverse_onto}
-use Rattle.delivery.specs.declared.event.Event.{Event}
-use Rattle.delivery.specs.declared.outcome.Outcome.{Outcome}
-use Rattle.delivery.specs.declared.kept.Kept.{Kept}
-use Rattle.std.specs.Prelude.{take}
-use Rattle.stomp_session.specs.Names.{max_topics}
-use Rattle.delivery.specs.Topics.{TopicList}
-use Rattle.delivery.specs.Nets.{KeptRun, HasTaken, HasAnswered, IsDelivered, HasReport}
-use Rattle.delivery.specs.Machine.World.{World}
-use Rattle.delivery.specs.Core.Steps.{CoreStep, kept_of, names_after}
-use Rattle.delivery.specs.Inner.Readings.{reading_at, steps_of}
-use Rattle.delivery.specs.Core.Outcomes.{IsCoreRun}
-use Rattle.delivery.specs.Core.State.{Core, core_of, names_at, new_core}
-use Rattle.delivery.specs.Core.Reports.{Report, report_of}
-use Rattle.delivery.specs.Core.Delivery.{Delivery, kept_run}
-use Rattle.delivery.specs.Inner.NetInvariant.{KeepsBoth, KeepsRun}
-use Rattle.delivery.specs.Inner.Clients.{AreClients, MakesBoth}
-use Rattle.sender_gate.specs.Senders.{SendersState}
-use Rattle.delivery.specs.Inner.Stands.{IsReached, step_of}
-use Rattle.delivery.specs.Inner.View.{View, view_of}
-use Rattle.delivery.specs.Inner.ViewReports.{report_in}
 use Rattle.delivery.proofs.Core.AccountOfRun.{run_of, world_is, core_is}
 use Rattle.delivery.proofs.Core.DeliveryOfRun.{delivery}
 use Rattle.delivery.proofs.Core.NamesKnown.{names_first}

@@ -1,29 +1,15 @@
 -- The report of what the code holds of a core is that core's.
 use Rattle.std.proofs.Common.{◌≡◌, ℕ, zero, suc, ◌+◌, ◌<◌, ◌≤◌, List, [], ◌∷◌, map, take, length, Option, Some, None, inl, inr, refl, sym, ap, ◌∙◌, arith}
-use Rattle.std.specs.Prelude.{slice_get}
-use Rattle.std.specs.List.{enumerate_from}
-use Rattle.std.specs.Option.{option_map, option_and_then}
-use Rattle.std.proofs.lemmas.Option.{slice_get-get_or, slice_get_past}
-use Rattle.std.proofs.lemmas.List.FromFn.{length-enumerate_from}
-use Rattle.std.proofs.lemmas.List.{length-map, get_or-map}
-use Rattle.std.proofs.lemmas.Bool.{cases_lt}
-use Rattle.stomp_frame.specs.declared.raw_frame.RawFrame.{RawFrame}
-use Rattle.mcast_txn.specs.declared.id.Topic.{Topic}
-use Rattle.mcast_txn.specs.declared.stamp.Stamp.{Stamp}
-use Rattle.mcast_txn.specs.Span.{LogRow, Item}
-use Rattle.sub_queue.specs.Shown.{Gauge}
+use Rattle.delivery.proofs.Words.Std.{slice_get, enumerate_from, option_map, option_and_then, slice_get-get_or, slice_get_past, length-enumerate_from, length-map, get_or-map, cases_lt}
+use Rattle.delivery.proofs.Words.Topics.{Topic, Stamp, LogRow, Item, Gauge, GroupState, shown_with, shown_at, TopicState, Entry, EntryEnd, new_topic, find_entry}
+use Rattle.delivery.proofs.Words.Frames.{RawFrame}
+use Rattle.delivery.proofs.Words.Machine.{World, subscription_at, topic_at, entry_at, entry_items, entry_to}
+use Rattle.delivery.proofs.Words.Core.{text_out, subscribe_frame, QueueReport, queue_report, each_number, report_of, accepted_of, Core, unread_at, names_at}
+use Rattle.delivery.proofs.Words.Views.{View, SubView, EndpointView, view_of, group_view, queue_gauge, sub_view, left_view, endpoint_view, report_in, sub_report}
 use Rattle.mcast_group.specs.declared.cause.Cause.TheVariants.{Lag}
 use Rattle.mcast_group.specs.declared.state.SubState.{SubState}
-use Rattle.mcast_group.specs.Group.{GroupState, shown_with, shown_at}
-use Rattle.mcast_group.specs.Machine.{TopicState, Entry, EntryEnd, new_topic, find_entry, subscription_state, state_of_entry}
-use Rattle.delivery.specs.Machine.World.{World, subscription_at, topic_at, entry_at}
-use Rattle.delivery.specs.Machine.Observed.{entry_items, entry_to}
-use Rattle.delivery.specs.Core.Output.{text_out, subscribe_frame}
-use Rattle.delivery.specs.Core.Reports.{QueueReport, queue_report, each_number, report_of}
-use Rattle.delivery.specs.Core.Steps.{accepted_of}
-use Rattle.delivery.specs.Core.State.{Core, unread_at, names_at}
-use Rattle.delivery.specs.Inner.View.{View, SubView, EndpointView, view_of, group_view, queue_gauge, sub_view, left_view, endpoint_view}
-use Rattle.delivery.specs.Inner.ViewReports.{report_in, sub_report, open_report, closed_report, lag_of, lag_in, queue_shown, queued_items, handed_items}
+use Rattle.mcast_group.specs.Machine.{subscription_state, state_of_entry}
+use Rattle.delivery.specs.Inner.ViewReports.{open_report, closed_report, lag_of, lag_in, queue_shown, queued_items, handed_items}
 use Rattle.delivery.proofs.Views.Lists.ByNumber.{each_number-same}
 use Rattle.delivery.proofs.Views.Subscriptions.GaugesOfEntries.{shown_is}
 use Rattle.delivery.proofs.Machine.SubscriptionSteps.{beyond}
@@ -110,9 +96,11 @@ queue_is w t s = by_topic w t (shown_at s) (λ x none. no_shown w s x none) ∙ 
 -- subscription s as it is reported, with this entry at its topic and with what it left
 abbrev reported_with : World → ℕ → Option Entry → Option EntryEnd → QueueReport
 reported_with w s entry closed = record {
-  topic = (subscription_at w s).topic;
-  from = (subscription_at w s).from;
-  to = elim closed [ None ↦ entry_to entry | Some end ↦ Some end.to ];
+  span = record {
+    topic = (subscription_at w s).topic;
+    from = (subscription_at w s).from;
+    to = elim closed [ None ↦ entry_to entry | Some end ↦ Some end.to ];
+  };
   cause = elim closed [ None ↦ option_map (λ end. Lag) (entry_to entry) | Some end ↦ Some end.cause ];
   queued = elim closed [ None ↦ entry_items entry | Some end ↦ end.accepted ];
   handed = take (subscription_at w s).taken (elim closed [ None ↦ entry_items entry | Some end ↦ end.accepted ]);
@@ -130,9 +118,7 @@ open_is w s x topic from =
     let handed : handed_items (queue_shown groups x.topic s) ≡ take (subscription_at w s).taken (entry_items (entry_at w s)) =
     ap handed_items queue ∙ handed_with w s (entry_at w s) in
     λ i. record {
-      topic = topic i;
-      from = from i;
-      to = lag i;
+      span = record { topic = topic i; from = from i; to = lag i };
       cause = option_map (λ end. Lag) (lag i);
       queued = queued i;
       handed = handed i;

@@ -1,29 +1,17 @@
 -- A connection whose session is connected speaks for a sender, and no other does.
 use Rattle.std.proofs.Common.{◌≡◌, ℕ, ◌==◌, ◌||◌, Bool, true, false, cond, not, List, [], ◌∷◌, ◌++◌, Option, Some, None, refl, sym, ap, ◌∙◌}
-use Rattle.std.specs.Prelude.{codes}
-use Rattle.std.specs.Option.{is_some, option_to_list, unwrap_or}
-use Rattle.std.proofs.lemmas.Bool.{true≢false, false≢true, not-true, not-false}
-use Rattle.stomp_frame.specs.declared.command.Command.{Command}
+use Rattle.delivery.proofs.Words.Std.{codes, is_some, option_to_list, unwrap_or, true≢false, false≢true, not-true, not-false}
+use Rattle.delivery.proofs.Words.Topics.{first_refusal, SentMessage}
+use Rattle.delivery.proofs.Words.Frames.{Command, RawFrame, is_connect, SessionFault, action_by, client_of, field, Held, is_ended, is_closed, is_new, open_refusals, session_fault}
+use Rattle.delivery.proofs.Words.Lemmas.{or_third, none_some}
+use Rattle.delivery.proofs.Words.Machine.{connection_at}
+use Rattle.delivery.proofs.Words.Core.{Event, Claim, begun_count, claim_of, claimed_sender, claims_of, sender_claimed, Core, session_at, CoreStep, accepted_of, frame_from, frame_in, has_effect}
+use Rattle.delivery.proofs.Words.Views.{IsReached}
 use Rattle.stomp_frame.specs.declared.command.Command.TheVariants as commands
-use Rattle.stomp_frame.specs.declared.raw_frame.RawFrame.{RawFrame}
-use Rattle.stomp_frame.specs.Cases.{is_connect}
-use Rattle.stomp_frame.proofs.Names.{or_third}
-use Rattle.mcast_txn.specs.Checks.{first_refusal}
-use Rattle.mcast_txn.specs.declared.draft.sent_message.SentMessage.{SentMessage}
-use Rattle.mcast_group.proofs.Parts.{none_some}
 use Rattle.stomp_session.specs.declared.action.Action.TheVariants as actions
-use Rattle.stomp_session.specs.declared.fault.SessionFault.{SessionFault}
-use Rattle.stomp_session.specs.Answers.{action_by}
-use Rattle.stomp_session.specs.Frames.{client_of, field}
 use Rattle.stomp_session.specs.Versions.{has_version}
-use Rattle.stomp_session.specs.Open.{Held, is_connected, is_ended}
-use Rattle.stomp_session.specs.Refusals.{Condition, is_closed, is_new, open_refusals, refusals_by, session_fault}
-use Rattle.delivery.specs.declared.event.Event.{Event}
-use Rattle.delivery.specs.Machine.World.{connection_at}
-use Rattle.delivery.specs.Core.Claims.{Claim, begun_count, claim_of, claimed_sender, claims_of, sender_claimed}
-use Rattle.delivery.specs.Core.State.{Core, session_at}
-use Rattle.delivery.specs.Core.Steps.{CoreStep, accepted_of, frame_from, frame_in, has_effect}
-use Rattle.delivery.specs.Inner.Stands.{IsReached}
+use Rattle.stomp_session.specs.Open.{is_connected}
+use Rattle.stomp_session.specs.Refusals.{Condition, refusals_by}
 use Rattle.delivery.proofs.Views.Runs.ByRunOfCore.{stand_of}
 
 any_append : (xs ys : List RawFrame) → is_connected (xs ++ ys) ≡ (is_connected ys || is_connected xs)

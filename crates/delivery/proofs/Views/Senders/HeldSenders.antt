@@ -1,11 +1,10 @@
 -- What is held of a sender: its gate is with it while a connection speaks for it, and else it is resting.
 use Rattle.std.proofs.Common.{◌≡◌, ℕ, ◌+◌, ◌<◌, Bool, true, false, cond, length, set, Option, Some, None, refl, sym, ap, ◌∙◌, arith}
-use Rattle.std.specs.Option.{unwrap_or}
-use Rattle.std.proofs.lemmas.List.{get_or-set_same, get_or-set_other}
-use Rattle.delivery.specs.Machine.World.{World, Undecided, Connection, SenderState, Standing, is_gone, new_sender, nobody, connection_at, sender_at, speaker_number, speaks_for, is_in_use, with_sender}
-use Rattle.delivery.specs.Core.Reports.{each_number}
-use Rattle.delivery.specs.declared.sending.Sending.{Sending}
-use Rattle.delivery.specs.Inner.View.{SenderView, held_sender, is_undecided, rested_sender, rested_sending, sender_view, sending_view}
+use Rattle.delivery.proofs.Words.Std.{unwrap_or, get_or-set_same, get_or-set_other}
+use Rattle.delivery.proofs.Words.Machine.{World, Undecided, Connection, SenderState, Standing, is_gone, new_sender, nobody, connection_at, sender_at, speaker_number, speaks_for, is_in_use, with_sender}
+use Rattle.delivery.proofs.Words.Core.{each_number, Sending}
+use Rattle.delivery.proofs.Words.Views.{SenderView, held_sender, is_undecided, rested_sender, sender_view, sending_view}
+use Rattle.delivery.specs.Inner.View.{rested_sending}
 use Rattle.delivery.proofs.Theorem.SendersAreOwn.{Speaks, speaks, unspoken}
 use Rattle.delivery.proofs.Views.Clients.RestingStay.{any_at, any_set, standing_speaks}
 use Rattle.delivery.proofs.Views.Lists.ByNumber.{each_number-same, each_number-set}

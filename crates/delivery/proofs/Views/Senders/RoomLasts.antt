@@ -1,21 +1,13 @@
 -- The room that a transaction makes as it begins: it is there, and it lasts until the transaction has ended.
 use Rattle.std.proofs.Common.{◌≡◌, ℕ, zero, suc, ◌+◌, ◌<◌, ◌≤◌, ◌==◌, Bool, true, false, cond, List, [], ◌∷◌, ◌++◌, map, length, get_or, set, Option, Some, None, refl, sym, ap, subst, ◌∙◌, arith}
-use Rattle.std.proofs.lemmas.Bool.{eqb-true}
-use Rattle.std.proofs.lemmas.List.{length-map}
+use Rattle.delivery.proofs.Words.Std.{eqb-true, length-map, option_map, option_and_then, option_to_list}
+use Rattle.delivery.proofs.Words.Topics.{Topic, TxnId, SentMessage, ticket_rows, part_at, Slots, held_at, with_slot, TopicPart, topics_of, GateState, FlightState}
+use Rattle.delivery.proofs.Words.Lemmas.{some_same, none_some}
+use Rattle.delivery.proofs.Words.Core.{Sending}
+use Rattle.delivery.proofs.Words.Views.{KeepsRoom, is_flying, flying_count, SenderView}
 use Rattle.std.specs.List.{find}
-use Rattle.std.specs.Option.{option_map, option_and_then, option_to_list}
-use Rattle.mcast_txn.specs.declared.id.Topic.{Topic}
-use Rattle.mcast_txn.specs.declared.id.TxnId.{TxnId}
-use Rattle.mcast_txn.specs.declared.draft.sent_message.SentMessage.{SentMessage}
-use Rattle.mcast_txn.specs.Ballot.{ticket_rows}
-use Rattle.mcast_txn.specs.Part.{part_at}
-use Rattle.mcast_txn.specs.Slots.{Slots, held_at, with_slot}
-use Rattle.mcast_txn.specs.Transaction.{TopicPart, topics_of}
-use Rattle.mcast_group.proofs.Parts.{some_same, none_some}
-use Rattle.sender_gate.specs.Gate.{GateState, FlightState, flight_of}
-use Rattle.delivery.specs.declared.sending.Sending.{Sending}
-use Rattle.delivery.specs.Inner.Rooms.{AreOwn, KeepsRoom, is_flying, flying_count}
-use Rattle.delivery.specs.Inner.View.{SenderView}
+use Rattle.sender_gate.specs.Gate.{flight_of}
+use Rattle.delivery.specs.Inner.Rooms.{AreOwn}
 
 -- ---- the room for tickets
 

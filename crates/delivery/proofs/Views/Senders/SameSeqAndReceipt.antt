@@ -1,18 +1,12 @@
 -- A sender that becomes another with the same seq and the same receipt to come, and a topic that becomes another: no endpoint
 -- and no verdict changes.
 use Rattle.std.proofs.Common.{◌≡◌, ◌≢◌, ℕ, ◌<◌, List, length, set, Option, refl, sym, ap, ◌∙◌}
-use Rattle.std.proofs.lemmas.List.{map-set, set-get_or}
-use Rattle.stomp_frame.specs.declared.raw_frame.RawFrame.{RawFrame}
-use Rattle.stomp_frame.specs.Reader.{Unread}
-use Rattle.mcast_txn.specs.declared.id.Topic.{Topic}
-use Rattle.mcast_group.specs.Group.{GroupState}
-use Rattle.mcast_group.specs.Machine.{TopicState}
-use Rattle.delivery.specs.declared.stage.Stage.{Stage}
-use Rattle.delivery.specs.Machine.World.{World, Undecided, SenderState, Connection, Standing, nobody, connection_at, sender_at, speaker, with_sender, with_topic, speaker_number}
-use Rattle.delivery.specs.Core.State.{Core, names_at}
-use Rattle.delivery.specs.Core.Reports.{each_number}
-use Rattle.delivery.specs.Inner.Stands.{IsReached}
-use Rattle.delivery.specs.Inner.View.{EndpointView, view_with, sender_view, endpoint_view, stage_view, pending_receipt, verdict_list, group_view}
+use Rattle.delivery.proofs.Words.Std.{map-set, set-get_or}
+use Rattle.delivery.proofs.Words.Topics.{Topic, GroupState, TopicState}
+use Rattle.delivery.proofs.Words.Frames.{RawFrame, Unread}
+use Rattle.delivery.proofs.Words.Machine.{World, Undecided, SenderState, Connection, Standing, nobody, connection_at, sender_at, speaker, with_sender, with_topic, speaker_number}
+use Rattle.delivery.proofs.Words.Core.{Stage, Core, names_at, each_number}
+use Rattle.delivery.proofs.Words.Views.{IsReached, EndpointView, view_with, sender_view, endpoint_view, stage_view, pending_receipt, verdict_list, group_view}
 use Rattle.delivery.proofs.Views.Senders.SenderChanges.{IsSpeaking, number_at, number_set, endpoint_of_stage, stage_kept, speaker_there, speaker_with, lists_with, endpoint_with_sender}
 
 -- a stage depends on the transaction by its receipt alone

@@ -1,23 +1,11 @@
 -- A sender that becomes another: what is held of it, of its endpoint and of its verdicts. No other connection that is there speaks for it.
 use Rattle.std.proofs.Common.{◌≡◌, ◌≢◌, ℕ, ◌+◌, ◌-◌, ◌<◌, ◌≤◌, nat_lt, Bool, true, false, cond, List, length, get_or, set, Option, Some, None, refl, sym, ap, ◌∙◌, arith}
-use Rattle.std.specs.Prelude.{slice_get}
-use Rattle.std.proofs.lemmas.Bool.{ltb-true, ltb-false}
-use Rattle.std.proofs.lemmas.List.{get_or-set_same, get_or-set_other, set-get_or}
-use Rattle.std.specs.Option.{option_and_then, unwrap_or}
-use Rattle.stomp_frame.specs.declared.raw_frame.RawFrame.{RawFrame}
-use Rattle.stomp_frame.specs.Reader.{Unread}
-use Rattle.mcast_txn.specs.declared.id.TxnId.{TxnId}
-use Rattle.mcast_txn.specs.Ballot.{Decision}
-use Rattle.delivery.specs.Machine.World.{World, SenderState, Connection, Standing, is_gone, is_in_use, new_sender, nobody, connection_at, sender_at, speaker, speaks_for, with_sender, speaker_number}
-use Rattle.delivery.specs.Machine.Moves.{find_verdict}
-use Rattle.delivery.specs.Core.Output.{text_out, subscribe_frame}
-use Rattle.delivery.specs.Core.State.{Core, unread_at, names_at}
-use Rattle.delivery.specs.Core.Steps.{accepted_of}
-use Rattle.delivery.specs.Core.Reports.{each_number}
-use Rattle.delivery.specs.Inner.Senders.{speaker_at, sender_in, no_sender}
-use Rattle.delivery.specs.Inner.Stands.{IsReached}
-use Rattle.delivery.specs.Core.Connections.{live_numbers}
-use Rattle.delivery.specs.Inner.View.{EndpointView, view_of, view_with, held_sender, sender_view, endpoint_view, stage_view, no_endpoint, verdict_list}
+use Rattle.delivery.proofs.Words.Std.{slice_get, ltb-true, ltb-false, get_or-set_same, get_or-set_other, set-get_or, option_and_then, unwrap_or}
+use Rattle.delivery.proofs.Words.Topics.{TxnId, Decision}
+use Rattle.delivery.proofs.Words.Frames.{RawFrame, Unread}
+use Rattle.delivery.proofs.Words.Machine.{World, SenderState, Connection, Standing, is_gone, is_in_use, new_sender, nobody, connection_at, sender_at, speaker, speaks_for, with_sender, speaker_number, find_verdict}
+use Rattle.delivery.proofs.Words.Core.{text_out, subscribe_frame, Core, unread_at, names_at, accepted_of, each_number, live_numbers}
+use Rattle.delivery.proofs.Words.Views.{speaker_at, sender_in, no_sender, IsReached, EndpointView, view_of, view_with, held_sender, sender_view, endpoint_view, stage_view, no_endpoint, verdict_list}
 use Rattle.delivery.proofs.Views.Lists.ByNumber.{each_number-set, get_or-each_number, length-each_number}
 use Rattle.delivery.proofs.Views.Endpoints.StandingOfConnection.{differ}
 use Rattle.delivery.proofs.Views.Verdicts.FoundVerdict.{verdict_is, table, list_of, not_in_list}

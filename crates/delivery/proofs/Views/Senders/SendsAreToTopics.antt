@@ -1,31 +1,18 @@
 -- The SENDs that an accepted frame commits are to topics that there are.
 use Rattle.std.proofs.Common.{◌≡◌, ℕ, suc, ◌+◌, ◌<◌, ◌≤◌, Bool, true, false, cond, not, ◌&&◌, ◌||◌, inl, inr, List, [], ◌∷◌, length, map, Option, Some, None, refl, sym, ap, subst, ◌∙◌, arith}
-use Rattle.std.specs.Prelude.{codes, filter}
-use Rattle.std.specs.List.{list_all, list_any}
-use Rattle.std.specs.Map.{lookup}
-use Rattle.std.specs.Option.{option_map_or, unwrap_or}
-use Rattle.std.specs.Str.{bytes_eq}
-use Rattle.std.proofs.lemmas.Bool.{false≢true, lt-ltb, and_from, and_parts}
-use Rattle.std.proofs.lemmas.List.{length-append}
-use Rattle.mcast_txn.specs.Lists.{In}
-use Rattle.mcast_txn.specs.declared.id.Topic.{Topic}
-use Rattle.mcast_txn.specs.declared.draft.sent_message.SentMessage.{SentMessage}
-use Rattle.stomp_frame.specs.declared.command.Command.{Command}
+use Rattle.delivery.proofs.Words.Std.{codes, list_all, list_any, lookup, option_map_or, unwrap_or, bytes_eq, false≢true, lt-ltb, and_from, and_parts, length-append}
+use Rattle.delivery.proofs.Words.Topics.{In, Topic, SentMessage}
+use Rattle.delivery.proofs.Words.Frames.{Command, RawFrame, first_of, action_by, commit, field, has_destination, is_begin, is_send, is_send_in, names_transaction, send_of, topic_of, transaction_of, with_destination, is_known, Held, is_ended, transactions_left, sends_in}
+use Rattle.delivery.proofs.Words.Lemmas.{known-with_destination, topic-with_destination, with_destination-grows}
+use Rattle.delivery.proofs.Words.Machine.{World, is_topic}
+use Rattle.delivery.proofs.Words.Core.{accepted_of, Core, core_for, names_at, session_at}
+use Rattle.delivery.proofs.Words.Views.{IsReached}
+use Rattle.std.specs.Prelude.{filter}
 use Rattle.stomp_frame.specs.declared.command.Command.TheVariants as commands
-use Rattle.stomp_frame.specs.declared.raw_frame.RawFrame.{RawFrame}
-use Rattle.stomp_frame.specs.Headers.{first_of}
 use Rattle.stomp_session.specs.declared.action.Action.TheVariants as actions
-use Rattle.stomp_session.specs.Answers.{action_by, commit}
-use Rattle.stomp_session.specs.Frames.{field, has_destination, is_begin, is_send, is_send_in, names_transaction, send_of, topic_of, transaction_of, with_destination}
-use Rattle.stomp_session.specs.Names.{is_known, index_of}
-use Rattle.stomp_session.specs.Open.{Held, is_ended, open_transactions, transactions_left}
-use Rattle.stomp_session.specs.Refusals.{sends_in}
-use Rattle.stomp_session.proofs.Later.{known-with_destination, topic-with_destination, with_destination-grows, first_index, index_is_first, send_has}
-use Rattle.delivery.specs.Machine.World.{World}
-use Rattle.delivery.specs.Machine.Moves.{is_topic}
-use Rattle.delivery.specs.Core.Steps.{accepted_of}
-use Rattle.delivery.specs.Core.State.{Core, core_for, names_at, session_at}
-use Rattle.delivery.specs.Inner.Stands.{IsReached}
+use Rattle.stomp_session.specs.Names.{index_of}
+use Rattle.stomp_session.specs.Open.{open_transactions}
+use Rattle.stomp_session.proofs.Later.{first_index, index_is_first, send_has}
 use Rattle.delivery.proofs.Core.Counts.{topic_for_name, topics_counted}
 use Rattle.delivery.proofs.Core.NamesKnown.{known_all}
 

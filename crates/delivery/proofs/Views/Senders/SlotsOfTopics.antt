@@ -1,16 +1,11 @@
 -- Slots of a transaction's topics: looked up, and written.
 use Rattle.std.proofs.Common.{◌≡◌, ◌≢◌, ℕ, ◌==◌, Bool, true, false, cond, ◌||◌, List, [], ◌∷◌, map, Option, Some, None, inl, inr, refl, sym, ap, ◌∙◌, nat_lt}
-use Rattle.std.proofs.lemmas.Bool.{eqb-true, eq-eqb, true≢false, or_parts}
+use Rattle.delivery.proofs.Words.Std.{eqb-true, eq-eqb, true≢false, or_parts, option_map, option_and_then}
+use Rattle.delivery.proofs.Words.Topics.{Topic, Stamp, row_at, Slots, slot_at, held_at, with_slot, names}
+use Rattle.delivery.proofs.Words.Lemmas.{or_third}
+use Rattle.delivery.proofs.Words.Machine.{has_ticket, insert_ticket}
+use Rattle.delivery.proofs.Words.Views.{is_slot}
 use Rattle.std.specs.List.{find}
-use Rattle.std.specs.Option.{option_map, option_and_then}
-use Rattle.stomp_frame.proofs.Names.{or_third}
-use Rattle.mcast_txn.specs.declared.id.Topic.{Topic}
-use Rattle.mcast_txn.specs.declared.stamp.Stamp.{Stamp}
-use Rattle.mcast_txn.specs.Ballot.{row_at}
-use Rattle.mcast_txn.specs.Slots.{Slots, slot_at, held_at, with_slot}
-use Rattle.mcast_txn.specs.TopicSet.{names}
-use Rattle.delivery.specs.Machine.Moves.{has_ticket, insert_ticket}
-use Rattle.delivery.specs.Inner.Senders.{is_slot}
 use Rattle.delivery.proofs.Views.Endpoints.StandingOfConnection.{same_or, differ}
 
 -- the topics of these slots

@@ -1,33 +1,15 @@
 -- The tickets of an undecided transaction rise by topic and are of named topics: so they are those of its topics, in
 -- their order.
 use Rattle.std.proofs.Common.{◌≡◌, ◌≢◌, ℕ, ◌+◌, ◌<◌, ◌==◌, Bool, true, false, cond, nat_lt, ◌||◌, inl, inr, List, [], ◌∷◌, ◌++◌, map, set, Option, Some, None, refl, sym, ap, subst, ◌∙◌, arith}
-use Rattle.std.proofs.lemmas.Bool.{eq-eqb, ltb-true, ltb-false, false≢true}
-use Rattle.std.specs.Prelude.{slice_get}
-use Rattle.std.specs.List.{AllByRecursion, find}
-use Rattle.std.specs.Option.{option_map, option_to_list}
-use Rattle.mcast_txn.specs.declared.id.Topic.{Topic}
-use Rattle.mcast_txn.specs.declared.id.TxnId.{TxnId}
-use Rattle.mcast_txn.specs.declared.draft.sent_message.SentMessage.{SentMessage}
-use Rattle.mcast_txn.specs.declared.stamp.Stamp.{Stamp}
-use Rattle.mcast_txn.specs.Ballot.{Decision, row_at, slots_of_rows, ticket_rows}
-use Rattle.mcast_txn.specs.Lists.{In, RisesBy}
-use Rattle.mcast_txn.specs.Slots.{Slots}
-use Rattle.mcast_txn.specs.Span.{Item}
-use Rattle.mcast_txn.specs.Transaction.{topics_of}
-use Rattle.mcast_txn.specs.TopicSet.{names}
-use Rattle.mcast_txn.proofs.Inserting.{In-insert_cases}
-use Rattle.mcast_txn.proofs.Members.{at_set}
-use Rattle.mcast_txn.proofs.TopicLemmas.{topics_rise}
-use Rattle.mcast_group.specs.declared.fault.ProposeFault.{ProposeFault}
-use Rattle.mcast_group.specs.Machine.{Entry}
-use Rattle.mcast_group.proofs.Parts.{some_same, none_some}
-use Rattle.delivery.specs.Machine.World.{World, Undecided, Leftover, SenderState, new_sender, subscription_at, sender_at, speaker, entry_at, speaker_number}
-use Rattle.delivery.specs.Machine.Observed.{accepted_at}
-use Rattle.delivery.specs.Machine.Moves.{Move, move_refusal, move_effect, undecided_at, find_leftover, find_verdict, oldest_live, insert_ticket, next_ticket, next_txn, commit_effect, proposal_fault, propose_effect, cancel_effect, learn_effect, take_effect, leave_effect, close_effect_of, claimed_senders}
+use Rattle.delivery.proofs.Words.Std.{eq-eqb, ltb-true, ltb-false, false≢true, slice_get, AllByRecursion, option_map, option_to_list}
+use Rattle.delivery.proofs.Words.Topics.{Topic, TxnId, SentMessage, Stamp, Decision, row_at, ticket_rows, In, RisesBy, Slots, Item, topics_of, names, ProposeFault, Entry}
+use Rattle.delivery.proofs.Words.Lemmas.{In-insert_cases, at_set, topics_rise, some_same, none_some}
+use Rattle.delivery.proofs.Words.Machine.{World, Undecided, Leftover, SenderState, new_sender, subscription_at, sender_at, speaker, entry_at, speaker_number, accepted_at, Move, move_refusal, move_effect, undecided_at, find_leftover, find_verdict, oldest_live, insert_ticket, next_ticket, next_txn, commit_effect, proposal_fault, propose_effect, cancel_effect, learn_effect, take_effect, leave_effect, close_effect_of, claimed_senders, Run, final_world}
+use Rattle.delivery.proofs.Words.Core.{Core}
+use Rattle.delivery.proofs.Words.Views.{IsReached}
+use Rattle.std.specs.List.{find}
+use Rattle.mcast_txn.specs.Ballot.{slots_of_rows}
 use Rattle.delivery.specs.Machine.Moves.Move.{Connects, Commits, Unsubscribes, Leaves, Proposes, Decides, Withdraws, Cancels, Learns, Takes}
-use Rattle.delivery.specs.Theorem.Laws.{Run, final_world}
-use Rattle.delivery.specs.Core.State.{Core}
-use Rattle.delivery.specs.Inner.Stands.{IsReached}
 use Rattle.delivery.proofs.Machine.Invariant.{sender_in}
 use Rattle.delivery.proofs.Machine.ProposeStep.{not_given}
 use Rattle.delivery.proofs.Machine.SubscriptionSteps.{at_push_two}

@@ -1,33 +1,16 @@
 -- A subscription that is closed.
 use Rattle.std.proofs.Common.{◌≡◌, ◌≢◌, ℕ, zero, suc, ◌+◌, ◌<◌, ◌≤◌, ◌==◌, Bool, true, false, cond, not, ◌&&◌, inl, inr, List, [], ◌∷◌, filter, map, length, get_or, set, Option, Some, None, refl, sym, ap, subst, ◌∙◌, arith}
 use Rattle.std.proofs.Common.{eq-eqb, nat_lt}
-use Rattle.std.specs.Prelude.{slice_get}
-use Rattle.std.specs.List.{position, position_or_len, remove}
-use Rattle.std.specs.Option.{is_some, option_map, option_map_or, option_and_then}
-use Rattle.std.proofs.lemmas.Bool.{eqb-true, cases_lt}
-use Rattle.std.proofs.lemmas.Option.{slice_get-get_or, get_or_from_slice_get}
-use Rattle.std.proofs.lemmas.List.{get_or-map, map-set, set-get_or, get_or-set_same, get_or-set_other}
-use Rattle.mcast_txn.proofs.Members.{at_set}
-use Rattle.mcast_txn.specs.declared.id.Topic.{Topic}
-use Rattle.mcast_txn.specs.Stamp.{zero_stamp}
-use Rattle.stomp_frame.specs.declared.raw_frame.RawFrame.{RawFrame}
-use Rattle.stomp_frame.specs.Reader.{Unread}
-use Rattle.stomp_session.specs.Frames.{id_of, wants_parts}
-use Rattle.sub_queue.specs.Shown.{Gauge}
-use Rattle.mcast_group.specs.Sound.{NumbersDiffer}
-use Rattle.mcast_group.specs.Group.{GroupState, gauge_at, gauges_without, group_after_unsubscribe}
-use Rattle.mcast_group.specs.Machine.{TopicState, Entry, new_topic, find_entry, end_of, after_unsubscribe}
-use Rattle.mcast_group.proofs.Numbers.{numbers_differ}
+use Rattle.delivery.proofs.Words.Std.{slice_get, position, position_or_len, remove, is_some, option_map, option_map_or, option_and_then, eqb-true, cases_lt, slice_get-get_or, get_or_from_slice_get, get_or-map, map-set, set-get_or, get_or-set_same, get_or-set_other}
+use Rattle.delivery.proofs.Words.Topics.{Topic, zero_stamp, Gauge, NumbersDiffer, GroupState, gauge_at, TopicState, Entry, new_topic, find_entry, end_of, after_unsubscribe}
+use Rattle.delivery.proofs.Words.Frames.{RawFrame, Unread, id_of, wants_parts}
+use Rattle.delivery.proofs.Words.Lemmas.{at_set, numbers_differ}
+use Rattle.delivery.proofs.Words.Machine.{World, Connection, Subscription, no_subscription, nobody, topic_at, subscription_at, entry_at, is_live, end_now, close_effect, close_effect_of, final_world}
+use Rattle.delivery.proofs.Words.Core.{Core, names_at, each_number, live_numbers}
+use Rattle.delivery.proofs.Words.Views.{IsReached, View, EndpointView, SubView, LeftView, view_with, group_view, queue_gauge, left_view, endpoint_view, sub_view, no_group, no_endpoint, group_in, no_sub, left_in, left_at, without_number, closed_with, closed_if_left, closed_view}
+use Rattle.mcast_group.specs.Group.{gauges_without, group_after_unsubscribe}
 use Rattle.mcast_group.proofs.Subscribing.{others_stay}
-use Rattle.delivery.specs.Machine.World.{World, Connection, Subscription, no_subscription, nobody, topic_at, subscription_at, entry_at}
-use Rattle.delivery.specs.Machine.Moves.{is_live, end_now, close_effect, close_effect_of}
-use Rattle.delivery.specs.Theorem.Laws.{final_world}
-use Rattle.delivery.specs.Core.State.{Core, names_at}
-use Rattle.delivery.specs.Core.Reports.{each_number}
-use Rattle.delivery.specs.Inner.Stands.{IsReached}
-use Rattle.delivery.specs.Core.Connections.{live_numbers}
-use Rattle.delivery.specs.Inner.View.{View, EndpointView, SubView, LeftView, view_with, group_view, queue_gauge, left_view, endpoint_view, sub_view, no_group, no_endpoint, group_in}
-use Rattle.delivery.specs.Inner.Subscriptions.{no_sub, left_with, left_in, left_at, without_number, shorter_endpoint, closed_with, closed_if_left, closed_view}
+use Rattle.delivery.specs.Inner.Subscriptions.{left_with, shorter_endpoint}
 use Rattle.delivery.proofs.Machine.SubscriptionSteps.{found_entry, beyond}
 use Rattle.delivery.proofs.Theorem.TopicsAreSound.{topics_are_sound}
 use Rattle.delivery.proofs.Views.Runs.ByRunOfCore.{by_world}

@@ -1,15 +1,11 @@
 -- What is found by a subscription's number in its topic's group: its gauge, and what its queue shows.
 use Rattle.std.proofs.Common.{◌≡◌, ℕ, ◌==◌, Bool, true, false, cond, List, [], ◌∷◌, map, Option, Some, None, inl, inr, refl, sym, ap, ◌∙◌}
 use Rattle.std.proofs.Common.{eq-eqb}
-use Rattle.std.specs.Option.{is_some, option_map}
-use Rattle.std.proofs.lemmas.Bool.{eqb-true, true≢false, cases_Bool}
-use Rattle.mcast_txn.specs.Lists.{In}
-use Rattle.sub_queue.specs.Shown.{Gauge}
-use Rattle.mcast_group.proofs.Parts.{not_true}
-use Rattle.mcast_group.specs.Group.{shows, shown_with, shown_at, gauge_at}
-use Rattle.mcast_group.specs.Machine.{TopicState, Entry, find_entry}
-use Rattle.delivery.specs.Machine.World.{World}
-use Rattle.delivery.specs.Inner.View.{group_view, queue_gauge}
+use Rattle.delivery.proofs.Words.Std.{is_some, option_map, eqb-true, true≢false, cases_Bool}
+use Rattle.delivery.proofs.Words.Topics.{In, Gauge, shows, shown_with, shown_at, gauge_at, TopicState, Entry, find_entry}
+use Rattle.delivery.proofs.Words.Lemmas.{not_true}
+use Rattle.delivery.proofs.Words.Machine.{World}
+use Rattle.delivery.proofs.Words.Views.{group_view, queue_gauge}
 
 -- the gauge that is found is that of the entry that is found
 pub gauge_is : (gauge : ℕ → Gauge) (n : ℕ) (es : List Entry)

@@ -1,31 +1,18 @@
 -- A subscription that begins.
 use Rattle.std.proofs.Common.{◌≡◌, ◌≢◌, ℕ, suc, ◌+◌, ◌<◌, nat_lt, Bool, true, false, cond, ◌&&◌, List, [], ◌∷◌, ◌++◌, map, length, get_or, set, Option, Some, None, refl, sym, ap, ◌∙◌, arith}
 use Rattle.std.proofs.Common.{eq-eqb}
-use Rattle.std.specs.Prelude.{slice_get}
-use Rattle.std.specs.List.{find, position, position_or_len}
-use Rattle.std.specs.Option.{option_map, option_map_or}
-use Rattle.std.proofs.lemmas.Option.{slice_get-get_or, slice_get_past}
+use Rattle.delivery.proofs.Words.Std.{slice_get, position, position_or_len, option_map, option_map_or, slice_get-get_or, slice_get_past, get_or-map, map-set, set-get_or, get_or_append_left, append-nil}
+use Rattle.delivery.proofs.Words.Topics.{Topic, Stamp, Gauge, GroupState, TopicState, Entry, new_topic, insert_entry, after_subscribe}
+use Rattle.delivery.proofs.Words.Frames.{RawFrame, Unread, id_of, wants_parts}
+use Rattle.delivery.proofs.Words.Machine.{World, Connection, Subscription, no_subscription, nobody, topic_at, subscription_at, is_live}
+use Rattle.delivery.proofs.Words.Core.{Event, Outcome, CoreStep, Reading, subscribe_frame, each_number, live_numbers}
+use Rattle.delivery.proofs.Words.Views.{EndpointView, SubView, view_with, group_view, queue_gauge, left_view, endpoint_view, sub_view, no_group, no_endpoint, group_in, subscribed_view}
+use Rattle.std.specs.List.{find}
 use Rattle.std.proofs.lemmas.List.Folds.{find_at}
-use Rattle.std.proofs.lemmas.List.{get_or-map, map-set, set-get_or, get_or_append_left, append-nil}
-use Rattle.mcast_txn.specs.declared.id.Topic.{Topic}
-use Rattle.mcast_txn.specs.declared.stamp.Stamp.{Stamp}
-use Rattle.stomp_frame.specs.declared.raw_frame.RawFrame.{RawFrame}
-use Rattle.stomp_frame.specs.Reader.{Unread}
-use Rattle.stomp_session.specs.Frames.{id_of, wants_parts}
-use Rattle.sub_queue.specs.Shown.{Gauge}
-use Rattle.mcast_group.specs.Group.{GroupState, gauges_with, group_after_subscribe}
-use Rattle.mcast_group.specs.Machine.{TopicState, Entry, new_topic, insert_entry, after_subscribe}
+use Rattle.mcast_group.specs.Group.{gauges_with, group_after_subscribe}
 use Rattle.mcast_group.proofs.Indices.{in_range}
-use Rattle.delivery.specs.declared.event.Event.{Event}
-use Rattle.delivery.specs.declared.outcome.Outcome.{Outcome}
-use Rattle.delivery.specs.Machine.World.{World, Connection, Subscription, no_subscription, nobody, topic_at, subscription_at}
-use Rattle.delivery.specs.Machine.Moves.{is_live, subscribe_effect}
-use Rattle.delivery.specs.Core.Steps.{CoreStep, Reading}
-use Rattle.delivery.specs.Core.Output.{subscribe_frame}
-use Rattle.delivery.specs.Core.Reports.{each_number}
-use Rattle.delivery.specs.Core.Connections.{live_numbers}
-use Rattle.delivery.specs.Inner.View.{EndpointView, SubView, view_with, group_view, queue_gauge, left_view, endpoint_view, sub_view, no_group, no_endpoint, group_in}
-use Rattle.delivery.specs.Inner.Subscriptions.{longer_endpoint, new_gauge, subscribed_view}
+use Rattle.delivery.specs.Machine.Moves.{subscribe_effect}
+use Rattle.delivery.specs.Inner.Subscriptions.{longer_endpoint, new_gauge}
 use Rattle.delivery.proofs.Machine.SubscriptionSteps.{at_push_two, at_end, beyond}
 use Rattle.delivery.proofs.Views.Lists.ByNumber.{each_number-push, each_number-same, each_number-set, get_or-each_number, length-each_number, index_is, end_is}
 use Rattle.delivery.proofs.Views.Endpoints.StandingOfConnection.{differ}

@@ -2,45 +2,18 @@
 -- its id and its topic, and an id that is open names its live subscription.
 use Rattle.std.proofs.Common.{◌≡◌, ◌≢◌, ℕ, suc, ◌+◌, ◌<◌, ◌≤◌, ◌==◌, Bool, true, false, cond, not, ◌&&◌, ◌||◌, inl, inr, List, [], ◌∷◌, ◌++◌, map, length, get_or, Option, Some, None, refl, sym, ap, subst, ◌∙◌, arith}
 use Rattle.std.proofs.Common.{eq-eqb, nat_lt}
-use Rattle.std.specs.List.{list_any, find}
-use Rattle.std.specs.Option.{is_some, option_map_or, option_or, option_to_list, unwrap_or}
-use Rattle.std.specs.Str.{bytes_eq}
-use Rattle.std.proofs.lemmas.Bool.{eqb-true, lt-ltb, false≢true, or_parts, cases_lt}
-use Rattle.std.proofs.lemmas.List.{map-append, get_or_append_left}
-use Rattle.std.proofs.lemmas.Option.{slice_get-get_or}
+use Rattle.delivery.proofs.Words.Std.{list_any, is_some, option_map_or, option_or, option_to_list, unwrap_or, bytes_eq, eqb-true, lt-ltb, false≢true, or_parts, cases_lt, map-append, get_or_append_left, slice_get-get_or}
+use Rattle.delivery.proofs.Words.Topics.{first_refusal, Topic, In, NoSub, Entry}
+use Rattle.delivery.proofs.Words.Frames.{Command, RawFrame, Unread, SessionFault, topic_of, id_of, is_subscribe, is_unsubscribe, is_disconnect, entries_without, Held, subscriptions_left, is_ended, is_open, is_closed, session_fault, open_refusals}
+use Rattle.delivery.proofs.Words.Lemmas.{In-push_cases, at_set, none_some}
+use Rattle.delivery.proofs.Words.Machine.{World, Subscription, no_subscription, is_reading, connection_at, subscription_at, entry_at, Objection, Move, is_live, is_topic, needs_idle, move_refusal, final_world}
+use Rattle.delivery.proofs.Words.Core.{TopicList, Outcome, CoreStep, frame_in, accepted_of, is_next, has_id, begun_by, number_by, subscribe_frame, sub_id_text, Core, core_of, core_after, moves, session_at, names_at, IsCoreRun, each_number, live_numbers}
+use Rattle.delivery.proofs.Words.Views.{IsReached, EndpointView, SubView, view_with, endpoint_view, sub_view, no_endpoint, without_number, has_sub_id, number_in}
+use Rattle.std.specs.List.{find}
 use Rattle.std.proofs.lemmas.Slice.Eq.{bytes_eq-Decides}
-use Rattle.stomp_frame.specs.declared.command.Command.{Command}
 use Rattle.stomp_frame.specs.declared.command.Command.TheVariants as commands
-use Rattle.stomp_frame.specs.declared.raw_frame.RawFrame.{RawFrame}
-use Rattle.stomp_frame.specs.Reader.{Unread}
-use Rattle.stomp_session.specs.declared.fault.SessionFault.{SessionFault}
 use Rattle.stomp_session.specs.declared.fault.SessionFault.TheVariants as faults
-use Rattle.mcast_txn.specs.Checks.{first_refusal}
-use Rattle.stomp_session.specs.Frames.{topic_of, id_of, is_subscribe, is_unsubscribe, is_disconnect}
-use Rattle.stomp_session.specs.Inner.Effects.{entries_without}
-use Rattle.stomp_session.specs.Open.{Held, subscriptions_left, is_ended}
-use Rattle.stomp_session.specs.Refusals.{is_open, is_closed, session_fault, open_refusals}
-use Rattle.mcast_txn.specs.declared.id.Topic.{Topic}
-use Rattle.mcast_txn.specs.Lists.{In}
-use Rattle.mcast_txn.proofs.Members.{In-push_cases, at_set}
-use Rattle.mcast_group.specs.declared.fault.NoSub.{NoSub}
-use Rattle.mcast_group.specs.Machine.{Entry}
-use Rattle.mcast_group.proofs.Parts.{none_some}
-use Rattle.delivery.specs.Topics.{TopicList}
-use Rattle.delivery.specs.declared.outcome.Outcome.{Outcome}
-use Rattle.delivery.specs.Machine.World.{World, Subscription, no_subscription, is_reading, connection_at, subscription_at, entry_at}
-use Rattle.delivery.specs.Machine.Objections.{Objection}
-use Rattle.delivery.specs.Machine.Moves.{Move, is_live, is_topic, needs_idle, move_refusal}
-use Rattle.delivery.specs.Theorem.Laws.{final_world}
-use Rattle.delivery.specs.Core.Steps.{CoreStep, frame_in, accepted_of, is_next, has_id, begun_by, number_by}
-use Rattle.delivery.specs.Core.Output.{subscribe_frame, sub_id_text}
-use Rattle.delivery.specs.Core.State.{Core, core_of, core_after, moves, session_at, names_at}
-use Rattle.delivery.specs.Core.Outcomes.{IsCoreRun}
-use Rattle.delivery.specs.Core.Reports.{each_number}
-use Rattle.delivery.specs.Inner.Stands.{IsReached}
-use Rattle.delivery.specs.Core.Connections.{live_numbers, live_sub}
-use Rattle.delivery.specs.Inner.View.{EndpointView, SubView, view_with, endpoint_view, sub_view, no_endpoint}
-use Rattle.delivery.specs.Inner.Subscriptions.{without_number, has_sub_id, number_in}
+use Rattle.delivery.specs.Core.Connections.{live_sub}
 use Rattle.delivery.proofs.Machine.SubscriptionSteps.{at_end}
 use Rattle.delivery.proofs.Theorem.NeverRefused.{entries_are_there}
 use Rattle.delivery.proofs.Core.AccountOfRun.{run_of, world_is}

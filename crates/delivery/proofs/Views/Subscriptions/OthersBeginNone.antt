@@ -1,20 +1,9 @@
 -- Outcomes that begin no subscription: those of each event but a Next.
 use Rattle.std.proofs.Common.{◌≡◌, ℕ, true, false, inl, inr, List, [], ◌∷◌, ◌++◌, Option, Some, None, refl, sym, ap, subst}
-use Rattle.mcast_txn.specs.Lists.{In}
-use Rattle.mcast_txn.specs.Checks.{first_refusal}
-use Rattle.mcast_txn.specs.Span.{Item}
-use Rattle.mcast_txn.specs.declared.id.Topic.{Topic}
-use Rattle.mcast_group.specs.declared.fault.ProposeFault.{ProposeFault}
-use Rattle.mcast_group.specs.Machine.{Pending}
-use Rattle.mcast_group.proofs.Parts.{some_same}
-use Rattle.delivery.specs.declared.event.Event.{Event}
-use Rattle.delivery.specs.declared.outcome.Outcome.{Outcome}
-use Rattle.delivery.specs.Machine.Objections.{Objection, refusal_of}
-use Rattle.delivery.specs.Machine.World.{World, Leftover}
-use Rattle.delivery.specs.Machine.Moves.{Move, move_refusal, move_answer, answer_to, needs_open, propose_answer, cancel_answer, release_answer, take_answer, leave_answer}
-use Rattle.delivery.specs.Core.Steps.{Reading, begun_by}
-use Rattle.delivery.specs.Core.State.{Core}
-use Rattle.delivery.specs.Core.Outcomes.{outcome_of, move_outcome, unless, cut_of, reply_outcomes, outcomes}
+use Rattle.delivery.proofs.Words.Topics.{In, first_refusal, Item, Topic, ProposeFault, Pending}
+use Rattle.delivery.proofs.Words.Lemmas.{some_same}
+use Rattle.delivery.proofs.Words.Machine.{Objection, refusal_of, World, Leftover, Move, move_refusal, move_answer, answer_to, needs_open, propose_answer, cancel_answer, release_answer, take_answer, leave_answer}
+use Rattle.delivery.proofs.Words.Core.{Event, Outcome, Reading, begun_by, Core, outcome_of, move_outcome, unless, cut_of, reply_outcomes, outcomes}
 use Rattle.delivery.proofs.Machine.SenderSteps.{In-append_cases}
 use Rattle.delivery.proofs.Core.AccountOfRun.{in_option, refusal_some, by_answer, replied, either_cut}
 

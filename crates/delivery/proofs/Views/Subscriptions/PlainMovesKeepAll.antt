@@ -1,21 +1,12 @@
 -- Moves that begin and end no subscription, but for the steps of a leaving: of a connection that is still open they
 -- change none.
 use Rattle.std.proofs.Common.{◌≡◌, ◌≢◌, ℕ, zero, suc, ◌+◌, ◌<◌, ◌≤◌, ◌==◌, true, false, cond, not, ◌&&◌, List, [], ◌∷◌, length, get_or, set, Option, Some, None, refl, sym, ap, subst, ◌∙◌, arith, ltb}
-use Rattle.std.proofs.lemmas.Bool.{ltb-true, false≢true, not-false}
-use Rattle.std.specs.Option.{is_some}
-use Rattle.mcast_txn.specs.declared.id.Topic.{Topic}
-use Rattle.mcast_txn.specs.declared.id.TxnId.{TxnId}
-use Rattle.mcast_txn.specs.declared.draft.sent_message.SentMessage.{SentMessage}
-use Rattle.mcast_txn.specs.Ballot.{Decision}
-use Rattle.mcast_txn.specs.Span.{Item}
-use Rattle.mcast_txn.proofs.Members.{at_set}
-use Rattle.mcast_group.specs.declared.fault.ProposeFault.{ProposeFault}
-use Rattle.mcast_group.specs.Machine.{Entry}
-use Rattle.delivery.specs.Machine.World.{World, Leftover, Subscription, no_subscription, subscription_at, speaker, entry_at}
-use Rattle.delivery.specs.Machine.Moves.{Move, world_after, move_refusal, move_effect, is_live, find_leftover, find_verdict, oldest_live, commit_effect, proposal_fault, propose_effect, cancel_effect, learn_effect, take_effect, leave_effect, close_effect_of}
+use Rattle.delivery.proofs.Words.Std.{ltb-true, false≢true, not-false, is_some}
+use Rattle.delivery.proofs.Words.Topics.{Topic, TxnId, SentMessage, Decision, Item, ProposeFault, Entry}
+use Rattle.delivery.proofs.Words.Lemmas.{at_set}
+use Rattle.delivery.proofs.Words.Machine.{World, Leftover, Subscription, no_subscription, subscription_at, speaker, entry_at, Move, world_after, move_refusal, move_effect, is_live, find_leftover, find_verdict, oldest_live, commit_effect, proposal_fault, propose_effect, cancel_effect, learn_effect, take_effect, leave_effect, close_effect_of, run}
+use Rattle.delivery.proofs.Words.Core.{live_numbers}
 use Rattle.delivery.specs.Machine.Moves.Move.{Commits, Subscribes, Unsubscribes, Leaves, Proposes, Cancels, Learns, Takes}
-use Rattle.delivery.specs.Machine.Runs.{run}
-use Rattle.delivery.specs.Core.Connections.{live_numbers}
 use Rattle.delivery.proofs.Machine.SubscriptionSteps.{set_length}
 use Rattle.delivery.proofs.Machine.InvariantIsKept.{by_refusal, checked}
 use Rattle.delivery.proofs.Theorem.ClosedIsSilent.{oldest_found}

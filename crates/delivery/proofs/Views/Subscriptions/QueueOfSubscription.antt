@@ -1,29 +1,16 @@
 -- The queue of a subscription that isn't closed: in its topic's group, and after a take.
 use Rattle.std.proofs.Common.{◌≡◌, ◌≢◌, ℕ, zero, suc, ◌+◌, ◌<◌, ◌==◌, Bool, true, false, cond, inl, inr, List, [], ◌∷◌, map, length, get_or, set, Option, Some, None, refl, sym, ap, subst, ◌∙◌, arith, eq-eqb}
-use Rattle.std.specs.Prelude.{slice_get}
-use Rattle.std.specs.Option.{is_some, option_map, option_map_or}
-use Rattle.std.proofs.lemmas.Bool.{eqb-true, true≢false, lt-ltb, cases_lt}
-use Rattle.std.proofs.lemmas.List.{get_or-set_same, get_or-set_other, get_or_past, get_or_default}
-use Rattle.stomp_frame.specs.declared.raw_frame.RawFrame.{RawFrame}
-use Rattle.stomp_session.specs.Frames.{id_of, wants_parts}
-use Rattle.mcast_txn.specs.Lists.{In}
-use Rattle.mcast_txn.specs.declared.id.Topic.{Topic}
-use Rattle.sub_queue.specs.Shown.{Gauge, gauge_after_take}
-use Rattle.mcast_group.specs.Counted.{gauges_after_take, group_after_take}
-use Rattle.mcast_group.specs.Group.{GroupState, shows}
-use Rattle.mcast_group.specs.Machine.{TopicState, Entry, EntryEnd, new_topic, find_entry}
-use Rattle.mcast_group.specs.Sound.{NumbersDiffer}
-use Rattle.mcast_group.proofs.Numbers.{numbers_differ}
-use Rattle.mcast_group.proofs.Parts.{none_some}
-use Rattle.delivery.specs.Machine.World.{World, Subscription, no_subscription, topic_at, subscription_at, entry_at, with_subscription}
-use Rattle.delivery.specs.Machine.Moves.{is_live}
-use Rattle.delivery.specs.Machine.Observed.{entry_to}
-use Rattle.delivery.specs.Core.Output.{subscribe_frame}
-use Rattle.delivery.specs.Core.State.{Core}
-use Rattle.delivery.specs.Core.Reports.{each_number}
-use Rattle.delivery.specs.Inner.Stands.{IsReached}
-use Rattle.delivery.specs.Inner.Takes.{sub_held, next_shown, next_of, has_lagged, group_held, next_held}
-use Rattle.delivery.specs.Core.Connections.{live_numbers}
+use Rattle.delivery.proofs.Words.Std.{slice_get, is_some, option_map, option_map_or, eqb-true, true≢false, lt-ltb, cases_lt, get_or-set_same, get_or-set_other, get_or_past, get_or_default}
+use Rattle.delivery.proofs.Words.Topics.{In, Topic, Gauge, group_after_take, GroupState, shows, TopicState, Entry, EntryEnd, new_topic, find_entry, NumbersDiffer}
+use Rattle.delivery.proofs.Words.Frames.{RawFrame, id_of, wants_parts}
+use Rattle.delivery.proofs.Words.Lemmas.{numbers_differ, none_some}
+use Rattle.delivery.proofs.Words.Machine.{World, Subscription, no_subscription, topic_at, subscription_at, entry_at, is_live, entry_to}
+use Rattle.delivery.proofs.Words.Core.{subscribe_frame, Core, each_number, live_numbers}
+use Rattle.delivery.proofs.Words.Views.{IsReached, sub_held, next_of, has_lagged, group_held, next_held, no_sub}
+use Rattle.sub_queue.specs.Shown.{gauge_after_take}
+use Rattle.mcast_group.specs.Counted.{gauges_after_take}
+use Rattle.delivery.specs.Machine.World.{with_subscription}
+use Rattle.delivery.specs.Inner.Takes.{next_shown}
 use Rattle.delivery.specs.Inner.View.{SubView, view_of, group_view, no_group, queue_gauge, sub_view, left_view as left_in_view}
 use Rattle.delivery.proofs.Machine.SubscriptionSteps.{found_entry}
 use Rattle.delivery.proofs.Theorem.AcceptedIsDue.{reached}
@@ -33,7 +20,6 @@ use Rattle.delivery.proofs.Views.Runs.ByRunOfCore.{by_world}
 use Rattle.delivery.proofs.Views.Events.ReleaseStep.{group_at}
 use Rattle.delivery.proofs.Views.Subscriptions.GaugesOfEntries.{shown_found}
 use Rattle.delivery.proofs.Views.Endpoints.StandingOfConnection.{same_or}
-use Rattle.delivery.specs.Inner.Subscriptions.{no_sub}
 
 -- ---- a queue
 

@@ -1,53 +1,21 @@
 -- What a step does to the subscriptions of a connection that is still open: it changes none, begins one or ends one.
 use Rattle.std.proofs.Common.{◌≡◌, ◌≢◌, ℕ, ◌+◌, ◌<◌, ◌==◌, Bool, true, false, cond, not, ◌&&◌, ◌||◌, ◌⊎◌, inl, inr, List, [], ◌∷◌, ◌++◌, length, get_or, set, Option, Some, None, refl, sym, ap, subst, ◌∙◌, arith}
 use Rattle.std.proofs.Common.{eq-eqb}
-use Rattle.std.proofs.lemmas.Bool.{eqb-true, ltb-true, false≢true, and_parts, not-false}
-use Rattle.std.proofs.lemmas.List.{append-nil, get_or_append_left}
-use Rattle.std.specs.Option.{is_some, option_map, option_map_or, option_or, option_and_then, option_to_list, unwrap_or}
-use Rattle.std.specs.Str.{bytes_eq}
-use Rattle.stomp_frame.specs.declared.command.Command.{Command}
+use Rattle.delivery.proofs.Words.Std.{eqb-true, ltb-true, false≢true, and_parts, not-false, append-nil, get_or_append_left, is_some, option_map, option_map_or, option_or, option_and_then, option_to_list, unwrap_or, bytes_eq, codes}
+use Rattle.delivery.proofs.Words.Topics.{Topic, Stamp, SentMessage, In, first_refusal, Entry}
+use Rattle.delivery.proofs.Words.Frames.{Command, RawFrame, case_fault, first_of, Unread, Action, SessionFault, action_by, commit, field, has_destination, topic_of, id_of, transaction_of, send_of, is_subscribe, is_unsubscribe, entries_without, Held, subscriptions_left, is_open, session_fault, sends_in, is_known}
+use Rattle.delivery.proofs.Words.Lemmas.{none_some, some_same}
+use Rattle.delivery.proofs.Words.Machine.{Objection, refusal_of, World, Subscription, no_subscription, topic_at, subscription_at, entry_at, Move, move_refusal, move_answer, needs_idle, is_live, commit_answer, close_effect_of, end_now, run}
+use Rattle.delivery.proofs.Words.Core.{ConnectionFault, Event, Outcome, Refusal, claims_of, claimed_sender, CoreStep, Reading, frame_in, has_effect, frame_from, accepted_of, has_id, begun_by, number_by, subscribe_frame, sub_id_text, is_cut, Core, core_after, moves, frame_move, session_at, is_faulted, is_no_memory, unread_at, core_for, names_at, topic_moves, claim_fault, outcome_of, move_outcome, unless, frame_no_memory, frame_fault, fault_outcomes, frame_outcome, reading_outcomes, outcomes, accepted_outcomes, is_any, wants_memory, live_numbers}
+use Rattle.delivery.proofs.Words.Views.{step_of}
 use Rattle.stomp_frame.specs.declared.command.Command.TheVariants as commands
-use Rattle.stomp_frame.specs.declared.raw_frame.RawFrame.{RawFrame}
-use Rattle.stomp_frame.specs.Cases.{case_fault}
-use Rattle.stomp_frame.specs.Headers.{first_of}
-use Rattle.std.specs.Prelude.{codes}
-use Rattle.stomp_frame.specs.Reader.{Unread}
-use Rattle.stomp_session.specs.declared.action.Action.{Action}
 use Rattle.stomp_session.specs.declared.action.Action.TheVariants as actions
-use Rattle.stomp_session.specs.declared.fault.SessionFault.{SessionFault}
-use Rattle.stomp_session.specs.Answers.{action_by, commit}
-use Rattle.stomp_session.specs.Frames.{field, has_destination, topic_of, id_of, transaction_of, send_of, is_subscribe, is_unsubscribe, names_subscription}
-use Rattle.stomp_session.specs.Inner.Effects.{entries_without}
-use Rattle.stomp_session.specs.Open.{Held, subscriptions_left}
-use Rattle.stomp_session.specs.Refusals.{is_open, session_fault, sends_in}
+use Rattle.stomp_session.specs.Frames.{names_subscription}
 use Rattle.stomp_session.proofs.LeftOpen.{opened, opened-quiet, opened-open, opened-close}
-use Rattle.mcast_txn.specs.declared.id.Topic.{Topic}
-use Rattle.mcast_txn.specs.declared.stamp.Stamp.{Stamp}
-use Rattle.mcast_txn.specs.declared.draft.sent_message.SentMessage.{SentMessage}
-use Rattle.mcast_txn.specs.Lists.{In}
-use Rattle.mcast_txn.specs.Checks.{first_refusal}
-use Rattle.mcast_group.specs.Machine.{Entry}
-use Rattle.mcast_group.proofs.Parts.{none_some, some_same}
-use Rattle.delivery.specs.declared.connection_fault.ConnectionFault.{ConnectionFault}
-use Rattle.delivery.specs.declared.event.Event.{Event}
-use Rattle.delivery.specs.declared.outcome.Outcome.{Outcome}
-use Rattle.delivery.specs.declared.refusal.Refusal.{Refusal}
-use Rattle.delivery.specs.Machine.Objections.{Objection, refusal_of}
-use Rattle.delivery.specs.Machine.World.{World, Subscription, no_subscription, topic_at, subscription_at, entry_at}
-use Rattle.delivery.specs.Machine.Moves.{Move, move_refusal, move_answer, needs_idle, is_live, commit_answer, close_effect_of, end_now}
-use Rattle.delivery.specs.Machine.Runs.{run}
-use Rattle.delivery.specs.Core.Claims.{claims_of, claimed_sender}
-use Rattle.delivery.specs.Core.Steps.{CoreStep, Reading, frame_in, has_effect, frame_from, accepted_of, has_id, begun_by, number_by}
-use Rattle.delivery.specs.Core.Output.{subscribe_frame, sub_id_text, is_cut}
-use Rattle.delivery.specs.Core.State.{Core, core_after, moves, frame_move, session_at, is_faulted, is_no_memory, unread_at, core_for, names_at, topic_moves}
 use Rattle.delivery.proofs.Machine.Effects.{made_world, made_answer}
 use Rattle.delivery.proofs.Core.ByRun.{run_append}
 use Rattle.delivery.proofs.Core.FrameWorld.{framed_none, no_topic, subs_for}
-use Rattle.stomp_session.specs.Names.{is_known}
 use Rattle.stomp_session.proofs.History.{subscriptions_left-opened, subscription_by_id}
-use Rattle.delivery.specs.Core.Outcomes.{claim_fault, outcome_of, move_outcome, unless, frame_no_memory, frame_fault, fault_outcomes, frame_outcome, reading_outcomes, outcomes, accepted_outcomes, is_any, wants_memory}
-use Rattle.delivery.specs.Inner.Stands.{step_of}
-use Rattle.delivery.specs.Core.Connections.{live_numbers}
 use Rattle.delivery.proofs.Machine.InvariantIsKept.{checked}
 use Rattle.delivery.proofs.Machine.SenderSteps.{In-append_cases}
 use Rattle.delivery.proofs.Core.Speaking.{open_in}

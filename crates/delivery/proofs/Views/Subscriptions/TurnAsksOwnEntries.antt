@@ -1,16 +1,7 @@
 -- A turn and a release ask only about entries with the numbers of their topic's, and about pending parts.
 use Rattle.std.proofs.Common.{◌≡◌, ℕ, zero, suc, Bool, List, [], ◌∷◌, map, length, Option, Some, None, inl, inr, refl, sym, ap, subst, ◌∙◌}
-use Rattle.mcast_txn.specs.declared.id.TxnId.{TxnId}
-use Rattle.mcast_txn.specs.declared.stamp.Stamp.{Stamp}
-use Rattle.mcast_txn.specs.Ballot.{Decision}
-use Rattle.mcast_txn.specs.Lists.{In}
-use Rattle.mcast_txn.specs.Span.{Item}
-use Rattle.mcast_txn.proofs.Members.{In-map_cases}
-use Rattle.mcast_group.specs.Machine.{TopicState, Pending, Entry, item_of, due_part, entry_after, after_release_of, after_release, after_tries, after_releases, after_turn}
-use Rattle.mcast_group.proofs.Queues.{delivered_number}
-use Rattle.mcast_group.proofs.Counting.{tried_all_subs}
-use Rattle.mcast_group.proofs.Parts.{after_release_if}
-use Rattle.mcast_group.proofs.Releasing.{delivered_by}
+use Rattle.delivery.proofs.Words.Topics.{TxnId, Stamp, Decision, In, Item, TopicState, Pending, Entry, item_of, due_part, entry_after, after_release_of, after_release, after_tries, after_releases, after_turn}
+use Rattle.delivery.proofs.Words.Lemmas.{In-map_cases, delivered_number, tried_all_subs, after_release_if, delivered_by}
 use Rattle.mcast_group.proofs.Waits.{same_found}
 
 -- two answers are one for entries with these numbers

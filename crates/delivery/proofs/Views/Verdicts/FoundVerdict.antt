@@ -1,34 +1,13 @@
 -- The verdict of a transaction by its sender and seq is the one that a search finds.
 use Rattle.std.proofs.Common.{◌≡◌, ◌≢◌, ℕ, zero, suc, ◌+◌, ◌-◌, ◌<◌, ◌≤◌, ◌==◌, Bool, true, false, cond, inl, inr, List, [], ◌∷◌, length, Option, Some, None, refl, sym, ap, subst, ◌∙◌, arith}
-use Rattle.std.proofs.lemmas.Bool.{eqb-true, eq-eqb, false≢true, cases_lt}
-use Rattle.std.proofs.lemmas.Option.{slice_get-get_or, slice_get_past}
+use Rattle.delivery.proofs.Words.Std.{eqb-true, eq-eqb, false≢true, cases_lt, slice_get-get_or, slice_get_past, slice_get, option_and_then}
+use Rattle.delivery.proofs.Words.Topics.{Topic, TxnId, SentMessage, Transaction, Decision, same_id, In, Item, topics_of, names, ProposeFault, Entry}
+use Rattle.delivery.proofs.Words.Lemmas.{id_equal}
+use Rattle.delivery.proofs.Words.Machine.{World, Undecided, Leftover, SenderState, new_sender, subscription_at, sender_at, speaker, entry_at, speaker_number, accepted_at, Move, Answer, move_refusal, move_effect, undecided_at, find_leftover, find_verdict, oldest_live, commit_effect, proposal_fault, propose_effect, cancel_effect, learn_effect, take_effect, leave_effect, close_effect_of, Numbered, txn_of_id, txn_count, Run, answers_of, final_world}
+use Rattle.delivery.proofs.Words.Core.{Core, each_number}
+use Rattle.delivery.proofs.Words.Views.{IsReached, verdict_at, view_of, verdict_list}
 use Rattle.std.proofs.lemmas.List.FromFn.{length-map-range_with_len, get_or-map-range_with_len}
-use Rattle.std.specs.Prelude.{slice_get}
-use Rattle.std.specs.Option.{option_and_then}
-use Rattle.mcast_txn.specs.declared.id.Topic.{Topic}
-use Rattle.mcast_txn.specs.declared.id.TxnId.{TxnId}
-use Rattle.mcast_txn.specs.declared.draft.sent_message.SentMessage.{SentMessage}
-use Rattle.mcast_txn.specs.Agreed.{Transaction}
-use Rattle.mcast_txn.specs.Ballot.{Decision}
-use Rattle.mcast_txn.specs.Ids.{same_id}
-use Rattle.mcast_txn.specs.Lists.{In}
-use Rattle.mcast_txn.specs.Span.{Item}
-use Rattle.mcast_txn.specs.Transaction.{topics_of}
-use Rattle.mcast_txn.specs.TopicSet.{names}
-use Rattle.mcast_txn.proofs.Orders.{id_equal}
-use Rattle.mcast_group.specs.declared.fault.ProposeFault.{ProposeFault}
-use Rattle.mcast_group.specs.Machine.{Entry}
-use Rattle.delivery.specs.Machine.World.{World, Undecided, Leftover, SenderState, new_sender, subscription_at, sender_at, speaker, entry_at, speaker_number}
-use Rattle.delivery.specs.Machine.Observed.{accepted_at}
-use Rattle.delivery.specs.Machine.Moves.{Move, Answer, move_refusal, move_effect, undecided_at, find_leftover, find_verdict, oldest_live, commit_effect, proposal_fault, propose_effect, cancel_effect, learn_effect, take_effect, leave_effect, close_effect_of}
 use Rattle.delivery.specs.Machine.Moves.Move.{Commits, Unsubscribes, Leaves, Proposes, Decides, Cancels, Learns, Takes}
-use Rattle.delivery.specs.Machine.Runs.{Numbered, txn_of_id, txn_count}
-use Rattle.delivery.specs.Theorem.Laws.{Run, answers_of, final_world}
-use Rattle.delivery.specs.Core.State.{Core}
-use Rattle.delivery.specs.Core.Reports.{each_number}
-use Rattle.delivery.specs.Inner.Stands.{IsReached}
-use Rattle.delivery.specs.Inner.Verdicts.{verdict_at}
-use Rattle.delivery.specs.Inner.View.{view_of, verdict_list}
 use Rattle.delivery.proofs.Machine.Invariant.{sender_in}
 use Rattle.delivery.proofs.Machine.SenderSteps.{In-append_cases}
 use Rattle.delivery.proofs.Machine.InvariantIsKept.{by_refusal, checked, in_flight, verdict_found}

@@ -1,17 +1,11 @@
 -- A verdict among those of its sender.
 use Rattle.std.proofs.Common.{◌≡◌, ◌≢◌, ℕ, zero, suc, ◌+◌, ◌-◌, ◌<◌, ◌≤◌, ◌==◌, Bool, true, false, cond, ◌&&◌, List, [], ◌∷◌, ◌++◌, map, set, Option, Some, None, refl, sym, ap, ◌∙◌, arith}
-use Rattle.std.specs.List.{range_with_len}
-use Rattle.mcast_txn.specs.declared.id.TxnId.{TxnId}
-use Rattle.mcast_txn.specs.Ballot.{Decision}
-use Rattle.mcast_txn.specs.Ids.{same_id}
-use Rattle.mcast_txn.proofs.Orders.{id_itself}
-use Rattle.mcast_group.proofs.Parts.{none_some}
-use Rattle.delivery.specs.Machine.World.{Undecided, sender_at}
-use Rattle.delivery.specs.Machine.Moves.{find_verdict}
-use Rattle.delivery.specs.Theorem.Laws.{Run, final_world}
-use Rattle.delivery.specs.Core.State.{Core}
-use Rattle.delivery.specs.Inner.Stands.{IsReached}
-use Rattle.delivery.specs.Inner.View.{verdict_list}
+use Rattle.delivery.proofs.Words.Std.{range_with_len}
+use Rattle.delivery.proofs.Words.Topics.{TxnId, Decision, same_id}
+use Rattle.delivery.proofs.Words.Lemmas.{id_itself, none_some}
+use Rattle.delivery.proofs.Words.Machine.{Undecided, sender_at, find_verdict, Run, final_world}
+use Rattle.delivery.proofs.Words.Core.{Core}
+use Rattle.delivery.proofs.Words.Views.{IsReached, verdict_list}
 use Rattle.delivery.proofs.Machine.InvariantIsKept.{verdict_found}
 use Rattle.delivery.proofs.Theorem.AcceptedIsDue.{reached}
 use Rattle.delivery.proofs.Views.Runs.ByRunOfCore.{by_world}

@@ -1,11 +1,9 @@
 -- A sender's verdicts among those of all.
 use Rattle.std.proofs.Common.{◌≡◌, ℕ, ◌<◌, ◌-◌, List, [], ◌∷◌, ◌++◌, map, length, take, get_or, set, zero, suc, Option, None, refl, sym, ap, ◌∙◌, arith}
 use Rattle.std.proofs.Common.{Vec, Box, Global}
-use Rattle.std.proofs.lemmas.List.{map-set, map-append, get_or-map, set-get_or, take-map, length-map, length-append}
-use Rattle.std.proofs.Math.Seq.{take-append_seam}
-use Rattle.std.specs.Option.{option_map}
+use Rattle.delivery.proofs.Words.Std.{map-set, map-append, get_or-map, set-get_or, take-map, length-map, length-append, take-append_seam, option_map}
+use Rattle.delivery.proofs.Words.Topics.{Decision}
 use Rattle.mcast_txn.specs.declared.ballot.verdict.Verdict.{Verdict}
-use Rattle.mcast_txn.specs.Ballot.{Decision}
 
 -- a sender's verdicts as the code has them
 abbrev pub Held : Type 0

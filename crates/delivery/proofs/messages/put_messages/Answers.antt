@@ -1,11 +1,7 @@
 use Rattle.std.proofs.Common.{◌≡◌, ◌++◌, ◌<◌, ℕ, List, Some, length, sym, ap, ◌∙◌, arith}
-use Rattle.std.specs.Prelude.{slice_get}
-use Rattle.stomp_frame.specs.ServerFrames.{message_frame, message_id}
-use Rattle.stomp_frame.specs.Writing.{spelling_of}
-use Rattle.mcast_txn.specs.declared.parts.part.Part.{Part}
-use Rattle.mcast_txn.specs.declared.parts.part_message.PartMessage.{PartMessage}
-use Rattle.mcast_txn.specs.declared.stamp.Stamp.{Stamp}
-use Rattle.mcast_txn.specs.Span.{Item}
+use Rattle.delivery.proofs.Words.Std.{slice_get}
+use Rattle.delivery.proofs.Words.Topics.{Part, PartMessage, Stamp, Item}
+use Rattle.delivery.proofs.Words.Frames.{message_frame, message_id, spelling_of}
 use Rattle.delivery.proofs.Views.Lists.TextOfMessages.{message_of, text_put}
 use Rattle.delivery.proofs.messages.put_messages.Goals as goal
 

@@ -1,14 +1,8 @@
 use Rattle.std.proofs.Common.{◌≡◌, ◌++◌, ◌<◌, ◌≤◌, ◌+◌, ℕ, List, Some, length, sym, ap, ◌∙◌, arith}
-use Rattle.std.specs.Prelude.{slice_get}
-use Rattle.std.specs.List.{enumerate_from}
+use Rattle.delivery.proofs.Words.Std.{slice_get, enumerate_from, length-enumerate_from}
+use Rattle.delivery.proofs.Words.Topics.{Part, PartMessage, Stamp, Item}
+use Rattle.delivery.proofs.Words.Frames.{message_id, part_message_frame, spelling_of}
 use Rattle.std.proofs.lemmas.List.{take_all}
-use Rattle.std.proofs.lemmas.List.FromFn.{length-enumerate_from}
-use Rattle.stomp_frame.specs.ServerFrames.{message_id, part_message_frame}
-use Rattle.stomp_frame.specs.Writing.{spelling_of}
-use Rattle.mcast_txn.specs.declared.parts.part.Part.{Part}
-use Rattle.mcast_txn.specs.declared.parts.part_message.PartMessage.{PartMessage}
-use Rattle.mcast_txn.specs.declared.stamp.Stamp.{Stamp}
-use Rattle.mcast_txn.specs.Span.{Item}
 use Rattle.delivery.proofs.Views.Lists.TextOfMessages.{placed_at, placed_of, text_of, text_put}
 use Rattle.delivery.proofs.messages.put_parts.Goals as goal
 

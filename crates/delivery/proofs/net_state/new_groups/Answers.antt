@@ -1,8 +1,8 @@
 use Rattle.std.proofs.Common.{◌<◌, ◌++◌, ◌∷◌, [], List, length, map, take, sym, ap, ◌∙◌, arith}
-use Rattle.mcast_group.specs.Group.{GroupState}
-use Rattle.delivery.specs.Machine.World.{new_topics}
-use Rattle.delivery.specs.Core.State.{log_limit}
-use Rattle.delivery.specs.Inner.View.{new_group}
+use Rattle.delivery.proofs.Words.Topics.{GroupState}
+use Rattle.delivery.proofs.Words.Machine.{new_topics}
+use Rattle.delivery.proofs.Words.Core.{log_limit}
+use Rattle.delivery.proofs.Words.Views.{new_group}
 use Rattle.delivery.proofs.Views.Lists.ByNumber.{new_groups-push}
 use Rattle.delivery.proofs.net_state.new_groups.Goals as goal
 

@@ -1,8 +1,7 @@
 use Rattle.std.proofs.Common.{◌≡◌, ◌<◌, ◌∷◌, [], ◌++◌, List, length, take, get_or, sym, ap, ◌∙◌, arith}
-use Rattle.std.proofs.lemmas.List.{append_assoc, take_more}
-use Rattle.std.proofs.lemmas.Option.{slice_get-get_or}
-use Rattle.mcast_txn.specs.declared.ballot.ticket.Ticket.{Ticket}
-use Rattle.mcast_group.proofs.Parts.{some_same}
+use Rattle.delivery.proofs.Words.Std.{append_assoc, take_more, slice_get-get_or}
+use Rattle.delivery.proofs.Words.Topics.{Ticket}
+use Rattle.delivery.proofs.Words.Lemmas.{some_same}
 use Rattle.delivery.proofs.sender_state.keep_tickets.Goals as goal
 
 pub loop-i-preserved : goal.loop-i-preserved

@@ -46,6 +46,8 @@ pub(super) struct Plan {
     pub(super) lags: bool,
     /// So many items are there before a lag is asked for; the others come then.
     pub(super) early: u64,
+    /// So many octets it grants.
+    pub(super) memory: u64,
 }
 
 /// Nothing is refused.
@@ -56,6 +58,7 @@ pub(super) const WILLING: Plan = Plan {
     seq: 0,
     lags: false,
     early: u64::MAX,
+    memory: u64::MAX,
 };
 
 /// A subscription of the fake broker.
@@ -196,6 +199,8 @@ impl BrokerCalls for Fake {
 
     ghost name = { λ sub. record { topic = sub.topic; number = sub.number } };
 
+    ghost grants = { λ self octets granted. Unit {0} };
+
     fn step(
         &mut self,
         session: &mut Session,
@@ -291,6 +296,14 @@ impl BrokerCalls for Fake {
     fn give_room_back(&mut self, room: FakeRoom) {
         self.note(Row::GivesRoomBack);
         self.let_go(room);
+    }
+
+    fn may_hold(&self, octets: u64) -> bool {
+        octets <= self.plan.memory
+    }
+
+    fn charged(&self, txn: Txn) -> Txn {
+        txn
     }
 
     fn commit(&mut self, flying: Flying, room: FakeRoom) -> Result<Gate, (Gate, CommitFault)> {

@@ -75,6 +75,9 @@ impl<'a, R: Wait, W: Side, T: Side> BrokerCalls for Calls<'a, R, W, T> {
 
     ghost name = { λ sub. record { topic = sub.topic; number = sub.begun.sub } };
 
+    // It grants all.
+    ghost grants = { λ self octets granted. Unit {0} };
+
     fn step(
         &mut self,
         session: &mut Session,
@@ -128,6 +131,14 @@ impl<'a, R: Wait, W: Side, T: Side> BrokerCalls for Calls<'a, R, W, T> {
 
     fn take(&mut self, sub: &mut Sub) -> Option<Released> {
         sub.begun.taker.take(self.rt)
+    }
+
+    fn may_hold(&self, _octets: u64) -> bool {
+        true
+    }
+
+    fn charged(&self, txn: Txn) -> Txn {
+        txn
     }
 
     fn reserve(&mut self, _txn: &Txn) -> Option<()> {

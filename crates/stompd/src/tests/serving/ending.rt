@@ -49,7 +49,7 @@ where
     let Ok(Request::Serve(asked)) = Request::parse(words) else {
         return None;
     };
-    let ending = run_server(rt, alloc, asked, &mut Closed);
+    let ending = run_server(rt, alloc, asked, None, &mut Closed);
     Some((ending.status, ending.notice))
 }
 

@@ -16,7 +16,7 @@ returns-in-Err g c =
       left = unwritten held.parts held.id rest;
     } in
     let end = c.in-Err.end in
-    let new = c.put_rest.new in
+    let new = c.put_left.new in
     let rest_is : held.rest ≡ Some c.in-Some.rest = sym c.take.ensures.value ∙ c.in-Some.is in
     let taken = subst (λ (rest : Option ItemRest). BreaksOff c.args.waits (unwritten held.parts held.id (Some c.in-Some.rest)) (with rest) c.args.wire.now end new.queue new.wire) c.take.ensures.after c.in-Err.ensures.breaks_off in
     let off = subst (λ (rest : Option ItemRest). BreaksOff c.args.waits (unwritten held.parts held.id rest) (record (with rest) { left = [] }) c.args.wire.now end new.queue new.wire) (sym rest_is) taken in

@@ -1,5 +1,5 @@
 use Rattle.std.proofs.Common.{rules, ◌≡◌, ◌==◌, Some, None}
-use Rattle.std.specs.List.{position}
+use Rattle.delivery.proofs.Words.Std.{position}
 use Rattle.delivery.proofs.Views.Subscriptions.ClosedIsDropped.{forgotten, unforgotten}
 use Rattle.delivery.proofs.endpoint.Endpoint.forget.Goals as goal
 

@@ -1,7 +1,6 @@
 use Rattle.std.proofs.Common.{ℕ, List, length, sym, ap, ◌∙◌, arith}
-use Rattle.delivery.specs.Topics.{TopicList}
-use Rattle.delivery.specs.Core.State.{new_core}
-use Rattle.delivery.specs.Inner.View.{view_of}
+use Rattle.delivery.proofs.Words.Core.{TopicList, new_core}
+use Rattle.delivery.proofs.Words.Views.{view_of}
 use Rattle.delivery.proofs.Views.Runs.KeptRuns.{new_kept}
 use Rattle.delivery.proofs.net.Net.new.Goals as goal
 

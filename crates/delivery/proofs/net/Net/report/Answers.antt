@@ -1,6 +1,6 @@
 use Rattle.std.proofs.Common.{refl, subst}
-use Rattle.delivery.specs.Nets.{KeptRun, IsDelivered}
-use Rattle.delivery.specs.Inner.ViewReports.{report_in}
+use Rattle.delivery.proofs.Words.Core.{KeptRun, IsDelivered}
+use Rattle.delivery.proofs.Words.Views.{report_in}
 use Rattle.delivery.proofs.Views.Runs.KeptRuns.{is_delivered}
 use Rattle.delivery.proofs.net.Net.report.Goals as goal
 

@@ -1,10 +1,7 @@
 use Rattle.std.proofs.Common.{◌≡◌, ◌-◌, [], ◌∷◌, List, length, refl, sym, ap, subst, ◌∙◌, append_assoc, append-nil, length-append, arith, vec_len, vec_capacity}
-use Rattle.std.specs.Vec.Iter.{into_iter_items}
-use Rattle.delivery.specs.declared.event.Event.{Event}
-use Rattle.delivery.specs.declared.kept.Kept.{Kept}
-use Rattle.delivery.specs.Nets.{KeptRun, HasTaken}
-use Rattle.delivery.specs.Inner.Readings.{steps_of}
-use Rattle.std.specs.Prelude.{reverse}
+use Rattle.delivery.proofs.Words.Std.{into_iter_items, reverse}
+use Rattle.delivery.proofs.Words.Core.{Event, Kept, KeptRun, HasTaken}
+use Rattle.delivery.proofs.Words.Views.{steps_of}
 use Rattle.delivery.proofs.Views.Runs.KeptRuns.{opening_of, has_report, taken_none, taken_more}
 use Rattle.delivery.proofs.net.Net.run.Goals as goal
 

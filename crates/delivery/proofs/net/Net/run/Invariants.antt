@@ -1,6 +1,7 @@
 use Rattle.std.proofs.Common.{◌≡◌, ◌≤◌, ◌+◌, ◌++◌, length}
-use Rattle.std.specs.Vec.Iter.{into_iter_items, into_iter_len}
-use Rattle.delivery.specs.Nets.{HasTaken, HasReport}
+use Rattle.delivery.proofs.Words.Std.{into_iter_items}
+use Rattle.delivery.proofs.Words.Core.{HasTaken, HasReport}
+use Rattle.std.specs.Vec.Iter.{into_iter_len}
 use Rattle.delivery.proofs.net.Net.run.Given as goal
 
 -- The events so far were taken, and there is room for the others.

@@ -1,7 +1,7 @@
 use Rattle.std.proofs.Common.{◌≡◌, refl, ℕ, ◌-◌, List, ◌∷◌, [], ◌++◌, ap, subst, ◌∙◌, arith, vec_len, vec_capacity}
-use Rattle.delivery.specs.Nets.{KeptRun, HasAnswered}
-use Rattle.delivery.specs.Inner.Readings.{steps_of}
-use Rattle.std.specs.Prelude.{length, reverse, take}
+use Rattle.delivery.proofs.Words.Std.{length, reverse, take}
+use Rattle.delivery.proofs.Words.Core.{KeptRun, HasAnswered}
+use Rattle.delivery.proofs.Words.Views.{steps_of}
 use Rattle.delivery.proofs.Views.Runs.KeptRuns.{opening_of, has_report, has_answered, step_kept, names_stay, capacity_stays}
 use Rattle.delivery.proofs.net.Net.step.Goals as goal
 use Rattle.delivery.proofs.Views.Runs.HeldByNet.{are_held}

@@ -1,9 +1,8 @@
 use Rattle.std.proofs.Common.{[], refl, subst, sym}
-use Rattle.std.proofs.lemmas.Result.{IfOk-weaker}
-use Rattle.trace_audit.specs.Trace.{TraceData}
-use Rattle.delivery.specs.Nets.{KeptRun}
-use Rattle.delivery.specs.Inner.ViewReports.{report_in}
-use Rattle.delivery.specs.Traces.{trace_of, IsTraced}
+use Rattle.delivery.proofs.Words.Std.{IfOk-weaker}
+use Rattle.delivery.proofs.Words.Topics.{TraceData}
+use Rattle.delivery.proofs.Words.Core.{KeptRun, trace_of, IsTraced}
+use Rattle.delivery.proofs.Words.Views.{report_in}
 use Rattle.delivery.proofs.Views.Runs.KeptRuns.{opening_of}
 use Rattle.delivery.proofs.Traces.OfNets.{held_few, held_fits, held_traced}
 use Rattle.delivery.proofs.net.Net.trace.Goals as goal

@@ -1,10 +1,8 @@
 use Rattle.std.proofs.Common.{◌≡◌, ◌+◌, ◌<◌, ℕ, true, length, map, get_or, ap, subst, ◌∙◌, arith}
-use Rattle.std.specs.List.{list_all}
-use Rattle.mcast_group.specs.Group.{GroupState}
-use Rattle.trace_audit.specs.Logs.{TopicRow}
-use Rattle.trace_audit.specs.Trace.{fits}
-use Rattle.delivery.specs.Inner.View.{View}
-use Rattle.delivery.specs.Traces.{traced_log}
+use Rattle.delivery.proofs.Words.Std.{list_all}
+use Rattle.delivery.proofs.Words.Topics.{GroupState, TopicRow, fits}
+use Rattle.delivery.proofs.Words.Core.{traced_log}
+use Rattle.delivery.proofs.Words.Views.{View}
 use Rattle.delivery.proofs.Traces.Made.{held_at, logs_grow, passes_made}
 use Rattle.delivery.proofs.net_state.NetState.add_logs.Goals as goal
 

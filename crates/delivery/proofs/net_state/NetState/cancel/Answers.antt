@@ -1,10 +1,7 @@
 use Rattle.std.proofs.Common.{sym, ap, subst, ◌∙◌}
-use Rattle.std.specs.Prelude.{slice_get}
-use Rattle.delivery.specs.declared.event.Event.{Event}
-use Rattle.delivery.specs.declared.outcome.Outcome.{Outcome}
-use Rattle.delivery.specs.Inner.Senders.{there_objection, speaker_at, cancel_refusal_in, cancelled_view}
-use Rattle.delivery.specs.Inner.Stands.{Makes}
-use Rattle.delivery.specs.Inner.View.{View}
+use Rattle.delivery.proofs.Words.Std.{slice_get}
+use Rattle.delivery.proofs.Words.Core.{Event, Outcome}
+use Rattle.delivery.proofs.Words.Views.{there_objection, speaker_at, cancel_refusal_in, cancelled_view, Makes, View}
 use Rattle.delivery.proofs.Views.Events.CancelStep.{cancel_gone, cancel_refused, cancel_makes}
 use Rattle.delivery.proofs.net_state.NetState.cancel.Goals as goal
 

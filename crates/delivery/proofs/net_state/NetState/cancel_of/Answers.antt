@@ -1,7 +1,5 @@
 use Rattle.std.proofs.Common.{◌≡◌, ◌<◌, true, length, sym, ap, ◌∙◌, arith}
-use Rattle.delivery.specs.Inner.Rooms.{is_flying}
-use Rattle.delivery.specs.Inner.Senders.{is_group}
-use Rattle.delivery.specs.Inner.View.{View, SenderView}
+use Rattle.delivery.proofs.Words.Views.{is_flying, is_group, View, SenderView}
 use Rattle.delivery.proofs.Views.Events.CancelStep.{cancel_never}
 use Rattle.delivery.proofs.Views.Events.ProposeStep.{held_read, group_read}
 use Rattle.delivery.proofs.Views.Senders.RoomLasts.{count_same}

@@ -1,7 +1,6 @@
 use Rattle.std.proofs.Common.{Bool, List, Some, None, cond, refl, sym, ap, ◌∙◌, get_or}
-use Rattle.delivery.specs.Machine.Objections.{Objection}
-use Rattle.delivery.specs.Inner.Nexts.{sending_objection}
-use Rattle.delivery.specs.Inner.View.{View, EndpointView}
+use Rattle.delivery.proofs.Words.Machine.{Objection}
+use Rattle.delivery.proofs.Words.Views.{sending_objection, View, EndpointView}
 use Rattle.delivery.proofs.Views.Events.ReadingChecks.{idle_of}
 use Rattle.delivery.proofs.net_state.NetState.check_idle.Goals as goal
 

@@ -1,9 +1,8 @@
 use Rattle.std.proofs.Common.{rules, ◌≡◌, true, false, List, refl, sym, ap, ◌∙◌}
-use Rattle.std.specs.Prelude.{slice_get}
-use Rattle.delivery.specs.declared.stage.Stage.{Stage}
-use Rattle.delivery.specs.Machine.Objections.{Objection}
-use Rattle.delivery.specs.Inner.View.{View, EndpointView}
-use Rattle.delivery.specs.Inner.Leaving.{waits, leaving_objection, leave_objection}
+use Rattle.delivery.proofs.Words.Std.{slice_get}
+use Rattle.delivery.proofs.Words.Machine.{Objection}
+use Rattle.delivery.proofs.Words.Core.{Stage}
+use Rattle.delivery.proofs.Words.Views.{View, EndpointView, waits, leaving_objection, leave_objection}
 use Rattle.delivery.proofs.Views.Events.LeaveStep.{no_leave, endpoint_leaves}
 use Rattle.delivery.proofs.net_state.NetState.check_leaving.Goals as goal
 

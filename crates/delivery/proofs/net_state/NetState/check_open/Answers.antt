@@ -1,9 +1,7 @@
 use Rattle.std.proofs.Common.{List, get_or, refl, sym, ap, ◌∙◌}
-use Rattle.mcast_group.proofs.Parts.{none_some}
-use Rattle.delivery.specs.Machine.Objections.{Objection}
-use Rattle.delivery.specs.Inner.Senders.{gone_objection, there_objection}
-use Rattle.delivery.specs.Inner.Stands.{stage_objection, endpoint_objection}
-use Rattle.delivery.specs.Inner.View.{View, EndpointView}
+use Rattle.delivery.proofs.Words.Lemmas.{none_some}
+use Rattle.delivery.proofs.Words.Machine.{Objection}
+use Rattle.delivery.proofs.Words.Views.{gone_objection, there_objection, stage_objection, endpoint_objection, View, EndpointView}
 use Rattle.delivery.proofs.Views.Events.OneMove.{endpoint_read}
 use Rattle.delivery.proofs.Views.Events.ConnectionIsThere.{endpoint_there}
 use Rattle.delivery.proofs.net_state.NetState.check_open.Goals as goal

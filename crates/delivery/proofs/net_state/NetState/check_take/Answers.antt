@@ -1,10 +1,7 @@
 use Rattle.std.proofs.Common.{◌≡◌, true, false, List, Some, None, refl, sym, ap, ◌∙◌}
-use Rattle.std.specs.Prelude.{slice_get}
-use Rattle.std.specs.Option.{is_some}
-use Rattle.delivery.specs.Machine.Objections.{Objection}
-use Rattle.delivery.specs.Inner.Stands.{endpoint_objection}
-use Rattle.delivery.specs.Inner.Takes.{sub_objection}
-use Rattle.delivery.specs.Inner.View.{View, SubView, left_of}
+use Rattle.delivery.proofs.Words.Std.{slice_get, is_some}
+use Rattle.delivery.proofs.Words.Machine.{Objection}
+use Rattle.delivery.proofs.Words.Views.{endpoint_objection, sub_objection, View, SubView, left_of}
 use Rattle.delivery.proofs.Views.Events.TakeStep.{sub_missing, is_some_map, sub_closed, sub_shut, sub_open}
 use Rattle.delivery.proofs.net_state.NetState.check_take.Goals as goal
 use Rattle.delivery.proofs.Views.Subscriptions.ClosedIsDropped.{sub_read}

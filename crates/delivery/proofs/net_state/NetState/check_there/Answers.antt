@@ -1,9 +1,7 @@
 use Rattle.std.proofs.Common.{◌≡◌, List, get_or, refl, sym, ap, ◌∙◌}
-use Rattle.std.specs.Prelude.{slice_get}
-use Rattle.std.proofs.lemmas.Option.{slice_get_past}
-use Rattle.delivery.specs.Machine.Objections.{Objection}
-use Rattle.delivery.specs.Inner.Senders.{gone_objection, there_objection}
-use Rattle.delivery.specs.Inner.View.{View, EndpointView, no_endpoint, number_among}
+use Rattle.delivery.proofs.Words.Std.{slice_get, slice_get_past}
+use Rattle.delivery.proofs.Words.Machine.{Objection}
+use Rattle.delivery.proofs.Words.Views.{gone_objection, there_objection, View, EndpointView, no_endpoint, number_among}
 use Rattle.delivery.proofs.Views.Events.OneMove.{endpoint_read}
 use Rattle.delivery.proofs.Views.Events.ConnectionIsThere.{endpoint_found}
 use Rattle.delivery.proofs.net_state.NetState.check_there.Goals as goal

@@ -1,6 +1,5 @@
 use Rattle.std.proofs.Common.{[], ◌∷◌, ◌++◌, ◌<◌, List, length, sym, ap, ◌∙◌, arith}
-use Rattle.delivery.specs.Inner.Rooms.{is_flying, flying_count}
-use Rattle.delivery.specs.Inner.View.{SenderView}
+use Rattle.delivery.proofs.Words.Views.{is_flying, flying_count, SenderView}
 use Rattle.delivery.proofs.Views.Senders.RoomLasts.{count_pushed, count_same}
 use Rattle.delivery.proofs.net_state.NetState.claim.Goals as goal
 

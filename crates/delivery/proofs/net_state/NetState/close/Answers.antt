@@ -1,8 +1,6 @@
 use Rattle.std.proofs.Common.{rules, ◌≡◌, ◌≤◌, length, List, Option, Some, None, sym, ap, ◌∙◌, arith}
-use Rattle.std.specs.Prelude.{slice_get}
-use Rattle.std.specs.Option.{option_map}
-use Rattle.delivery.specs.Inner.View.{View, SubView, LeftView, left_of, group_in}
-use Rattle.delivery.specs.Inner.Subscriptions.{left_in, closed_with}
+use Rattle.delivery.proofs.Words.Std.{slice_get, option_map}
+use Rattle.delivery.proofs.Words.Views.{View, SubView, LeftView, left_of, group_in, left_in, closed_with}
 use Rattle.delivery.proofs.Views.Subscriptions.ClosedIsDropped.{sub_read, close_none, close_some, unclosed, closed_by, no_group_there, same_groups}
 use Rattle.delivery.proofs.net_state.NetState.close.Goals as goal
 

@@ -1,13 +1,9 @@
 use Rattle.std.proofs.Common.{ℕ, length, get_or, refl, sym, ap, subst, ◌∙◌, arith}
-use Rattle.std.specs.Prelude.{List, Option, Result, Ok}
-use Rattle.stomp_escape.specs.declared.no_memory.NoMemory.{NoMemory}
-use Rattle.stomp_frame.specs.ServerFrames.{connected_frame}
-use Rattle.stomp_frame.specs.Writing.{spelling_of}
-use Rattle.sender_gate.specs.Senders.{after_claim, claim_refusal, claimed_gate}
-use Rattle.delivery.specs.declared.connection_fault.ConnectionFault.{ConnectionFault}
-use Rattle.delivery.specs.Inner.Clients.{MayResume, with_sender_of}
-use Rattle.delivery.specs.Inner.Nexts.{MayEnd}
-use Rattle.delivery.specs.Inner.View.{View, no_endpoint, written_endpoint}
+use Rattle.delivery.proofs.Words.Std.{List, Option, Result, Ok}
+use Rattle.delivery.proofs.Words.Topics.{after_claim, claim_refusal, claimed_gate}
+use Rattle.delivery.proofs.Words.Frames.{NoMemory, connected_frame, spelling_of}
+use Rattle.delivery.proofs.Words.Core.{ConnectionFault}
+use Rattle.delivery.proofs.Words.Views.{MayResume, with_sender_of, MayEnd, View, no_endpoint, written_endpoint}
 use Rattle.delivery.proofs.Views.Endpoints.EndpointChanges.{changed_length, taken_back}
 use Rattle.delivery.proofs.Views.Events.ConnectStep.{claim_lacks, claim_refused, claim_rests, connect_both, sender_endpoints}
 use Rattle.delivery.proofs.net_state.NetState.connect.Goals as goal

@@ -1,11 +1,7 @@
 use Rattle.std.proofs.Common.{◌≡◌, ◌<◌, List, length, get_or, true, sym, ap, subst, ◌∙◌}
-use Rattle.std.specs.Prelude.{slice_get}
-use Rattle.std.specs.Option.{is_some}
-use Rattle.delivery.specs.declared.event.Event.{Event}
-use Rattle.delivery.specs.declared.outcome.Outcome.{Outcome}
-use Rattle.delivery.specs.Inner.Senders.{there_objection, speaker_at, sender_in, decide_refusal, decided_row, decided_view, receipt_in, confirmed_view}
-use Rattle.delivery.specs.Inner.Stands.{Makes}
-use Rattle.delivery.specs.Inner.View.{View, EndpointView, view_of, no_endpoint}
+use Rattle.delivery.proofs.Words.Std.{slice_get, is_some}
+use Rattle.delivery.proofs.Words.Core.{Event, Outcome}
+use Rattle.delivery.proofs.Words.Views.{there_objection, speaker_at, sender_in, decide_refusal, decided_row, decided_view, receipt_in, confirmed_view, Makes, View, EndpointView, view_of, no_endpoint}
 use Rattle.delivery.proofs.Views.Events.ConnectionIsThere.{endpoint_there}
 use Rattle.delivery.proofs.Views.Events.DecideStep.{decide_gone, decide_refused, decide_makes}
 use Rattle.delivery.proofs.net_state.NetState.decide.Goals as goal

@@ -1,6 +1,5 @@
 use Rattle.std.proofs.Common.{◌<◌, length, sym, ap, ◌∙◌, arith}
-use Rattle.delivery.specs.Inner.Rooms.{PromisedRows, is_flying}
-use Rattle.delivery.specs.Inner.View.{SenderView}
+use Rattle.delivery.proofs.Words.Views.{PromisedRows, is_flying, SenderView}
 use Rattle.delivery.proofs.Views.Senders.RoomLasts.{count_ended}
 use Rattle.delivery.proofs.net_state.NetState.decide_of.Goals as goal
 

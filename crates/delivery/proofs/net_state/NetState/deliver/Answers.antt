@@ -1,12 +1,10 @@
 use Rattle.std.proofs.Common.{◌≡◌, List, Some, None, get_or, sym, ap, ◌∙◌}
-use Rattle.std.proofs.lemmas.List.{get_or_default}
-use Rattle.mcast_group.specs.Group.{GroupState}
-use Rattle.delivery.specs.Inner.Takes.{take_objection, sub_held, next_of, next_held, after_next_item}
-use Rattle.delivery.specs.Inner.View.{View, SubView, no_group, no_endpoint}
+use Rattle.delivery.proofs.Words.Std.{get_or_default}
+use Rattle.delivery.proofs.Words.Topics.{GroupState}
+use Rattle.delivery.proofs.Words.Views.{take_objection, sub_held, next_of, next_held, after_next_item, View, SubView, no_group, no_endpoint, no_sub}
 use Rattle.delivery.proofs.Views.Events.TakeStep.{free_there, free_endpoint, next_there, item_put}
 use Rattle.delivery.proofs.net_state.NetState.deliver.Goals as goal
 use Rattle.delivery.proofs.Views.Subscriptions.ClosedIsDropped.{sub_read}
-use Rattle.delivery.specs.Inner.Subscriptions.{no_sub}
 
 pub returns-clause-ok : goal.returns-clause-ok
 returns-clause-ok c =

@@ -1,4 +1,4 @@
-use Rattle.delivery.specs.Inner.View.{no_endpoint}
+use Rattle.delivery.proofs.Words.Views.{no_endpoint}
 use Rattle.delivery.proofs.Views.Events.NextFrames.{next_disconnects}
 use Rattle.delivery.proofs.net_state.NetState.disconnect.Goals as goal
 

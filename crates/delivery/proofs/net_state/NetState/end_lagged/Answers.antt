@@ -1,17 +1,11 @@
 use Rattle.std.proofs.Common.{◌≡◌, ◌<◌, true, false, List, None, length, get_or, sym, ap, subst, ◌∙◌}
-use Rattle.std.proofs.lemmas.List.{get_or_default, length-set}
-use Rattle.mcast_group.specs.Group.{GroupState}
-use Rattle.delivery.specs.declared.connection_fault.ConnectionFault.{ConnectionFault}
-use Rattle.delivery.specs.declared.event.Event.{Event}
-use Rattle.delivery.specs.declared.outcome.Outcome.{Outcome}
-use Rattle.delivery.specs.declared.refusal.Refusal.{Refusal}
-use Rattle.delivery.specs.Inner.Stands.{Makes}
-use Rattle.delivery.specs.Inner.Takes.{take_objection, sub_held, group_held, next_held, has_lagged}
-use Rattle.delivery.specs.Inner.View.{View, SubView, no_group, no_endpoint, view_of}
+use Rattle.delivery.proofs.Words.Std.{get_or_default, length-set}
+use Rattle.delivery.proofs.Words.Topics.{GroupState}
+use Rattle.delivery.proofs.Words.Core.{ConnectionFault, Event, Outcome, Refusal}
+use Rattle.delivery.proofs.Words.Views.{Makes, take_objection, sub_held, group_held, next_held, has_lagged, View, SubView, no_group, no_endpoint, view_of, no_sub}
 use Rattle.delivery.proofs.Views.Events.TakeStep.{free_there, free_endpoint, take_nothing, lag_without, take_lags, after_lag, lag_put}
 use Rattle.delivery.proofs.net_state.NetState.end_lagged.Goals as goal
 use Rattle.delivery.proofs.Views.Subscriptions.ClosedIsDropped.{sub_read}
-use Rattle.delivery.specs.Inner.Subscriptions.{no_sub}
 
 pub returns-then-not-has_lagged : goal.returns-then-not-has_lagged
 returns-then-not-has_lagged c k reached is =

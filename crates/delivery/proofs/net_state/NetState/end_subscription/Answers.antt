@@ -1,10 +1,8 @@
 use Rattle.std.proofs.Common.{◌≡◌, ℕ, get_or, sym, ap, ◌∙◌, arith}
-use Rattle.std.specs.Option.{option_map}
-use Rattle.mcast_group.proofs.Parts.{none_some, some_same}
-use Rattle.delivery.specs.Core.Steps.{number_by}
-use Rattle.delivery.specs.Inner.Nexts.{receipt_text}
-use Rattle.delivery.specs.Inner.Subscriptions.{left_at}
-use Rattle.delivery.specs.Inner.View.{LeftView, no_endpoint, written_endpoint}
+use Rattle.delivery.proofs.Words.Std.{option_map}
+use Rattle.delivery.proofs.Words.Lemmas.{none_some, some_same}
+use Rattle.delivery.proofs.Words.Core.{number_by}
+use Rattle.delivery.proofs.Words.Views.{receipt_text, left_at, LeftView, no_endpoint, written_endpoint}
 use Rattle.delivery.proofs.Views.Endpoints.EndpointChanges.{changed_length}
 use Rattle.delivery.proofs.Views.Events.NextSubs.{next_finds, next_leaves, next_unsubscribes}
 use Rattle.delivery.proofs.net_state.NetState.end_subscription.Goals as goal

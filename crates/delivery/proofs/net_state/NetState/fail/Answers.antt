@@ -1,9 +1,7 @@
 use Rattle.std.proofs.Common.{Bool, get_or, List, ℕ, sym, ap, ◌∙◌, arith}
-use Rattle.std.specs.Option.{option_map}
-use Rattle.stomp_frame.specs.ServerFrames.{error_frame}
-use Rattle.stomp_frame.specs.Writing.{spelling_of}
-use Rattle.delivery.specs.Inner.Nexts.{failed_endpoint}
-use Rattle.delivery.specs.Inner.View.{no_endpoint}
+use Rattle.delivery.proofs.Words.Std.{option_map}
+use Rattle.delivery.proofs.Words.Frames.{error_frame, spelling_of}
+use Rattle.delivery.proofs.Words.Views.{failed_endpoint, no_endpoint}
 use Rattle.delivery.proofs.Views.Endpoints.EndpointChanges.{with_endpoint, written_length, failed_view, error_is}
 use Rattle.delivery.proofs.net_state.NetState.fail.Goals as goal
 

@@ -1,8 +1,6 @@
 use Rattle.std.proofs.Common.{◌≡◌, ◌<◌, ◌+◌, ℕ, length, get_or, set, sym, ap, subst, ◌∙◌}
-use Rattle.std.proofs.lemmas.List.{set-get_or}
-use Rattle.delivery.specs.Inner.Rooms.{PromisedRows, is_flying}
-use Rattle.delivery.specs.Inner.Senders.{speaker_at}
-use Rattle.delivery.specs.Inner.View.{View, SenderView, no_endpoint, number_among}
+use Rattle.delivery.proofs.Words.Std.{set-get_or}
+use Rattle.delivery.proofs.Words.Views.{PromisedRows, is_flying, speaker_at, View, SenderView, no_endpoint, number_among}
 use Rattle.delivery.proofs.Views.Events.ConnectionIsThere.{endpoint_found}
 use Rattle.delivery.proofs.Views.Senders.RoomLasts.{count_launched}
 use Rattle.delivery.proofs.Views.Verdicts.VerdictTable.{seqs_restored}

@@ -1,12 +1,8 @@
 use Rattle.std.proofs.Common.{◌≡◌, ◌<◌, ◌≤◌, None, Some, Ok, Err, length, get_or, sym, ap, subst, ◌∙◌, arith}
-use Rattle.std.proofs.lemmas.List.{length-map}
-use Rattle.mcast_group.specs.declared.fault.LearnFault.{LearnFault}
-use Rattle.delivery.specs.declared.event.Event.{Event}
-use Rattle.delivery.specs.declared.outcome.Outcome.{Outcome}
-use Rattle.delivery.specs.declared.refusal.Refusal.{Refusal}
-use Rattle.delivery.specs.Inner.Stands.{Makes}
-use Rattle.delivery.specs.Inner.TopicSteps.{verdict_held, learn_result, after_learn_at}
-use Rattle.delivery.specs.Inner.View.{View, group_view, no_group}
+use Rattle.delivery.proofs.Words.Std.{length-map}
+use Rattle.delivery.proofs.Words.Topics.{LearnFault}
+use Rattle.delivery.proofs.Words.Core.{Event, Outcome, Refusal}
+use Rattle.delivery.proofs.Words.Views.{Makes, verdict_held, learn_result, after_learn_at, View, group_view, no_group}
 use Rattle.delivery.proofs.Views.Events.LearnStep.{learn_unnamed, learn_makes, never_odd}
 use Rattle.delivery.proofs.net_state.NetState.learn.Goals as goal
 

@@ -1,13 +1,8 @@
 use Rattle.std.proofs.Common.{◌<◌, ℕ, true, false, List, length, get_or, sym, ap, subst, ◌∙◌}
-use Rattle.std.specs.Prelude.{slice_get}
-use Rattle.std.proofs.lemmas.Bool.{false≢true}
-use Rattle.delivery.specs.declared.event.Event.{Event}
-use Rattle.delivery.specs.declared.outcome.Outcome.{Outcome}
-use Rattle.sender_gate.specs.Senders.{SendersState}
-use Rattle.delivery.specs.Inner.Clients.{MakesBoth, given_back, rested_view}
-use Rattle.delivery.specs.Inner.Stands.{Makes}
-use Rattle.delivery.specs.Inner.View.{EndpointView, View, no_endpoint, view_of}
-use Rattle.delivery.specs.Inner.Leaving.{leave_objection, oldest_end, oldest_closed, has_parting, gone_view}
+use Rattle.delivery.proofs.Words.Std.{slice_get, false≢true}
+use Rattle.delivery.proofs.Words.Topics.{SendersState}
+use Rattle.delivery.proofs.Words.Core.{Event, Outcome}
+use Rattle.delivery.proofs.Words.Views.{MakesBoth, given_back, rested_view, Makes, EndpointView, View, no_endpoint, view_of, leave_objection, oldest_end, oldest_closed, has_parting, gone_view}
 use Rattle.delivery.proofs.Views.Events.LeaveStep.{leave_refused, leave_closes, leave_gone, none_closed, leave_endpoint, oldest_endpoints}
 use Rattle.delivery.proofs.Views.Clients.BothOfStep.{leave_refused_both, leave_closes_both, leave_gone_both}
 use Rattle.delivery.proofs.Views.Clients.GivenBack.{rested_endpoints}

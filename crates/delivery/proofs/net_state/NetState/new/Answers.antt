@@ -1,7 +1,6 @@
 use Rattle.std.proofs.Common.{refl, ap, ◌∙◌}
-use Rattle.delivery.specs.Core.State.{new_core, log_limit}
-use Rattle.delivery.specs.Inner.Rooms.{PromisedRows}
-use Rattle.delivery.specs.Inner.View.{view_of}
+use Rattle.delivery.proofs.Words.Core.{new_core, log_limit}
+use Rattle.delivery.proofs.Words.Views.{PromisedRows, view_of}
 use Rattle.delivery.proofs.Views.Lists.ByNumber.{new_groups_view}
 use Rattle.delivery.proofs.Views.Runs.SameView.{same_view}
 use Rattle.delivery.proofs.net_state.NetState.new.Goals as goal

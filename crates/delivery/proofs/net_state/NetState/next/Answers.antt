@@ -1,9 +1,6 @@
 use Rattle.std.proofs.Common.{refl, sym, ap, subst, ◌∙◌}
-use Rattle.delivery.specs.declared.event.Event.{Event}
-use Rattle.delivery.specs.declared.outcome.Outcome.{Outcome}
-use Rattle.delivery.specs.Inner.Nexts.{idle_objection}
-use Rattle.delivery.specs.Inner.Stands.{Makes}
-use Rattle.delivery.specs.Inner.View.{View}
+use Rattle.delivery.proofs.Words.Core.{Event, Outcome}
+use Rattle.delivery.proofs.Words.Views.{idle_objection, Makes, View}
 use Rattle.delivery.proofs.Views.Events.ReadingChecks.{idle_within}
 use Rattle.delivery.proofs.Views.Events.NextFaults.{next_refused}
 use Rattle.delivery.proofs.Views.Clients.BothOfStep.{silent_both}

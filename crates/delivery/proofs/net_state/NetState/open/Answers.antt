@@ -1,11 +1,6 @@
 use Rattle.std.proofs.Common.{◌≡◌, ℕ, length, sym, ap, subst, ◌∙◌, arith}
-use Rattle.delivery.specs.declared.event.Event.{Event}
-use Rattle.delivery.specs.declared.outcome.Outcome.{Outcome}
-use Rattle.delivery.specs.Core.Steps.{accepted_of}
-use Rattle.delivery.specs.Core.Output.{text_out}
-use Rattle.delivery.specs.Core.State.{unread_at, names_at}
-use Rattle.delivery.specs.Inner.Stands.{Makes}
-use Rattle.delivery.specs.Inner.View.{View, view_of, endpoint_view, with_new_endpoint}
+use Rattle.delivery.proofs.Words.Core.{Event, Outcome, accepted_of, text_out, unread_at, names_at}
+use Rattle.delivery.proofs.Words.Views.{Makes, View, view_of, endpoint_view, with_new_endpoint}
 use Rattle.delivery.proofs.Views.Lists.ByNumber.{length-each_number}
 use Rattle.delivery.proofs.Views.Endpoints.NothingBeforeOpen.{untouched}
 use Rattle.delivery.proofs.Views.Events.OpenStep.{open_makes, open_without}

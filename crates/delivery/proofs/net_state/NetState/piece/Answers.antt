@@ -1,9 +1,7 @@
 use Rattle.std.proofs.Common.{get_or, set, sym, ap, subst, ◌∙◌}
-use Rattle.std.specs.Prelude.{slice_get}
-use Rattle.delivery.specs.declared.event.Event.{Event}
-use Rattle.delivery.specs.declared.outcome.Outcome.{Outcome}
-use Rattle.delivery.specs.Inner.Stands.{Makes, endpoint_objection}
-use Rattle.delivery.specs.Inner.View.{View, fed_endpoint, no_endpoint}
+use Rattle.delivery.proofs.Words.Std.{slice_get}
+use Rattle.delivery.proofs.Words.Core.{Event, Outcome}
+use Rattle.delivery.proofs.Words.Views.{Makes, endpoint_objection, View, fed_endpoint, no_endpoint}
 use Rattle.delivery.proofs.Views.Events.PieceStep.{piece_makes, piece_without, piece_refused}
 use Rattle.delivery.proofs.net_state.NetState.piece.Goals as goal
 

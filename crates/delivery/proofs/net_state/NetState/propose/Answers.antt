@@ -1,11 +1,8 @@
 use Rattle.std.proofs.Common.{ℕ, Result, sym, ap, subst, ◌∙◌, Ok, Err}
-use Rattle.std.specs.Prelude.{slice_get}
-use Rattle.mcast_group.specs.declared.fault.ProposeFault.{ProposeFault}
-use Rattle.delivery.specs.declared.event.Event.{Event}
-use Rattle.delivery.specs.declared.outcome.Outcome.{Outcome}
-use Rattle.delivery.specs.Inner.Senders.{there_objection, speaker_at, sender_in, part_in, propose_refusal_in, taken_view, IsProposed}
-use Rattle.delivery.specs.Inner.Stands.{Makes}
-use Rattle.delivery.specs.Inner.View.{View}
+use Rattle.delivery.proofs.Words.Std.{slice_get}
+use Rattle.delivery.proofs.Words.Topics.{ProposeFault}
+use Rattle.delivery.proofs.Words.Core.{Event, Outcome}
+use Rattle.delivery.proofs.Words.Views.{there_objection, speaker_at, sender_in, part_in, propose_refusal_in, taken_view, IsProposed, Makes, View}
 use Rattle.delivery.proofs.Views.Events.ProposeStep.{propose_gone, propose_refused, proposes, part_is, proposed_part, propose_made, propose_failed}
 use Rattle.delivery.proofs.net_state.NetState.propose.Goals as goal
 

@@ -1,10 +1,7 @@
 use Rattle.std.proofs.Common.{◌≡◌, ◌<◌, true, length, sym, ap, ◌∙◌, arith}
 use Rattle.std.specs.Arc.{arc_value}
-use Rattle.mcast_txn.specs.Part.{data_of}
-use Rattle.mcast_group.specs.Machine.{next_number}
-use Rattle.delivery.specs.Inner.Rooms.{PromisedRows, is_flying}
-use Rattle.delivery.specs.Inner.Senders.{gate_of, part_refusal, part_in, taken_sender, takes_ticket, is_group, floor_in, ticket_in}
-use Rattle.delivery.specs.Inner.View.{View, SenderView, view_of}
+use Rattle.delivery.proofs.Words.Topics.{data_of, next_number}
+use Rattle.delivery.proofs.Words.Views.{PromisedRows, is_flying, gate_of, part_refusal, part_in, taken_sender, takes_ticket, is_group, floor_in, ticket_in, View, SenderView, view_of}
 use Rattle.delivery.proofs.Views.Events.ProposeStep.{held_read, group_read, ticket_taken}
 use Rattle.delivery.proofs.Views.Senders.RoomLasts.{count_same, count_ended}
 use Rattle.delivery.proofs.net_state.NetState.propose_of.Goals as goal

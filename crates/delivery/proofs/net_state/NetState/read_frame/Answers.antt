@@ -1,13 +1,11 @@
 use Rattle.std.proofs.Common.{Option, Some, None, get_or, refl, sym, ap, ◌∙◌, arith}
-use Rattle.std.specs.Prelude.{Result, Ok, Err}
-use Rattle.stomp_session.specs.declared.action.Step.{Step}
-use Rattle.delivery.specs.Inner.Nexts.{EndpointFault, staged_endpoint}
-use Rattle.delivery.specs.Inner.View.{no_endpoint}
+use Rattle.delivery.proofs.Words.Std.{Result, Ok, Err}
+use Rattle.delivery.proofs.Words.Frames.{Step}
+use Rattle.delivery.proofs.Words.Core.{Outcome, Refusal}
+use Rattle.delivery.proofs.Words.Views.{EndpointFault, staged_endpoint, no_endpoint}
 use Rattle.delivery.proofs.Views.Events.ReadingChecks.{idle_checked}
 use Rattle.delivery.proofs.Views.Endpoints.EndpointChanges.{changed_length}
 use Rattle.delivery.proofs.Views.Events.NextFaults.{read_judged, next_waits, next_takes, next_faults}
-use Rattle.delivery.specs.declared.outcome.Outcome.{Outcome}
-use Rattle.delivery.specs.declared.refusal.Refusal.{Refusal}
 use Rattle.delivery.proofs.Views.Clients.BothOfStep.{faulted_both, silent_both}
 use Rattle.delivery.proofs.net_state.NetState.read_frame.Goals as goal
 

@@ -1,9 +1,8 @@
 use Rattle.std.proofs.Common.{Option, None, sym, ap, ◌∙◌}
-use Rattle.std.specs.Option.{option_map}
-use Rattle.stomp_frame.specs.declared.raw_frame.RawFrame.{RawFrame}
-use Rattle.delivery.specs.Core.Output.{receipt_asked, says_version}
-use Rattle.delivery.specs.Core.State.{is_faulted}
-use Rattle.delivery.specs.Inner.View.{no_endpoint}
+use Rattle.delivery.proofs.Words.Std.{option_map}
+use Rattle.delivery.proofs.Words.Frames.{RawFrame}
+use Rattle.delivery.proofs.Words.Core.{receipt_asked, says_version, is_faulted}
+use Rattle.delivery.proofs.Words.Views.{no_endpoint}
 use Rattle.delivery.proofs.Views.Events.NextFaults.{next_fails}
 use Rattle.delivery.proofs.net_state.NetState.refuse.Goals as goal
 

@@ -1,10 +1,7 @@
 use Rattle.std.proofs.Common.{◌≡◌, ◌<◌, ◌≤◌, length, sym, ap, subst, ◌∙◌, arith}
-use Rattle.std.proofs.lemmas.List.{length-map}
-use Rattle.delivery.specs.declared.event.Event.{Event}
-use Rattle.delivery.specs.declared.outcome.Outcome.{Outcome}
-use Rattle.delivery.specs.declared.refusal.Refusal.{Refusal}
-use Rattle.delivery.specs.Inner.Stands.{Makes}
-use Rattle.delivery.specs.Inner.View.{View, group_view, no_group}
+use Rattle.delivery.proofs.Words.Std.{length-map}
+use Rattle.delivery.proofs.Words.Core.{Event, Outcome, Refusal}
+use Rattle.delivery.proofs.Words.Views.{Makes, View, group_view, no_group}
 use Rattle.delivery.proofs.Views.Events.ReleaseStep.{release_some, release_none, release_unnamed, released_at, due_id_at}
 use Rattle.delivery.proofs.net_state.NetState.release.Goals as goal
 

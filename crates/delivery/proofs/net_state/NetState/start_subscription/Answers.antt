@@ -1,9 +1,8 @@
 use Rattle.std.proofs.Common.{ℕ, length, get_or, refl, ap, arith}
-use Rattle.std.specs.Prelude.{Result, Ok}
-use Rattle.mcast_txn.specs.declared.stamp.Stamp.{Stamp}
-use Rattle.stomp_escape.specs.declared.no_memory.NoMemory.{NoMemory}
-use Rattle.delivery.specs.Inner.Nexts.{receipt_text}
-use Rattle.delivery.specs.Inner.View.{View, no_endpoint, written_endpoint}
+use Rattle.delivery.proofs.Words.Std.{Result, Ok}
+use Rattle.delivery.proofs.Words.Topics.{Stamp}
+use Rattle.delivery.proofs.Words.Frames.{NoMemory}
+use Rattle.delivery.proofs.Words.Views.{receipt_text, View, no_endpoint, written_endpoint}
 use Rattle.delivery.proofs.Views.Endpoints.EndpointChanges.{changed_length, taken_back}
 use Rattle.delivery.proofs.Views.Events.NextSubs.{next_free, next_subscribes}
 use Rattle.delivery.proofs.net_state.NetState.start_subscription.Goals as goal

@@ -1,11 +1,8 @@
 use Rattle.std.proofs.Common.{length, sym, ap, subst, ◌∙◌}
-use Rattle.std.specs.Option.{is_some, option_map}
-use Rattle.mcast_txn.specs.Span.{Item}
-use Rattle.delivery.specs.declared.event.Event.{Event}
-use Rattle.delivery.specs.declared.outcome.Outcome.{Outcome}
-use Rattle.delivery.specs.Inner.Stands.{Makes}
-use Rattle.delivery.specs.Inner.Takes.{take_objection, next_held, after_next_item}
-use Rattle.delivery.specs.Inner.View.{View}
+use Rattle.delivery.proofs.Words.Std.{is_some, option_map}
+use Rattle.delivery.proofs.Words.Topics.{Item}
+use Rattle.delivery.proofs.Words.Core.{Event, Outcome}
+use Rattle.delivery.proofs.Words.Views.{Makes, take_objection, next_held, after_next_item, View}
 use Rattle.delivery.proofs.Views.Events.TakeStep.{take_refused, take_makes, take_without}
 use Rattle.delivery.proofs.net_state.NetState.take.Goals as goal
 

@@ -1,10 +1,6 @@
 use Rattle.std.proofs.Common.{◌≡◌, ◌<◌, ℕ, Option, length, get_or, Some, sym, ap, ◌∙◌, arith}
-use Rattle.std.specs.Prelude.{slice_get}
-use Rattle.std.specs.Option.{option_and_then}
-use Rattle.std.proofs.lemmas.Option.{slice_get-get_or}
-use Rattle.delivery.specs.Inner.Clients.{idle_gate}
-use Rattle.delivery.specs.Inner.Rooms.{is_flying}
-use Rattle.delivery.specs.Inner.View.{EndpointView, SenderView, View, no_endpoint}
+use Rattle.delivery.proofs.Words.Std.{slice_get, option_and_then, slice_get-get_or}
+use Rattle.delivery.proofs.Words.Views.{idle_gate, is_flying, EndpointView, SenderView, View, no_endpoint}
 use Rattle.delivery.proofs.Views.Events.ConnectionIsThere.{endpoint_found}
 use Rattle.delivery.proofs.Views.Senders.RoomLasts.{count_same}
 use Rattle.delivery.proofs.net_state.NetState.take_gate.Goals as goal

@@ -1,8 +1,8 @@
 use Rattle.std.proofs.Common.{◌≡◌, ℕ, List, Option, true, refl, ap, subst, ◌∙◌}
-use Rattle.stomp_session.specs.declared.action.Action.{Action}
+use Rattle.delivery.proofs.Words.Frames.{Action}
+use Rattle.delivery.proofs.Words.Core.{claim_fault}
+use Rattle.delivery.proofs.Words.Views.{Asks, claims_none}
 use Rattle.stomp_session.specs.declared.action.Action.TheVariants as actions
-use Rattle.delivery.specs.Core.Outcomes.{claim_fault}
-use Rattle.delivery.specs.Inner.Nexts.{Asks, claims_none}
 use Rattle.delivery.proofs.Views.Clients.BothOfStep.{accepted_both, unclaimed_by}
 use Rattle.delivery.proofs.Views.Events.NextFaults.{may_lack}
 use Rattle.delivery.proofs.net_state.NetState.try_act.Goals as goal

@@ -1,9 +1,8 @@
 use Rattle.std.proofs.Common.{ℕ, List, sym, subst}
-use Rattle.std.specs.Prelude.{Result, Ok, Err, OnErr}
-use Rattle.std.proofs.lemmas.Result.{IfOk-weaker}
-use Rattle.stomp_session.specs.declared.action.Action.{Action}
+use Rattle.delivery.proofs.Words.Std.{Result, Ok, Err, OnErr, IfOk-weaker}
+use Rattle.delivery.proofs.Words.Frames.{Action}
+use Rattle.delivery.proofs.Words.Views.{Asks}
 use Rattle.stomp_session.specs.declared.action.Action.TheVariants as actions
-use Rattle.delivery.specs.Inner.Nexts.{Asks}
 use Rattle.delivery.proofs.Views.Events.WantsMemory.{subscribe_wants, end_wants, commit_wants}
 use Rattle.delivery.proofs.net_state.NetState.try_other.Goals as goal
 

@@ -1,11 +1,7 @@
 use Rattle.std.proofs.Common.{◌≡◌, ◌<◌, ◌≤◌, length, get_or, sym, ap, subst, ◌∙◌, arith}
-use Rattle.std.proofs.lemmas.List.{length-map}
-use Rattle.delivery.specs.declared.event.Event.{Event}
-use Rattle.delivery.specs.declared.outcome.Outcome.{Outcome}
-use Rattle.delivery.specs.declared.refusal.Refusal.{Refusal}
-use Rattle.delivery.specs.Inner.Stands.{Makes}
-use Rattle.delivery.specs.Inner.TopicSteps.{verdict_held, group_turn_count, after_turn_at}
-use Rattle.delivery.specs.Inner.View.{View, group_view, no_group}
+use Rattle.delivery.proofs.Words.Std.{length-map}
+use Rattle.delivery.proofs.Words.Core.{Event, Outcome, Refusal}
+use Rattle.delivery.proofs.Words.Views.{Makes, verdict_held, group_turn_count, after_turn_at, View, group_view, no_group}
 use Rattle.delivery.proofs.Views.Events.TurnStep.{turn_unnamed, turn_makes}
 use Rattle.delivery.proofs.net_state.NetState.turn.Goals as goal
 

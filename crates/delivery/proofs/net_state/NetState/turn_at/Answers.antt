@@ -1,9 +1,7 @@
 use Rattle.std.proofs.Common.{◌<◌, ◌-◌, get_or, set, length, sym, ap, subst, ◌∙◌}
-use Rattle.std.proofs.lemmas.List.{get_or_default}
-use Rattle.mcast_group.specs.Group.{GroupState}
-use Rattle.delivery.specs.Inner.TopicSteps.{verdict_held, group_after_turn, group_turn_count, after_turn_at}
-use Rattle.delivery.specs.Inner.Verdicts.{verdict_at}
-use Rattle.delivery.specs.Inner.View.{View}
+use Rattle.delivery.proofs.Words.Std.{get_or_default}
+use Rattle.delivery.proofs.Words.Topics.{GroupState}
+use Rattle.delivery.proofs.Words.Views.{verdict_held, group_after_turn, group_turn_count, after_turn_at, verdict_at, View}
 use Rattle.delivery.proofs.Views.Events.TurnStep.{turn_found}
 use Rattle.delivery.proofs.net_state.NetState.turn_at.Goals as goal
 

@@ -1,11 +1,8 @@
 use Rattle.std.proofs.Common.{◌≡◌, ◌<◌, List, length, get_or, true, sym, ap, subst, ◌∙◌}
-use Rattle.std.specs.Prelude.{slice_get}
-use Rattle.mcast_group.specs.Faults.{propose_title}
-use Rattle.delivery.specs.declared.event.Event.{Event}
-use Rattle.delivery.specs.declared.outcome.Outcome.{Outcome}
-use Rattle.delivery.specs.Inner.Senders.{there_objection, speaker_at, sender_in, withdraw_refusal, failure_of, withdrawn_view, reads_frames, refused_view}
-use Rattle.delivery.specs.Inner.Stands.{Makes}
-use Rattle.delivery.specs.Inner.View.{View, EndpointView, view_of, no_endpoint}
+use Rattle.delivery.proofs.Words.Std.{slice_get}
+use Rattle.delivery.proofs.Words.Topics.{propose_title}
+use Rattle.delivery.proofs.Words.Core.{Event, Outcome}
+use Rattle.delivery.proofs.Words.Views.{there_objection, speaker_at, sender_in, withdraw_refusal, failure_of, withdrawn_view, reads_frames, refused_view, Makes, View, EndpointView, view_of, no_endpoint}
 use Rattle.delivery.proofs.Views.Events.ConnectionIsThere.{endpoint_there}
 use Rattle.delivery.proofs.Views.Events.WithdrawStep.{withdraw_gone, withdraw_refused, withdraw_makes}
 use Rattle.delivery.proofs.net_state.NetState.withdraw.Goals as goal

@@ -1,6 +1,5 @@
 use Rattle.std.proofs.Common.{◌<◌, length, ap, ◌∙◌, arith}
-use Rattle.delivery.specs.Inner.Rooms.{is_flying}
-use Rattle.delivery.specs.Inner.View.{SenderView}
+use Rattle.delivery.proofs.Words.Views.{is_flying, SenderView}
 use Rattle.delivery.proofs.Views.Senders.RoomLasts.{count_same}
 use Rattle.delivery.proofs.net_state.NetState.withdraw_of.Goals as goal
 

@@ -1,8 +1,6 @@
 use Rattle.std.proofs.Common.{◌≡◌, Some, not, ap, sym, ◌∙◌}
-use Rattle.std.specs.Prelude.{slice_get}
-use Rattle.std.specs.Option.{option_map}
-use Rattle.trace_audit.specs.Logs.{TopicRow}
-use Rattle.trace_audit.specs.Trace.{fits}
+use Rattle.delivery.proofs.Words.Std.{slice_get, option_map}
+use Rattle.delivery.proofs.Words.Topics.{TopicRow, fits}
 use Rattle.delivery.proofs.Traces.Made.{logged_fits, log_grows}
 use Rattle.delivery.proofs.net_state.trace.add_log.Goals as goal
 

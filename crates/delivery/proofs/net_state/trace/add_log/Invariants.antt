@@ -1,5 +1,5 @@
 use Rattle.std.proofs.Common.{◌≡◌, ◌++◌, take}
-use Rattle.delivery.specs.Traces.{traced_log}
+use Rattle.delivery.proofs.Words.Core.{traced_log}
 use Rattle.delivery.proofs.net_state.trace.add_log.Given as goal
 
 -- the rows so far are there

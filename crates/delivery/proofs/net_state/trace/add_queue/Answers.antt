@@ -1,9 +1,6 @@
 use Rattle.std.proofs.Common.{◌≡◌, Some, ap, sym, ◌∙◌}
-use Rattle.std.specs.Prelude.{slice_get}
-use Rattle.std.specs.Option.{option_map}
-use Rattle.mcast_txn.specs.declared.parts.part.Part.{Part}
-use Rattle.mcast_txn.specs.Part.{data_of}
-use Rattle.mcast_txn.specs.Span.{Item}
+use Rattle.delivery.proofs.Words.Std.{slice_get, option_map}
+use Rattle.delivery.proofs.Words.Topics.{Part, data_of, Item}
 use Rattle.delivery.proofs.Traces.Made.{queue_grows}
 use Rattle.delivery.proofs.net_state.trace.add_queue.Goals as goal
 

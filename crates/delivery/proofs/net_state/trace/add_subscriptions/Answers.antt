@@ -1,6 +1,6 @@
 use Rattle.std.proofs.Common.{◌≡◌, ◌<◌, length, Some, ap, sym, ◌∙◌, arith}
-use Rattle.std.specs.Prelude.{slice_get}
-use Rattle.trace_audit.specs.Trace.{TraceData, has_span}
+use Rattle.delivery.proofs.Words.Std.{slice_get}
+use Rattle.delivery.proofs.Words.Topics.{TraceData, has_span}
 use Rattle.delivery.proofs.Traces.Made.{next_has_none, subs_grow}
 use Rattle.delivery.proofs.net_state.trace.add_subscriptions.Goals as goal
 

@@ -1,11 +1,9 @@
 use Rattle.std.proofs.Common.{◌≡◌, List, sym, ap, ◌∙◌}
-use Rattle.mcast_txn.specs.declared.stamp.Stamp.{Stamp}
-use Rattle.mcast_txn.specs.Ballot.{Decision, ticket_rows}
-use Rattle.mcast_txn.specs.Stamp.{greatest}
-use Rattle.sender_gate.specs.Gate.{GateState, gate_after}
-use Rattle.delivery.specs.declared.sending.Sending.{Sending}
-use Rattle.delivery.specs.Inner.Senders.{decision_of, decided_row, decided_sender, decided_sending}
-use Rattle.delivery.specs.Inner.View.{SenderView}
+use Rattle.delivery.proofs.Words.Topics.{Stamp, Decision, ticket_rows, greatest, GateState}
+use Rattle.delivery.proofs.Words.Core.{Sending}
+use Rattle.delivery.proofs.Words.Views.{decision_of, decided_row, decided_sender, SenderView}
+use Rattle.sender_gate.specs.Gate.{gate_after}
+use Rattle.delivery.specs.Inner.Senders.{decided_sending}
 use Rattle.delivery.proofs.Views.Senders.TicketsOfTopics.{rows_of_slots}
 use Rattle.delivery.proofs.sender_state.SenderState.decide.Goals as goal
 

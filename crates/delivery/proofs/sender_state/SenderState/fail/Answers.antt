@@ -1,8 +1,7 @@
 use Rattle.std.proofs.Common.{◌≡◌, List, length, sym, ap, ◌∙◌, arith}
-use Rattle.std.proofs.lemmas.List.{length-map}
-use Rattle.mcast_txn.specs.declared.ballot.ticket.Ticket.{Ticket}
-use Rattle.mcast_txn.specs.Ballot.{ticket_rows}
-use Rattle.delivery.specs.declared.sending.Sending.{Sending}
+use Rattle.delivery.proofs.Words.Std.{length-map}
+use Rattle.delivery.proofs.Words.Topics.{Ticket, ticket_rows}
+use Rattle.delivery.proofs.Words.Core.{Sending}
 use Rattle.delivery.specs.Inner.Rooms.{tickets_to_keep}
 use Rattle.delivery.proofs.Views.Senders.RoomLasts.{few_tickets}
 use Rattle.delivery.proofs.sender_state.SenderState.fail.Goals as goal

@@ -1,5 +1,5 @@
 use Rattle.std.proofs.Common.{List, length, ap, ◌∙◌, arith}
-use Rattle.mcast_txn.specs.declared.id.Topic.{Topic}
+use Rattle.delivery.proofs.Words.Topics.{Topic}
 use Rattle.delivery.proofs.Views.Senders.RoomLasts.{launched_room}
 use Rattle.delivery.proofs.sender_state.SenderState.launch.Goals as goal
 

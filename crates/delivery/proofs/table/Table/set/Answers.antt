@@ -1,5 +1,5 @@
 use Rattle.std.proofs.Common.{◌<◌, ◌-◌, [], length, get_or, set, Some, ap, ◌∙◌, arith}
-use Rattle.mcast_txn.specs.Ballot.{Decision}
+use Rattle.delivery.proofs.Words.Topics.{Decision}
 use Rattle.delivery.proofs.Views.Verdicts.VerdictTable.{slot_filled}
 use Rattle.delivery.proofs.table.Table.set.Goals as goal
 

@@ -1,9 +1,10 @@
-use Rattle.std.proofs.Common.{◌≡◌, true, false}
+use Rattle.std.proofs.Common.{◌≡◌}
+use Rattle.std.specs.Slice.Iter.{iter_rest}
+use Rattle.mio.specs.Events.{items}
+use Rattle.broker_server.specs.Sockets.{after_events}
 use Rattle.broker_server.proofs.serving.socket.Socket.note.Given as goal
 
--- what may give something may still, a peer that has hung up has, and what isn't blocked isn't
+-- what the events that are left make of it is what all of them make of it
 abbrev pub invariant-loop-event : goal.invariant-loop-event
 invariant-loop-event l =
-    (l.fn.self.readable ≡ true → l.self.readable ≡ true)
-    × (l.fn.self.hung_up ≡ true → l.self.hung_up ≡ true)
-    × (l.fn.self.blocked ≡ false → l.self.blocked ≡ false)
+    after_events (iter_rest l.event-iterator) l.self ≡ after_events (items l.fn.events) l.fn.self

@@ -1,9 +1,7 @@
 use Rattle.std.proofs.Common.{◌≡◌, List, slice_get, Option, Some, None, sym, ap, ◌∙◌}
-use Rattle.std.specs.Option.{option_map}
-use Rattle.std.proofs.lemmas.Option.{slice_get_past, slice_get-get_or}
-use Rattle.delivery.specs.Core.Reports.{Report}
-use Rattle.delivery.specs.Inner.View.{View, SubView}
-use Rattle.delivery.specs.Inner.ViewReports.{sub_report}
+use Rattle.delivery.proofs.Words.Std.{option_map, slice_get_past, slice_get-get_or}
+use Rattle.delivery.proofs.Words.Core.{Report}
+use Rattle.delivery.proofs.Words.Views.{View, SubView, sub_report}
 use Rattle.delivery.proofs.Views.Runs.ReportOfView.{sub_reported}
 use Rattle.delivery.proofs.net_state.report.Report.subscription.Goals as goal
 

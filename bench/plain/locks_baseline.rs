@@ -1,4 +1,4 @@
-//! The job of `bench/locks_main.txt` in plain Rust, with the standard library alone: threads that commit transactions,
+//! The job of `bench/measured/locks_main.txt` in plain Rust, with the standard library alone: threads that commit transactions,
 //! each of one SEND to so many topics, each topic behind a `Mutex`, with its parts in a tree by their keys and in a map by
 //! their ids, and two bounded queues. One thread turns the topics, and one takes what comes. It keeps no trace. It ends
 //! with status 2 at a refusal.

@@ -1,4 +1,4 @@
-//! The job of `bench/core_main.txt` in plain Rust, with the maps and vectors of the standard library: it
+//! The job of `bench/measured/core_main.txt` in plain Rust, with the maps and vectors of the standard library: it
 //! gives each event of its input to a core, keeps it with what came of it, and writes that and what the
 //! core holds at the end. It ends with status 2 at a refusal.
 

@@ -1,4 +1,4 @@
-//! The job of `bench/group_main.txt` in plain Rust, with the standard library alone: it reads a letter, a
+//! The job of `bench/measured/group_main.txt` in plain Rust, with the standard library alone: it reads a letter, a
 //! number of parts, and the bodies of transactions, each of one SEND, and proposes each to one topic, whose
 //! parts are in a tree by their keys and in a map by their ids. At `o`, once more parts than that number are
 //! pending, the oldest learns its stamp and is released. At the other letters, once that number is pending,

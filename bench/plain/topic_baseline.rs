@@ -1,4 +1,4 @@
-//! The job of `bench/topic_main.txt` in plain Rust, with the standard library alone: it reads a number
+//! The job of `bench/measured/topic_main.txt` in plain Rust, with the standard library alone: it reads a number
 //! of subscriptions and the bodies of transactions, each of one SEND, and sends each transaction to
 //! one topic, which releases it to each subscription. It ends with status 2 at a refusal.
 

@@ -1,4 +1,4 @@
-//! The job of `bench/transactions_main.txt` in plain Rust, with the standard library alone: it
+//! The job of `bench/measured/transactions_main.txt` in plain Rust, with the standard library alone: it
 //! reads one connection's frames from standard input to its end, and gives each transaction its
 //! stamp among the topics A to H and those that its frames make. It ends with status 2 at a refusal.
 

@@ -1,4 +1,4 @@
-//! The job of `bench/frames_main.txt` in plain Rust, with the standard library alone: it reads
+//! The job of `bench/measured/frames_main.txt` in plain Rust, with the standard library alone: it reads
 //! standard input to its end, tells the case of each frame, and writes what answers it.
 
 mod cases;

@@ -1,5 +1,5 @@
 //! A plain auditor of the rows that bench/audit makes: hash maps, standard sorts, and no proof. It shares no code with
-//! the crates. It reads the rows from standard input and writes what it finds, as bench/audit_main.txt does.
+//! the crates. It reads the rows from standard input and writes what it finds, as bench/measured/audit_main.txt does.
 
 use std::collections::{BTreeMap, HashMap};
 use std::io::{self, Read};
