@@ -2,6 +2,7 @@
 
 mod audited;
 mod broker;
+mod charges;
 mod commits;
 mod crowd;
 mod ends;
