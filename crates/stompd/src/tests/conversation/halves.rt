@@ -37,9 +37,9 @@ const NO_MEMORY: &str = "ERROR\nmessage:72 NoMemory\ncontent-length:0\n\n\0\n";
 
 /// A peer that takes so many octets, and then none before it is given room again.
 #[derive(Drop)]
-struct Peer {
-    came: Vec<u8>,
-    room: usize,
+pub(super) struct Peer {
+    pub(super) came: Vec<u8>,
+    pub(super) room: usize,
 }
 
 impl Write for Peer {
