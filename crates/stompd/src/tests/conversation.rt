@@ -7,6 +7,7 @@ mod faults;
 mod halves;
 mod ignored;
 mod items;
+mod owed;
 mod parts;
 mod pieces;
 mod talk;
