@@ -13,6 +13,7 @@ use Rattle.delivery.specs.Core.Output.{messages_for}
 use Rattle.delivery.specs.declared.connection_fault.ConnectionFault.TheVariants as connection
 use Rattle.broker_server.specs.declared.conversation.conversation_fault.ConversationFault.{ConversationFault}
 use Rattle.broker_server.specs.declared.conversation.conversation_fault.ConversationFault.TheVariants as fault
+use Rattle.broker_server.specs.declared.conversation.extent.Extent.TheVariants.{All, Rest}
 use Rattle.broker_server.specs.declared.conversation.drained.Taking.TheVariants.{Emptied, Stopped, Halfway, Failed}
 use Rattle.broker_server.specs.BrokerRows.{AsksLag, GivesBack, IsGateAfter, SubName, Takes, Unsubscribes}
 use Rattle.broker_server.specs.ConversationFaults.{tells_version}
@@ -64,24 +65,24 @@ a_receipt_with_its_eol = refl
 -- ---- queues
 
 -- nothing is left of a queue that is found empty, and it can't have lagged
-empty_queue : (n : ℕ) (id : List ℕ) → DrainsOn false 2 (Takes (named n) None ∷ []) (begun_sub id false (named n) 2) [] Emptied (begun_sub id false (named n) 2) []
+empty_queue : (n : ℕ) (id : List ℕ) → DrainsOn All 2 (Takes (named n) None ∷ []) (begun_sub id false (named n) 2) [] Emptied (begun_sub id false (named n) 2) []
 empty_queue n id = inl (refl, (omega arith, refl, inr (refl, omega arith, refl, refl), refl))
 
 -- of three queues, from the second on, the first is the last that is looked at
-pub second_first : DrainsQueues false 2 1 (Takes (named 1) None ∷ Takes (named 2) None ∷ Takes (named 0) None ∷ []) (a ∷ b ∷ c ∷ []) [] Emptied (a ∷ b ∷ c ∷ []) [] 1
+pub second_first : DrainsQueues All 2 1 (Takes (named 1) None ∷ Takes (named 2) None ∷ Takes (named 0) None ∷ []) (a ∷ b ∷ c ∷ []) [] Emptied (a ∷ b ∷ c ∷ []) [] 1
 second_first =
-    let last : DrainsAll false 2 (Takes (named 2) None ∷ []) (c ∷ []) [] Emptied (c ∷ []) [] 0 =
+    let last : DrainsAll All 2 (Takes (named 2) None ∷ []) (c ∷ []) [] Emptied (c ∷ []) [] 0 =
     (Takes (named 2) None ∷ [], [], refl, Emptied, c, [], [], empty_queue 2 (codes "c"), refl, (refl, refl, refl, refl, refl)) in
-    let back : DrainsAll false 2 (Takes (named 1) None ∷ Takes (named 2) None ∷ []) (b ∷ c ∷ []) [] Emptied (b ∷ c ∷ []) [] 0 =
+    let back : DrainsAll All 2 (Takes (named 1) None ∷ Takes (named 2) None ∷ []) (b ∷ c ∷ []) [] Emptied (b ∷ c ∷ []) [] 0 =
     (Takes (named 1) None ∷ [], Takes (named 2) None ∷ [], refl, Emptied, b, c ∷ [], [], empty_queue 1 (codes "b"), refl, last) in
-    let front : DrainsAll false 2 (Takes (named 0) None ∷ []) (a ∷ []) [] Emptied (a ∷ []) [] 0 =
+    let front : DrainsAll All 2 (Takes (named 0) None ∷ []) (a ∷ []) [] Emptied (a ∷ []) [] 0 =
     (Takes (named 0) None ∷ [], [], refl, Emptied, a, [], [], empty_queue 0 (codes "a"), refl, (refl, refl, refl, refl, refl)) in
     (a ∷ [], b ∷ c ∷ [], refl, refl, Takes (named 1) None ∷ Takes (named 2) None ∷ [], Takes (named 0) None ∷ [], refl, Emptied, b ∷ c ∷ [], a ∷ [], [], 0, 0, back, refl, (front, refl))
 
 -- where the second of three isn't emptied, since 65,536 octets wait, the third is next
-pub third_next : (wire : List ℕ) → full_wire ≤ length wire → DrainsQueues false 2 1 [] (a ∷ b ∷ c ∷ []) wire Stopped (a ∷ b ∷ c ∷ []) wire 2
+pub third_next : (wire : List ℕ) → full_wire ≤ length wire → DrainsQueues All 2 1 [] (a ∷ b ∷ c ∷ []) wire Stopped (a ∷ b ∷ c ∷ []) wire 2
 third_next wire full =
-    let back : DrainsAll false 2 [] (b ∷ c ∷ []) wire Stopped (b ∷ c ∷ []) wire 1 =
+    let back : DrainsAll All 2 [] (b ∷ c ∷ []) wire Stopped (b ∷ c ∷ []) wire 1 =
     ([], [], refl, Stopped, b, c ∷ [], wire, inl (refl, (inl full, refl, refl, refl)), refl, (refl, refl, refl, refl, refl)) in
     (a ∷ [], b ∷ c ∷ [], refl, refl, [], [], refl, Stopped, b ∷ c ∷ [], a ∷ [], wire, 1, 0, back, refl, (refl, refl, refl, refl, refl))
 
@@ -95,39 +96,39 @@ begins_anew = refl
 
 -- A queue of two that gave two items is found empty, and has lagged: it is taken until it is empty again, and then 74 is
 -- told.
-pub lag_is_told : (why : ConversationFault) → IsLag why → Drains false 2 0 (Takes (named 0) None ∷ AsksLag (named 0) true ∷ Takes (named 0) None ∷ []) (record a { until_lag = 0 }) [] (Failed why) (record a { until_lag = 0; lagged = true }) []
+pub lag_is_told : (why : ConversationFault) → IsLag why → Drains All 2 0 (Takes (named 0) None ∷ AsksLag (named 0) true ∷ Takes (named 0) None ∷ []) (record a { until_lag = 0 }) [] (Failed why) (record a { until_lag = 0; lagged = true }) []
 lag_is_told why lag =
     (omega arith, refl, refl, refl, refl, (omega arith, refl, inl (refl, (why, lag, refl), refl), refl))
 
 -- where 65,536 octets wait, nothing is taken
-pub wire_is_full : (wire : List ℕ) → full_wire ≤ length wire → Drains false 2 0 [] a wire Stopped a wire
+pub wire_is_full : (wire : List ℕ) → full_wire ≤ length wire → Drains All 2 0 [] a wire Stopped a wire
 wire_is_full wire full = (inl full, refl, refl, refl)
 
 -- ---- an item that doesn't fit
 
 -- an item of three MESSAGEs, of which the second fills the wire: the third is left, and the first two wait
-pub third_is_left : (f g h : RawFrame) (wire : List ℕ) → has_room false wire ≡ true → has_room false (wire ++ spelling_with_eol f) ≡ true → has_room false ((wire ++ spelling_with_eol f) ++ spelling_with_eol g) ≡ false
-    → (left_behind false (f ∷ g ∷ h ∷ []) wire ≡ h ∷ []) × (with_messages false (f ∷ g ∷ h ∷ []) wire ≡ (wire ++ spelling_with_eol f) ++ spelling_with_eol g)
+pub third_is_left : (f g h : RawFrame) (wire : List ℕ) → has_room wire ≡ true → has_room (wire ++ spelling_with_eol f) ≡ true → has_room ((wire ++ spelling_with_eol f) ++ spelling_with_eol g) ≡ false
+    → (left_behind (f ∷ g ∷ h ∷ []) wire ≡ h ∷ []) × (with_messages (f ∷ g ∷ h ∷ []) wire ≡ (wire ++ spelling_with_eol f) ++ spelling_with_eol g)
 third_is_left f g h wire first second full = rw first (rw second (rw full (refl, refl)))
 
--- while a transaction of the connection waits for room, all three are written
-pub none_is_left : (f g h : RawFrame) (wire : List ℕ) → left_behind true (f ∷ g ∷ h ∷ []) wire ≡ []
-none_is_left f g h wire = refl
-
 -- once there is room, the third is written, and the queue, which is empty, is asked for the next item
-pub third_goes_on : (h : RawFrame) (wire : List ℕ) → has_room false wire ≡ true → has_room false (wire ++ spelling_with_eol h) ≡ true → DrainsOn false 2 (Takes (named 0) None ∷ []) (record a { left = h ∷ [] }) wire Emptied a (wire ++ spelling_with_eol h)
+pub third_goes_on : (h : RawFrame) (wire : List ℕ) → has_room wire ≡ true → has_room (wire ++ spelling_with_eol h) ≡ true → DrainsOn All 2 (Takes (named 0) None ∷ []) (record a { left = h ∷ [] }) wire Emptied a (wire ++ spelling_with_eol h)
 third_goes_on h wire room more =
     inl (rw room refl, rw room (below more, refl, inr (refl, omega arith, refl, refl), refl))
   where
     below : nat_lt (length (wire ++ spelling_with_eol h)) full_wire ≡ true → length (wire ++ spelling_with_eol h) < full_wire
     below less = grind (arith, nat_tests)
 
+-- the same while an answer is owed: the third is written, and the queue isn't asked, so that the answer comes next
+pub third_comes_alone : (h : RawFrame) (wire : List ℕ) → has_room wire ≡ true → DrainsOn Rest 2 [] (record a { left = h ∷ [] }) wire Stopped a (wire ++ spelling_with_eol h)
+third_comes_alone h wire room = inl (rw room refl, rw room (refl, refl, refl, refl))
+
 -- where the second of three queues has one MESSAGE left, and no room, nothing is asked, and that queue is next again
-pub second_next_again : (h : RawFrame) (wire : List ℕ) → has_room false wire ≡ false → DrainsQueues false 2 1 [] (a ∷ record b { left = h ∷ [] } ∷ c ∷ []) wire Halfway (a ∷ record b { left = h ∷ [] } ∷ c ∷ []) wire 1
+pub second_next_again : (h : RawFrame) (wire : List ℕ) → has_room wire ≡ false → DrainsQueues All 2 1 [] (a ∷ record b { left = h ∷ [] } ∷ c ∷ []) wire Halfway (a ∷ record b { left = h ∷ [] } ∷ c ∷ []) wire 1
 second_next_again h wire full =
     let second = record b { left = h ∷ [] } in
-    let off : DrainsOn false 2 [] second wire Halfway second wire = inr (refl, inl (refl, (rw full refl, rw full refl), refl, refl)) in
-    let back : DrainsAll false 2 [] (second ∷ c ∷ []) wire Halfway (second ∷ c ∷ []) wire 2 =
+    let off : DrainsOn All 2 [] second wire Halfway second wire = inr (refl, inl (refl, (rw full refl, rw full refl), refl, refl)) in
+    let back : DrainsAll All 2 [] (second ∷ c ∷ []) wire Halfway (second ∷ c ∷ []) wire 2 =
     ([], [], refl, Halfway, second, c ∷ [], wire, off, refl, (refl, refl, refl, refl, refl)) in
     (a ∷ [], second ∷ c ∷ [], refl, refl, [], [], refl, Halfway, second ∷ c ∷ [], a ∷ [], wire, 2, 0, back, refl, (refl, refl, refl, refl, refl))
 

@@ -10,86 +10,88 @@ use Rattle.stomp_frame.specs.declared.raw_frame.RawFrame.{RawFrame}
 use Rattle.mcast_txn.specs.Span.{Item}
 use Rattle.delivery.specs.Core.Outcomes.{is_any}
 use Rattle.broker_server.specs.declared.conversation.conversation_fault.ConversationFault.{ConversationFault}
+use Rattle.broker_server.specs.declared.conversation.extent.Extent.{Extent}
+use Rattle.broker_server.specs.declared.conversation.extent.Extent.TheVariants.{All, ButLags, Rest}
 use Rattle.broker_server.specs.declared.conversation.drained.Taking.{Taking}
 use Rattle.broker_server.specs.declared.conversation.drained.Taking.TheVariants.{Emptied, Stopped, Halfway, Failed}
 use Rattle.broker_server.specs.BrokerRows.{AsksLag, BrokerRow, SubName, Takes}
 use Rattle.broker_server.specs.Conversations.{ConversationState, OpenSubState}
-use Rattle.broker_server.specs.Delivering.{BreaksOff, Drains, DrainsAll, DrainsOn, DrainsQueues, FailsIn, IfEmptied, Settles, StopsIn, WritesAll, nearer_lag, begins_at, full_wire, has_item, has_room, is_halfway, is_item, is_stopped, left_behind, left_from, messages_of, with_messages}
+use Rattle.broker_server.specs.Delivering.{BreaksOff, Drains, DrainsAll, DrainsBehind, DrainsOn, DrainsQueues, FailsIn, IfEmptied, Settles, StopsIn, WritesAll, nearer_lag, begins_at, full_wire, has_item, has_room, is_halfway, is_item, is_stopped, left_behind, left_from, messages_of, with_messages}
 use Rattle.broker_server.specs.Wires.{spelling_with_eol}
 
 -- what was asked, and then more
-pub drains_behind : (waits : Bool) (capacity : ℕ) (asked more rows : List BrokerRow) (o : OpenSubState) (wire : List ℕ) (end : Taking) (new : OpenSubState) (after : List ℕ) → Drains waits capacity 0 (asked ++ (more ++ rows)) o wire end new after → Drains waits capacity 0 ((asked ++ more) ++ rows) o wire end new after
-drains_behind waits capacity asked more rows o wire end new after drains =
-    subst (λ (all : List BrokerRow). Drains waits capacity 0 all o wire end new after) (sym (append_assoc asked more rows)) drains
+pub drains_behind : (extent : Extent) (capacity : ℕ) (asked more rows : List BrokerRow) (o : OpenSubState) (wire : List ℕ) (end : Taking) (new : OpenSubState) (after : List ℕ) → Drains extent capacity 0 (asked ++ (more ++ rows)) o wire end new after → Drains extent capacity 0 ((asked ++ more) ++ rows) o wire end new after
+drains_behind extent capacity asked more rows o wire end new after drains =
+    subst (λ (all : List BrokerRow). Drains extent capacity 0 all o wire end new after) (sym (append_assoc asked more rows)) drains
 
 -- an item is taken and written as a whole
-pub drains_item : (waits : Bool) (capacity calls : ℕ) (o next : OpenSubState) (wire more : List ℕ) (item : Item) (sub : SubName) → length wire < full_wire → sub ≡ o.sub → next ≡ nearer_lag o → WritesAll waits (messages_of o item) wire more → (rows : List BrokerRow) (end : Taking) (new : OpenSubState) (after : List ℕ) → Drains waits capacity (calls + 1) rows next more end new after → Drains waits capacity calls (Takes sub (Some item) ∷ rows) o wire end new after
-drains_item waits capacity calls o next wire more item sub room same next_is (whole, more_is) rows end new after drains =
-    (room, same, inl (whole, subst (λ (w : List ℕ). Drains waits capacity (calls + 1) rows (nearer_lag o) w end new after) more_is (subst (λ (q : OpenSubState). Drains waits capacity (calls + 1) rows q more end new after) next_is drains)))
+pub drains_item : (extent : Extent) (capacity calls : ℕ) (o next : OpenSubState) (wire more : List ℕ) (item : Item) (sub : SubName) → length wire < full_wire → sub ≡ o.sub → next ≡ nearer_lag o → WritesAll (messages_of o item) wire more → (rows : List BrokerRow) (end : Taking) (new : OpenSubState) (after : List ℕ) → Drains extent capacity (calls + 1) rows next more end new after → Drains extent capacity calls (Takes sub (Some item) ∷ rows) o wire end new after
+drains_item extent capacity calls o next wire more item sub room same next_is (whole, more_is) rows end new after drains =
+    (room, same, inl (whole, subst (λ (w : List ℕ). Drains extent capacity (calls + 1) rows (nearer_lag o) w end new after) more_is (subst (λ (q : OpenSubState). Drains extent capacity (calls + 1) rows q more end new after) next_is drains)))
 
 -- an item is taken, and isn't written as a whole
-pub drains_half : (waits : Bool) (capacity calls : ℕ) (o next : OpenSubState) (wire : List ℕ) (item : Item) (sub : SubName) → length wire < full_wire → sub ≡ o.sub → next ≡ nearer_lag o → (end : Taking) (new : OpenSubState) (after : List ℕ) → BreaksOff waits (messages_of o item) next wire end new after → Drains waits capacity calls (Takes sub (Some item) ∷ []) o wire end new after
-drains_half waits capacity calls o next wire item sub room same next_is end new after off =
-    (room, same, inr (refl, subst (λ (q : OpenSubState). BreaksOff waits (messages_of o item) q wire end new after) next_is off))
+pub drains_half : (extent : Extent) (capacity calls : ℕ) (o next : OpenSubState) (wire : List ℕ) (item : Item) (sub : SubName) → length wire < full_wire → sub ≡ o.sub → next ≡ nearer_lag o → (end : Taking) (new : OpenSubState) (after : List ℕ) → BreaksOff (messages_of o item) next wire end new after → Drains extent capacity calls (Takes sub (Some item) ∷ []) o wire end new after
+drains_half extent capacity calls o next wire item sub room same next_is end new after off =
+    (room, same, inr (refl, subst (λ (q : OpenSubState). BreaksOff (messages_of o item) q wire end new after) next_is off))
 
 -- ---- the MESSAGEs of an item
 
 -- where there is room, the next is written
-pub room_for : (waits : Bool) (f : RawFrame) (fs : List RawFrame) (wire : List ℕ) → has_room waits wire ≡ true → (left_behind waits (f ∷ fs) wire ≡ left_behind waits fs (wire ++ spelling_with_eol f)) × (with_messages waits (f ∷ fs) wire ≡ with_messages waits fs (wire ++ spelling_with_eol f))
-room_for waits f fs wire room = (
-  ap (λ (b : Bool). if b then left_behind waits fs (wire ++ spelling_with_eol f) else f ∷ fs) room,
-  ap (λ (b : Bool). if b then with_messages waits fs (wire ++ spelling_with_eol f) else wire) room,
+pub room_for : (f : RawFrame) (fs : List RawFrame) (wire : List ℕ) → has_room wire ≡ true → (left_behind (f ∷ fs) wire ≡ left_behind fs (wire ++ spelling_with_eol f)) × (with_messages (f ∷ fs) wire ≡ with_messages fs (wire ++ spelling_with_eol f))
+room_for f fs wire room = (
+  ap (λ (b : Bool). if b then left_behind fs (wire ++ spelling_with_eol f) else f ∷ fs) room,
+  ap (λ (b : Bool). if b then with_messages fs (wire ++ spelling_with_eol f) else wire) room,
 )
 
 -- where there is none, it is left
-pub no_room_for : (waits : Bool) (f : RawFrame) (fs : List RawFrame) (wire : List ℕ) → has_room waits wire ≡ false → (left_behind waits (f ∷ fs) wire ≡ f ∷ fs) × (with_messages waits (f ∷ fs) wire ≡ wire)
-no_room_for waits f fs wire none = (
-  ap (λ (b : Bool). if b then left_behind waits fs (wire ++ spelling_with_eol f) else f ∷ fs) none,
-  ap (λ (b : Bool). if b then with_messages waits fs (wire ++ spelling_with_eol f) else wire) none,
+pub no_room_for : (f : RawFrame) (fs : List RawFrame) (wire : List ℕ) → has_room wire ≡ false → (left_behind (f ∷ fs) wire ≡ f ∷ fs) × (with_messages (f ∷ fs) wire ≡ wire)
+no_room_for f fs wire none = (
+  ap (λ (b : Bool). if b then left_behind fs (wire ++ spelling_with_eol f) else f ∷ fs) none,
+  ap (λ (b : Bool). if b then with_messages fs (wire ++ spelling_with_eol f) else wire) none,
 )
 
 some_none : (f : RawFrame) (fs : List RawFrame) → f ∷ fs ≡ [] → ⊥
 some_none f fs e = cc
 
 -- Where these are all written, it goes on with more behind them.
-pub writes_more : (waits : Bool) (out more : List RawFrame) (wire now : List ℕ) → WritesAll waits out wire now → (left_behind waits (out ++ more) wire ≡ left_behind waits more now) × (with_messages waits (out ++ more) wire ≡ with_messages waits more now)
-writes_more waits [] more wire now (whole, is) = (ap (left_behind waits more) (sym is), ap (with_messages waits more) (sym is))
-writes_more waits (f ∷ fs) more wire now (whole, is) = by (has_room waits wire) refl (λ w all. writes_more waits fs more w now all)
+pub writes_more : (out more : List RawFrame) (wire now : List ℕ) → WritesAll out wire now → (left_behind (out ++ more) wire ≡ left_behind more now) × (with_messages (out ++ more) wire ≡ with_messages more now)
+writes_more [] more wire now (whole, is) = (ap (left_behind more) (sym is), ap (with_messages more) (sym is))
+writes_more (f ∷ fs) more wire now (whole, is) = by (has_room wire) refl (λ w all. writes_more fs more w now all)
   where
-    by : (b : Bool) → has_room waits wire ≡ b → ((w : List ℕ) → WritesAll waits fs w now → (left_behind waits (fs ++ more) w ≡ left_behind waits more now) × (with_messages waits (fs ++ more) w ≡ with_messages waits more now)) → (left_behind waits (f ∷ (fs ++ more)) wire ≡ left_behind waits more now) × (with_messages waits (f ∷ (fs ++ more)) wire ≡ with_messages waits more now)
+    by : (b : Bool) → has_room wire ≡ b → ((w : List ℕ) → WritesAll fs w now → (left_behind (fs ++ more) w ≡ left_behind more now) × (with_messages (fs ++ more) w ≡ with_messages more now)) → (left_behind (f ∷ (fs ++ more)) wire ≡ left_behind more now) × (with_messages (f ∷ (fs ++ more)) wire ≡ with_messages more now)
     by true room on =
-        let here = room_for waits f fs wire room in
-        let there = room_for waits f (fs ++ more) wire room in
+        let here = room_for f fs wire room in
+        let there = room_for f (fs ++ more) wire room in
         let rest = on (wire ++ spelling_with_eol f) (sym here.0 ∙ whole, is ∙ here.1) in
         (there.0 ∙ rest.0, there.1 ∙ rest.1)
-    by false none on = absurd (some_none f fs (sym (no_room_for waits f fs wire none).0 ∙ whole))
+    by false none on = absurd (some_none f fs (sym (no_room_for f fs wire none).0 ∙ whole))
 
 -- Where these are all written, and there is room, one more is.
-pub writes_one : (waits : Bool) (out : List RawFrame) (f : RawFrame) (wire now : List ℕ) → has_room waits now ≡ true → WritesAll waits out wire now → WritesAll waits (out ++ f ∷ []) wire (now ++ spelling_with_eol f)
-writes_one waits out f wire now room all =
-    let more = writes_more waits out (f ∷ []) wire now all in
-    let one = room_for waits f [] now room in
+pub writes_one : (out : List RawFrame) (f : RawFrame) (wire now : List ℕ) → has_room now ≡ true → WritesAll out wire now → WritesAll (out ++ f ∷ []) wire (now ++ spelling_with_eol f)
+writes_one out f wire now room all =
+    let more = writes_more out (f ∷ []) wire now all in
+    let one = room_for f [] now room in
     (more.0 ∙ one.0, sym (more.1 ∙ one.1))
 
 -- Where these are all written, and there is no room, the next of them is left with those behind it.
-pub breaks_off : (waits : Bool) (out : List RawFrame) (f : RawFrame) (fs : List RawFrame) (wire now : List ℕ) → has_room waits now ≡ false → WritesAll waits out wire now → (left_behind waits (out ++ f ∷ fs) wire ≡ f ∷ fs) × (now ≡ with_messages waits (out ++ f ∷ fs) wire)
-breaks_off waits out f fs wire now none all =
-    let more = writes_more waits out (f ∷ fs) wire now all in
-    let stays = no_room_for waits f fs now none in
+pub breaks_off : (out : List RawFrame) (f : RawFrame) (fs : List RawFrame) (wire now : List ℕ) → has_room now ≡ false → WritesAll out wire now → (left_behind (out ++ f ∷ fs) wire ≡ f ∷ fs) × (now ≡ with_messages (out ++ f ∷ fs) wire)
+breaks_off out f fs wire now none all =
+    let more = writes_more out (f ∷ fs) wire now all in
+    let stays = no_room_for f fs now none in
     (more.0 ∙ stays.0, sym (more.1 ∙ stays.1))
 
 -- the queue was empty, and the broker says that it has lagged
-pub drains_lag : (waits : Bool) (capacity calls : ℕ) (o next : OpenSubState) (wire : List ℕ) (sub lagging : SubName) → length wire < full_wire → sub ≡ o.sub → lagging ≡ o.sub → o.lagged ≡ false → o.until_lag ≡ 0 → next ≡ record o { lagged = true } → (rows : List BrokerRow) (end : Taking) (new : OpenSubState) (after : List ℕ) → Drains waits capacity (calls + 1) rows next wire end new after → Drains waits capacity calls (Takes sub None ∷ AsksLag lagging true ∷ rows) o wire end new after
-drains_lag waits capacity calls o next wire sub lagging room same asked unlagged due next_is rows end new after drains =
-    (room, same, asked, unlagged, due, subst (λ (q : OpenSubState). Drains waits capacity (calls + 1) rows q wire end new after) next_is drains)
+pub drains_lag : (extent : Extent) (capacity calls : ℕ) (o next : OpenSubState) (wire : List ℕ) (sub lagging : SubName) → length wire < full_wire → sub ≡ o.sub → lagging ≡ o.sub → o.lagged ≡ false → o.until_lag ≡ 0 → next ≡ record o { lagged = true } → (rows : List BrokerRow) (end : Taking) (new : OpenSubState) (after : List ℕ) → Drains extent capacity (calls + 1) rows next wire end new after → Drains extent capacity calls (Takes sub None ∷ AsksLag lagging true ∷ rows) o wire end new after
+drains_lag extent capacity calls o next wire sub lagging room same asked unlagged due next_is rows end new after drains =
+    (room, same, asked, unlagged, due, subst (λ (q : OpenSubState). Drains extent capacity (calls + 1) rows q wire end new after) next_is drains)
 
 -- those before the one at this index are written
-abbrev pub SoFar : Bool → List RawFrame → ℕ → ℕ → List ℕ → List ℕ → Type 0
-SoFar waits messages next at wire now =
-    (out : List RawFrame) × (drop next messages ≡ out ++ drop at messages) × WritesAll waits out wire now
+abbrev pub SoFar : List RawFrame → ℕ → ℕ → List ℕ → List ℕ → Type 0
+SoFar messages next at wire now =
+    (out : List RawFrame) × (drop next messages ≡ out ++ drop at messages) × WritesAll out wire now
 
-pub none_so_far : (waits : Bool) (messages : List RawFrame) (next : ℕ) (wire : List ℕ) → SoFar waits messages next next wire wire
-none_so_far waits messages next wire = ([], refl, (refl, refl))
+pub none_so_far : (messages : List RawFrame) (next : ℕ) (wire : List ℕ) → SoFar messages next next wire wire
+none_so_far messages next wire = ([], refl, (refl, refl))
 
 nothing_there : (xs : List RawFrame) (i : ℕ) → i < length xs → slice_get xs i ≡ None → ⊥
 nothing_there [] i less e = absurd (omega arith)
@@ -105,33 +107,33 @@ here messages at there = by (slice_get messages at) refl
     by None is = absurd (nothing_there messages at there is)
 
 -- it is written, too
-pub one_so_far : (waits : Bool) (messages : List RawFrame) (next at : ℕ) (wire now new : List ℕ) → at < length messages → has_room waits now ≡ true → IfSome (slice_get messages at) (λ f. new ≡ now ++ spelling_with_eol f) → SoFar waits messages next at wire now → SoFar waits messages next (at + 1) wire new
-one_so_far waits messages next at wire now new there room put (out, cut, all) =
+pub one_so_far : (messages : List RawFrame) (next at : ℕ) (wire now new : List ℕ) → at < length messages → has_room now ≡ true → IfSome (slice_get messages at) (λ f. new ≡ now ++ spelling_with_eol f) → SoFar messages next at wire now → SoFar messages next (at + 1) wire new
+one_so_far messages next at wire now new there room put (out, cut, all) =
     let h = here messages at there in
     let f = h.0 in
     let is : new ≡ now ++ spelling_with_eol f = subst (λ (o : Option RawFrame). IfSome o (λ g. new ≡ now ++ spelling_with_eol g)) h.1 put in (
       out ++ f ∷ [],
       cut ∙ ap (λ (rest : List RawFrame). out ++ rest) h.2 ∙ sym (append_assoc out (f ∷ []) (drop (at + 1) messages)),
-      subst (λ (w : List ℕ). WritesAll waits (out ++ f ∷ []) wire w) (sym is) (writes_one waits out f wire now room all),
+      subst (λ (w : List ℕ). WritesAll (out ++ f ∷ []) wire w) (sym is) (writes_one out f wire now room all),
     )
 
 -- there is no room for it
-pub stops_so_far : (waits : Bool) (messages : List RawFrame) (next at : ℕ) (wire now : List ℕ) → at < length messages → has_room waits now ≡ false → SoFar waits messages next at wire now → StopsIn waits (drop next messages) (drop at messages) wire now
-stops_so_far waits messages next at wire now there none (out, cut, all) =
+pub stops_so_far : (messages : List RawFrame) (next at : ℕ) (wire now : List ℕ) → at < length messages → has_room now ≡ false → SoFar messages next at wire now → StopsIn (drop next messages) (drop at messages) wire now
+stops_so_far messages next at wire now there none (out, cut, all) =
     let h = here messages at there in
-    let off = breaks_off waits out h.0 (drop (at + 1) messages) wire now none all in
+    let off = breaks_off out h.0 (drop (at + 1) messages) wire now none all in
     let whole : drop next messages ≡ out ++ h.0 ∷ drop (at + 1) messages = cut ∙ ap (λ (rest : List RawFrame). out ++ rest) h.2 in
-    (ap (λ (ms : List RawFrame). left_behind waits ms wire) whole ∙ off.0 ∙ sym h.2, off.1 ∙ ap (λ (ms : List RawFrame). with_messages waits ms wire) (sym whole))
+    (ap (λ (ms : List RawFrame). left_behind ms wire) whole ∙ off.0 ∙ sym h.2, off.1 ∙ ap (λ (ms : List RawFrame). with_messages ms wire) (sym whole))
 
 -- none is left
-pub all_so_far : (waits : Bool) (messages : List RawFrame) (next at count : ℕ) (wire now : List ℕ) → length messages ≤ at → length messages ≤ count → SoFar waits messages next at wire now → StopsIn waits (drop next messages) (drop count messages) wire now
-all_so_far waits messages next at count wire now past over (out, cut, all) =
+pub all_so_far : (messages : List RawFrame) (next at count : ℕ) (wire now : List ℕ) → length messages ≤ at → length messages ≤ count → SoFar messages next at wire now → StopsIn (drop next messages) (drop count messages) wire now
+all_so_far messages next at count wire now past over (out, cut, all) =
     let whole : drop next messages ≡ out = cut ∙ ap (λ (rest : List RawFrame). out ++ rest) (drop_all at messages past) ∙ append-nil out in
-    (ap (λ (ms : List RawFrame). left_behind waits ms wire) whole ∙ all.0 ∙ sym (drop_all count messages over), all.1 ∙ ap (λ (ms : List RawFrame). with_messages waits ms wire) (sym whole))
+    (ap (λ (ms : List RawFrame). left_behind ms wire) whole ∙ all.0 ∙ sym (drop_all count messages over), all.1 ∙ ap (λ (ms : List RawFrame). with_messages ms wire) (sym whole))
 
 -- there is no memory for it
-pub fails_so_far : (waits : Bool) (messages : List RawFrame) (next at : ℕ) (wire now : List ℕ) → at < length messages → SoFar waits messages next at wire now → FailsIn waits (drop next messages) wire now
-fails_so_far waits messages next at wire now there (out, cut, all) =
+pub fails_so_far : (messages : List RawFrame) (next at : ℕ) (wire now : List ℕ) → at < length messages → SoFar messages next at wire now → FailsIn (drop next messages) wire now
+fails_so_far messages next at wire now there (out, cut, all) =
     let h = here messages at there in
     (out, drop at messages, cut, ap is_any h.2, all)
 
@@ -184,6 +186,20 @@ pub either_item : (asked later : List BrokerRow) (any more : Bool) → any ≡ h
 either_item asked later any more first second =
     ap (λ (b : Bool). b || more) first ∙ ap (λ (b : Bool). has_item asked || b) second ∙ sym (list_any-append is_item asked later)
 
+-- ---- behind an item
+
+-- where more than its rest is taken
+pub takes_behind : (extent : Extent) (capacity : ℕ) (asked : List BrokerRow) (o : OpenSubState) (wire : List ℕ) (end : Taking) (new : OpenSubState) (after : List ℕ) → (extent ≡ Rest → ⊥) → Drains extent capacity 0 asked o wire end new after → DrainsBehind extent capacity asked o wire end new after
+takes_behind All capacity asked o wire end new after never drains = drains
+takes_behind ButLags capacity asked o wire end new after never drains = drains
+takes_behind Rest capacity asked o wire end new after never drains = absurd (never refl)
+
+-- where nothing is
+pub stops_behind : (extent : Extent) (capacity : ℕ) (o : OpenSubState) (wire : List ℕ) → extent ≡ Rest → DrainsBehind extent capacity [] o wire Stopped o wire
+stops_behind All capacity o wire e = absurd cc
+stops_behind ButLags capacity o wire e = absurd cc
+stops_behind Rest capacity o wire e = (refl, refl, refl, refl)
+
 -- ---- queue after queue
 
 -- a queue is left behind only where an item of it is half out
@@ -192,11 +208,6 @@ left_else Emptied os never = refl
 left_else Stopped os never = refl
 left_else Halfway os never = absurd (never refl)
 left_else (Failed why) os never = refl
-
--- either of two is so
-pub or_so : (a b : Bool) → b ≡ true → (a || b) ≡ true
-or_so true b is = refl
-or_so false b is = is
 
 -- a queue that isn't emptied stops the others
 pub if_stopped : (t : Taking) (A B : Type 0) → (t ≡ Emptied → ⊥) → B → IfEmptied t A B
@@ -210,38 +221,38 @@ pub if_emptied : (t : Taking) (A B : Type 0) → t ≡ Emptied → A → IfEmpti
 if_emptied t A B e a = subst (λ (s : Taking). IfEmptied s A B) (sym e) a
 
 -- The calls so far emptied the first queues, and are a beginning: whatever is taken of the rest is taken behind them.
-abbrev pub GoesOn : Bool → ℕ → List BrokerRow → List OpenSubState → List OpenSubState → List OpenSubState → List ℕ → List ℕ → Type 0
-GoesOn waits capacity asked queues done rest before wire =
+abbrev pub GoesOn : Extent → ℕ → List BrokerRow → List OpenSubState → List OpenSubState → List OpenSubState → List ℕ → List ℕ → Type 0
+GoesOn extent capacity asked queues done rest before wire =
     (rows : List BrokerRow) (end : Taking) (others : List OpenSubState) (after : List ℕ) (left : ℕ)
-    → DrainsAll waits capacity rows rest wire end others after left
-    → DrainsAll waits capacity (asked ++ rows) queues before end (done ++ others) after left
+    → DrainsAll extent capacity rows rest wire end others after left
+    → DrainsAll extent capacity (asked ++ rows) queues before end (done ++ others) after left
 
 -- the next one is emptied, too
-pub goes_on : (waits : Bool) (capacity : ℕ) (asked more : List BrokerRow) (queues done rest : List OpenSubState) (o new : OpenSubState) (before wire between : List ℕ) (one : Taking) → one ≡ Emptied → DrainsOn waits capacity more o wire one new between → GoesOn waits capacity asked queues done (o ∷ rest) before wire → GoesOn waits capacity (asked ++ more) queues (done ++ new ∷ []) rest before between
-goes_on waits capacity asked more queues done rest o new before wire between one emptied drains so_far rows end others after left follow =
-    subst (λ (all : List BrokerRow). DrainsAll waits capacity all queues before end ((done ++ new ∷ []) ++ others) after left) (sym (append_assoc asked more rows))
-    (subst (λ (all : List OpenSubState). DrainsAll waits capacity (asked ++ (more ++ rows)) queues before end all after left) (sym (append_assoc done (new ∷ []) others))
+pub goes_on : (extent : Extent) (capacity : ℕ) (asked more : List BrokerRow) (queues done rest : List OpenSubState) (o new : OpenSubState) (before wire between : List ℕ) (one : Taking) → one ≡ Emptied → DrainsOn extent capacity more o wire one new between → GoesOn extent capacity asked queues done (o ∷ rest) before wire → GoesOn extent capacity (asked ++ more) queues (done ++ new ∷ []) rest before between
+goes_on extent capacity asked more queues done rest o new before wire between one emptied drains so_far rows end others after left follow =
+    subst (λ (all : List BrokerRow). DrainsAll extent capacity all queues before end ((done ++ new ∷ []) ++ others) after left) (sym (append_assoc asked more rows))
+    (subst (λ (all : List OpenSubState). DrainsAll extent capacity (asked ++ (more ++ rows)) queues before end all after left) (sym (append_assoc done (new ∷ []) others))
     (so_far (more ++ rows) end (new ∷ others) after left (more, rows, refl, one, new, others, between, drains, refl, if_emptied one _ _ emptied follow)))
 
 -- the next one isn't, and the rest stay
-pub goes_no_further : (waits : Bool) (capacity : ℕ) (asked more : List BrokerRow) (queues done rest : List OpenSubState) (o new : OpenSubState) (before wire between : List ℕ) (one : Taking) → (one ≡ Emptied → ⊥) → DrainsOn waits capacity more o wire one new between → GoesOn waits capacity asked queues done (o ∷ rest) before wire → DrainsAll waits capacity (asked ++ more) queues before one (done ++ new ∷ rest) between (left_from one rest)
-goes_no_further waits capacity asked more queues done rest o new before wire between one never drains so_far =
+pub goes_no_further : (extent : Extent) (capacity : ℕ) (asked more : List BrokerRow) (queues done rest : List OpenSubState) (o new : OpenSubState) (before wire between : List ℕ) (one : Taking) → (one ≡ Emptied → ⊥) → DrainsOn extent capacity more o wire one new between → GoesOn extent capacity asked queues done (o ∷ rest) before wire → DrainsAll extent capacity (asked ++ more) queues before one (done ++ new ∷ rest) between (left_from one rest)
+goes_no_further extent capacity asked more queues done rest o new before wire between one never drains so_far =
     so_far more one (new ∷ rest) between (left_from one rest) (more, [], sym (append-nil more), one, new, rest, between, drains, refl, if_stopped one _ _ never (refl, refl, refl, refl, refl))
 
 -- the back ones are emptied, and then the front ones are taken
-pub drains_both : (waits : Bool) (capacity next : ℕ) (queues front back : List OpenSubState) → queues ≡ front ++ back → length front ≡ begins_at next (length queues) → (first rest : List BrokerRow) (wire : List ℕ) (one end : Taking) (changed others : List OpenSubState) (between after : List ℕ) (left unseen later : ℕ) → one ≡ Emptied → DrainsAll waits capacity first back wire one changed between left → DrainsAll waits capacity rest front between end others after unseen → later ≡ length front - unseen → DrainsQueues waits capacity next (first ++ rest) queues wire end (others ++ changed) after later
-drains_both waits capacity next queues front back cut begins first rest wire one end changed others between after left unseen later emptied did follow goes =
+pub drains_both : (extent : Extent) (capacity next : ℕ) (queues front back : List OpenSubState) → queues ≡ front ++ back → length front ≡ begins_at next (length queues) → (first rest : List BrokerRow) (wire : List ℕ) (one end : Taking) (changed others : List OpenSubState) (between after : List ℕ) (left unseen later : ℕ) → one ≡ Emptied → DrainsAll extent capacity first back wire one changed between left → DrainsAll extent capacity rest front between end others after unseen → later ≡ length front - unseen → DrainsQueues extent capacity next (first ++ rest) queues wire end (others ++ changed) after later
+drains_both extent capacity next queues front back cut begins first rest wire one end changed others between after left unseen later emptied did follow goes =
     (front, back, cut, begins, first, rest, refl, one, changed, others, between, left, unseen, did, refl, if_emptied one _ _ emptied (follow, goes))
 
 -- the back ones aren't all emptied, and the front ones stay
-pub drains_back : (waits : Bool) (capacity next : ℕ) (queues front back : List OpenSubState) → queues ≡ front ++ back → length front ≡ begins_at next (length queues) → (asked : List BrokerRow) (wire : List ℕ) (end : Taking) (changed : List OpenSubState) (after : List ℕ) (left later : ℕ) → (end ≡ Emptied → ⊥) → DrainsAll waits capacity asked back wire end changed after left → later ≡ length queues - left → DrainsQueues waits capacity next asked queues wire end (front ++ changed) after later
-drains_back waits capacity next queues front back cut begins asked wire end changed after left later never did goes =
+pub drains_back : (extent : Extent) (capacity next : ℕ) (queues front back : List OpenSubState) → queues ≡ front ++ back → length front ≡ begins_at next (length queues) → (asked : List BrokerRow) (wire : List ℕ) (end : Taking) (changed : List OpenSubState) (after : List ℕ) (left later : ℕ) → (end ≡ Emptied → ⊥) → DrainsAll extent capacity asked back wire end changed after left → later ≡ length queues - left → DrainsQueues extent capacity next asked queues wire end (front ++ changed) after later
+drains_back extent capacity next queues front back cut begins asked wire end changed after left later never did goes =
     (front, back, cut, begins, asked, [], sym (append-nil asked), end, changed, front, after, left, zero, did, refl, if_stopped end _ _ never (refl, refl, refl, refl, goes))
 
 -- what is said of the queues as they were lent, said of the connection's own
-pub drains_whole : (still waits : Bool) (held capacity first next : ℕ) (asked : List BrokerRow) (lent queues : List OpenSubState) (before wire : List ℕ) (end : Taking) (new : List OpenSubState) (after : List ℕ) (later : ℕ) → still ≡ waits → held ≡ capacity → first ≡ next → lent ≡ queues → before ≡ wire → DrainsQueues still held first asked lent before end new after later → DrainsQueues waits capacity next asked queues wire end new after later
-drains_whole still waits held capacity first next asked lent queues before wire end new after later h c t q w drains =
-    subst (λ (b : Bool). DrainsQueues b capacity next asked queues wire end new after later) h (subst (λ (n : ℕ). DrainsQueues still n next asked queues wire end new after later) c (subst (λ (n : ℕ). DrainsQueues still held n asked queues wire end new after later) t (subst (λ (os : List OpenSubState). DrainsQueues still held first asked os wire end new after later) q (subst (λ (s : List ℕ). DrainsQueues still held first asked lent s end new after later) w drains))))
+pub drains_whole : (still extent : Extent) (held capacity first next : ℕ) (asked : List BrokerRow) (lent queues : List OpenSubState) (before wire : List ℕ) (end : Taking) (new : List OpenSubState) (after : List ℕ) (later : ℕ) → still ≡ extent → held ≡ capacity → first ≡ next → lent ≡ queues → before ≡ wire → DrainsQueues still held first asked lent before end new after later → DrainsQueues extent capacity next asked queues wire end new after later
+drains_whole still extent held capacity first next asked lent queues before wire end new after later h c t q w drains =
+    subst (λ (x : Extent). DrainsQueues x capacity next asked queues wire end new after later) h (subst (λ (n : ℕ). DrainsQueues still n next asked queues wire end new after later) c (subst (λ (n : ℕ). DrainsQueues still held n asked queues wire end new after later) t (subst (λ (os : List OpenSubState). DrainsQueues still held first asked os wire end new after later) q (subst (λ (s : List ℕ). DrainsQueues still held first asked lent s end new after later) w drains))))
 
 -- ---- a round
 

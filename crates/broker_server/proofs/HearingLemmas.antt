@@ -1,5 +1,5 @@
 -- What stays, and what shrinks, where a connection takes frames.
-use Rattle.std.proofs.Common.{◌≡◌, ◌≢◌, inl, inr, IfSome, Bool, true, ℕ, ◌<◌, List, [], ◌∷◌, length, Option, Some, None, Result, Ok, Err, refl, sym, ap, subst, ◌∙◌}
+use Rattle.std.proofs.Common.{◌≡◌, ◌≢◌, inl, inr, IfSome, Bool, true, false, ℕ, ◌<◌, List, [], ◌∷◌, length, Option, Some, None, Result, Ok, Err, refl, sym, ap, subst, ◌∙◌}
 use Rattle.std.specs.Prelude.{MatchOption}
 use Rattle.stomp_frame.specs.declared.case_fault.CaseFault.{CaseFault}
 use Rattle.stomp_frame.specs.declared.fault.Check.{Check}
@@ -28,7 +28,7 @@ use Rattle.broker_server.specs.declared.conversation.conversation_fault.Conversa
 use Rattle.broker_server.specs.BrokerRows.{BrokerRow}
 use Rattle.broker_server.specs.ConversationFaults.{tells_version}
 use Rattle.broker_server.specs.Conversations.{Acts, Answers, Concludes, ConversationState, Does, Done, EndsByError, EndsSaying, Performs}
-use Rattle.broker_server.specs.Hearing.{JudgesFrame, ReadingFails, RefusesFrame, TakesFrame, TakesFrames}
+use Rattle.broker_server.specs.Hearing.{IfHalf, JudgesFrame, ReadingFails, RefusesFrame, TakesFrame, TakesFrames}
 use Rattle.broker_server.specs.Judging.{IsFrameRefused}
 
 -- ---- what came and isn't read yet stays as a frame has its effect
@@ -116,6 +116,14 @@ takes_refused f old asked new why is refuses =
 pub reading_fails : (why : FrameFault) (old left : Unread) → (why ≢ FrameFault.NoMemory → NextReturns old (Err why) left) → (why ≡ FrameFault.NoMemory → (left ≡ old) × (is_any old.text ≡ true)) → ReadingFails why old left
 reading_fails FrameFault.NoMemory old left answer same = same refl
 reading_fails _ old left answer same = answer (λ e. cc)
+
+-- ---- whether an item is half out
+
+pub if_half : (half : Bool) (A B : Type 0) → half ≡ true → A → IfHalf half A B
+if_half half A B is a = subst (λ (b : Bool). IfHalf b A B) (sym is) a
+
+pub if_whole : (half : Bool) (A B : Type 0) → half ≡ false → B → IfHalf half A B
+if_whole half A B is b = subst (λ (x : Bool). IfHalf x A B) (sym is) b
 
 -- ---- what isn't so
 

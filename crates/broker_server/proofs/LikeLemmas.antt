@@ -15,6 +15,7 @@ use Rattle.stomp_session.specs.Open.{asks_parts}
 use Rattle.delivery.specs.declared.connection_fault.ConnectionFault.TheVariants as connection
 use Rattle.broker_server.specs.declared.conversation.conversation_fault.ConversationFault.{ConversationFault}
 use Rattle.broker_server.specs.declared.conversation.conversation_fault.ConversationFault.TheVariants as fault
+use Rattle.broker_server.specs.declared.conversation.held.Held.TheVariants as helds
 use Rattle.broker_server.specs.declared.conversation.exit.Exit.{Exit}
 use Rattle.broker_server.specs.declared.conversation.exit.Exit.TheVariants as exit
 use Rattle.broker_server.specs.BrokerRows.{BrokerRow, SubName, Unsubscribes}
@@ -89,7 +90,7 @@ ended_like a b front back first last e fronts backs next later =
     let subs = map-append untaken front back ∙ ap₂ (λ (xs ys : List OpenSubState). xs ++ ys) fronts backs ∙ sym (map-append untaken first last) in
     ap (λ (os : List OpenSubState). record (but_items a) { subs = os }) subs ∙ ap (λ (s : ConversationState). record s { subs = map untaken (first ++ last) }) e
 
-performs_like : (action : Action) (a : ConversationState) (asked : List BrokerRow) (done : Done) (new b : ConversationState) → Like a b → Performs action a asked done new → SoOfLike new (λ other. Performs action b asked done other)
+pub performs_like : (action : Action) (a : ConversationState) (asked : List BrokerRow) (done : Done) (new b : ConversationState) → Like a b → Performs action a asked done new → SoOfLike new (λ other. Performs action b asked done other)
 performs_like (actions.Connected client) a asked done new b e (inl (gate, called, ok, is)) =
     (record b { gate = Some gate }, inl (gate, called, ok, refl), ap but_items is ∙ ap (λ (s : ConversationState). record s { gate = Some gate }) e)
 performs_like (actions.Connected client) a asked done new b e (inr (why, called, err, is)) =
@@ -139,7 +140,7 @@ answers_like frames a asked new b e (inr (inl (any, called, open_yet, ends))) =
 answers_like frames a asked new b e (inr (inr (any, none, leaves, is))) =
     (record b { cut = true }, inr (inr (any, none, subst (λ (s : ConversationState). IsSome s.exit) e leaves, refl)), ap but_items is ∙ ap (λ (s : ConversationState). record s { cut = true }) e)
 
-concludes_like : (done : Done) (frames : List RawFrame) (receipt : Option (List ℕ)) (a : ConversationState) (asked : List BrokerRow) (new b : ConversationState) → Like a b → Concludes done frames receipt a asked new → SoOfLike new (Concludes done frames receipt b asked)
+pub concludes_like : (done : Done) (frames : List RawFrame) (receipt : Option (List ℕ)) (a : ConversationState) (asked : List BrokerRow) (new b : ConversationState) → Like a b → Concludes done frames receipt a asked new → SoOfLike new (Concludes done frames receipt b asked)
 concludes_like (Ok u) frames receipt a asked new b e answers = answers_like frames a asked new b e answers
 concludes_like (Err why) frames receipt a asked new b e (called, ends) =
     let other = ends_like (tells_version None why) why receipt a new b e ends in
@@ -166,7 +167,7 @@ pub acts_like : (step : Step) (a : ConversationState) (asked : List BrokerRow) (
 acts_like step a asked new b e (inl does) =
     let other = does_like step a asked new b e does in (other.0, inl other.1, other.2)
 acts_like step a asked new b e (inr (sends, is, called, held)) =
-    (record b { held = Some step }, inr (sends, is, called, refl), ap but_items held ∙ ap (λ (s : ConversationState). record s { held = Some step }) e)
+    (record b { held = Some (helds.Waits sends step.receipt) }, inr (sends, is, called, refl), ap but_items held ∙ ap (λ (s : ConversationState). record s { held = Some (helds.Waits sends step.receipt) }) e)
 
 -- ---- frames
 

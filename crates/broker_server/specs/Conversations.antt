@@ -24,6 +24,8 @@ use Rattle.broker_server.specs.declared.conversation.conversation_fault.Conversa
 use Rattle.broker_server.specs.declared.conversation.conversation_fault.ConversationFault.TheVariants as fault
 use Rattle.broker_server.specs.declared.conversation.exit.Exit.{Exit}
 use Rattle.broker_server.specs.declared.conversation.exit.Exit.TheVariants as exit
+use Rattle.broker_server.specs.declared.conversation.held.Held.{Held}
+use Rattle.broker_server.specs.declared.conversation.held.Held.TheVariants.{Waits, Owes}
 use Rattle.broker_server.specs.declared.conversation.item_rest.ItemRest.{ItemRest}
 use Rattle.broker_server.specs.BrokerRows.{BrokerRow, IsGateAfter, SubName, AsksRoom, Claims, GivesBack, GivesRoomBack, Subscribes, Unsubscribes, Commits}
 use Rattle.broker_server.specs.ConversationFaults.{tells_version, told_error}
@@ -48,17 +50,17 @@ unwritten parts id (Some rest) = drop rest.next (messages_for parts id rest.item
 
 -- a connection: what came and isn't read yet, its session, the names of the topics that it knows, its
 -- sender's gate, its open subscriptions, the accepted COMMIT, or SEND outside a transaction, that waits for
--- room, if one does, the octets that wait to be written to it, why it leaves, once it does, whether a reply
--- was left out since there was no memory for it, whether items may be left in its queues since too many
--- octets waited, whether an item is half out, how many items each queue holds, and the index of the one that
--- is taken next
+-- room, or whose answer is owed behind an item that is half out, if one is, the octets that wait to be written
+-- to it, why it leaves, once it does, whether a reply was left out since there was no memory for it, whether
+-- items may be left in its queues since too many octets waited, whether an item is half out, how many items
+-- each queue holds, and the index of the one that is taken next
 pub record ConversationState : Type 0 where
   pub reader : Unread
   pub session : SessionState
   pub names : List (List ℕ)
   pub gate : Option GateState
   pub subs : List OpenSubState
-  pub held : Option Step
+  pub held : Option Held
   pub wire : List ℕ
   pub exit : Option Exit
   pub cut : Bool
@@ -107,7 +109,14 @@ gate_rows (Some gate) = GivesBack gate ∷ []
 abbrev pub closing_rows : ConversationState → List BrokerRow
 closing_rows c = map (λ o. Unsubscribes o.sub) c.subs ++ gate_rows c.gate
 
--- as it is then: it holds nothing of the broker, its session is closed, and no transaction waits any more
+-- whether a transaction waits for room
+abbrev pub is_waiting : Option Held → Bool
+is_waiting (Some (Waits sends receipt)) = true
+is_waiting (Some (Owes done receipt)) = false
+is_waiting None = false
+
+-- as it is then: it holds nothing of the broker, its session is closed, no transaction waits any more, and no
+-- answer is owed
 abbrev pub closed : Exit → ConversationState → ConversationState
 closed why c = record c {
   session = after_close c.session;
@@ -268,13 +277,14 @@ pub record Does
 abbrev pub Holds : Step → ConversationState → List BrokerRow → ConversationState → Type 0
 Holds step old asked new =
     (sends : List SentMessage) × (step.action ≡ actions.Commit sends)
-    × (asked ≡ AsksRoom (topics_of sends) false ∷ []) × (new ≡ record old { held = Some step })
+    × (asked ≡ AsksRoom (topics_of sends) false ∷ []) × (new ≡ record old { held = Some (Waits sends step.receipt) })
 
 -- What an accepted frame asks for is done, or waits for room.
 abbrev pub Acts : Step → ConversationState → List BrokerRow → ConversationState → Type 0
 Acts step old asked new = Does step old asked new ⊎ Holds step old asked new
 
--- The connection is lost: what is open is ended, a transaction that waits is dropped, and nothing is written.
+-- The connection is lost: what is open is ended, a transaction that waits is dropped, as is an answer that is
+-- owed, and nothing is written.
 -- One that leaves already does nothing.
 abbrev pub IsLost : ConversationState → List BrokerRow → ConversationState → Type 0
 IsLost old asked new =

@@ -1,5 +1,5 @@
 -- What one connection of the server takes of its queues.
-use Rattle.std.specs.Prelude.{◌≡◌, ◌⊎◌, ℕ, ◌+◌, ◌-◌, ◌<◌, ◌≤◌, nat_lt, Bool, true, false, not, ◌&&◌, ◌||◌, List, [], ◌∷◌, ◌++◌, length, Some, None, IsSome, if◌then◌else◌}
+use Rattle.std.specs.Prelude.{◌≡◌, ◌⊎◌, ℕ, ◌+◌, ◌-◌, ◌<◌, ◌≤◌, nat_lt, Bool, true, false, not, ◌&&◌, ◌||◌, List, [], ◌∷◌, ◌++◌, length, Option, Some, None, IsSome, if◌then◌else◌}
 use Rattle.std.specs.List.{flat_map, list_any}
 use Rattle.std.specs.Option.{is_none, is_some}
 use Rattle.stomp_frame.specs.declared.raw_frame.RawFrame.{RawFrame}
@@ -8,6 +8,10 @@ use Rattle.delivery.specs.Core.Outcomes.{is_any}
 use Rattle.delivery.specs.Core.Output.{messages_for}
 use Rattle.broker_server.specs.declared.conversation.conversation_fault.ConversationFault.{ConversationFault}
 use Rattle.broker_server.specs.declared.conversation.conversation_fault.ConversationFault.TheVariants as fault
+use Rattle.broker_server.specs.declared.conversation.extent.Extent.{Extent}
+use Rattle.broker_server.specs.declared.conversation.extent.Extent.TheVariants.{All, ButLags, Rest}
+use Rattle.broker_server.specs.declared.conversation.held.Held.{Held}
+use Rattle.broker_server.specs.declared.conversation.held.Held.TheVariants.{Waits, Owes}
 use Rattle.broker_server.specs.declared.conversation.drained.Taking.{Taking}
 use Rattle.broker_server.specs.declared.conversation.drained.Taking.TheVariants.{Emptied, Stopped, Halfway, Failed}
 use Rattle.broker_server.specs.BrokerRows.{BrokerRow, AsksLag, Takes}
@@ -24,42 +28,41 @@ full_wire = 65536
 abbrev pub most_waiting : ℕ
 most_waiting = 1048576
 
--- whether more is read: it doesn't leave, no transaction waits, no item is half out, and few octets wait
+-- whether more is read: it doesn't leave, nothing is held, no item is half out, and few octets wait
 abbrev pub may_read : ConversationState → Bool
 may_read c =
     is_none c.exit && (is_none c.held && (not c.half && nat_lt (length c.wire) most_waiting))
 
--- Whether a further MESSAGE of an item is written: few octets wait; or a transaction of the connection waits for
--- room, which would have to wait for the item, and others behind it (own).
-abbrev pub has_room : Bool → List ℕ → Bool
-has_room waits wire = waits || nat_lt (length wire) full_wire
+-- Whether a further MESSAGE of an item is written: few octets wait.
+abbrev pub has_room : List ℕ → Bool
+has_room wire = nat_lt (length wire) full_wire
 
 -- What is left of these MESSAGEs, once they were written one after the other as long as there was room. So of
 -- three, of which the second fills the wire, the third is left.
-abbrev pub left_behind : Bool → List RawFrame → List ℕ → List RawFrame
-left_behind waits [] wire = []
-left_behind waits (f ∷ fs) wire =
-    if has_room waits wire then left_behind waits fs (wire ++ spelling_with_eol f) else f ∷ fs
+abbrev pub left_behind : List RawFrame → List ℕ → List RawFrame
+left_behind [] wire = []
+left_behind (f ∷ fs) wire =
+    if has_room wire then left_behind fs (wire ++ spelling_with_eol f) else f ∷ fs
 
 -- What waits then: of those three, what waited and the first two, each with its EOL.
-abbrev pub with_messages : Bool → List RawFrame → List ℕ → List ℕ
-with_messages waits [] wire = wire
-with_messages waits (f ∷ fs) wire =
-    if has_room waits wire then with_messages waits fs (wire ++ spelling_with_eol f) else wire
+abbrev pub with_messages : List RawFrame → List ℕ → List ℕ
+with_messages [] wire = wire
+with_messages (f ∷ fs) wire =
+    if has_room wire then with_messages fs (wire ++ spelling_with_eol f) else wire
 
 -- They are written up to these, which are left, and this waits then.
-abbrev pub StopsIn : Bool → List RawFrame → List RawFrame → List ℕ → List ℕ → Type 0
-StopsIn waits messages left wire after =
-    (left_behind waits messages wire ≡ left) × (after ≡ with_messages waits messages wire)
+abbrev pub StopsIn : List RawFrame → List RawFrame → List ℕ → List ℕ → Type 0
+StopsIn messages left wire after =
+    (left_behind messages wire ≡ left) × (after ≡ with_messages messages wire)
 
 -- They are all written.
-abbrev pub WritesAll : Bool → List RawFrame → List ℕ → List ℕ → Type 0
-WritesAll waits messages wire after = StopsIn waits messages [] wire after
+abbrev pub WritesAll : List RawFrame → List ℕ → List ℕ → Type 0
+WritesAll messages wire after = StopsIn messages [] wire after
 
 -- There is no memory for one of them, behind those that are out, which stay out.
-abbrev pub FailsIn : Bool → List RawFrame → List ℕ → List ℕ → Type 0
-FailsIn waits messages wire after =
-    (out rest : List RawFrame) × (messages ≡ out ++ rest) × (is_any rest ≡ true) × WritesAll waits out wire after
+abbrev pub FailsIn : List RawFrame → List ℕ → List ℕ → Type 0
+FailsIn messages wire after =
+    (out rest : List RawFrame) × (messages ≡ out ++ rest) × (is_any rest ≡ true) × WritesAll out wire after
 
 -- ---- one queue
 
@@ -82,32 +85,40 @@ messages_of o item = messages_for o.parts o.id item
 
 -- These MESSAGEs of an item aren't all written: some are left for want of room, and stay left of the queue; or
 -- there is no memory for one.
-abbrev pub BreaksOff : Bool → List RawFrame → OpenSubState → List ℕ → Taking → OpenSubState → List ℕ → Type 0
-BreaksOff waits messages o wire end new after =
-    ((is_any new.left ≡ true) × StopsIn waits messages new.left wire after × (end ≡ Halfway)
+abbrev pub BreaksOff : List RawFrame → OpenSubState → List ℕ → Taking → OpenSubState → List ℕ → Type 0
+BreaksOff messages o wire end new after =
+    ((is_any new.left ≡ true) × StopsIn messages new.left wire after × (end ≡ Halfway)
     × (new ≡ record o { left = new.left }))
-    ⊎ (FailsIn waits messages wire after × (end ≡ Failed fault.NoReply) × (new ≡ o))
+    ⊎ (FailsIn messages wire after × (end ≡ Failed fault.NoReply) × (new ≡ o))
 
 -- it is a lag; its topic and its number go to the log alone
 abbrev pub IsLag : ConversationFault → Type 0
 IsLag (fault.Lagged topic items) = Unit {0}
 IsLag _ = ⊥
 
+-- How much is taken of the queues: where a transaction waits for room no lag is told, and where an answer is owed
+-- behind an item nothing is taken but the rest of that.
+abbrev pub extent_of : Option Held → Extent
+extent_of None = All
+extent_of (Some (Waits sends receipt)) = ButLags
+extent_of (Some (Owes done receipt)) = Rest
+
 -- What a queue that has lagged comes to, now that all that it had accepted was taken: the lag is told, but
 -- not while a transaction waits for room.
-abbrev pub TellsLag : Bool → Taking → Type 0
-TellsLag true end = end ≡ Emptied
-TellsLag false end = (why : ConversationFault) × IsLag why × (end ≡ Failed why)
+abbrev pub TellsLag : Extent → Taking → Type 0
+TellsLag All end = (why : ConversationFault) × IsLag why × (end ≡ Failed why)
+TellsLag ButLags end = end ≡ Emptied
+TellsLag Rest end = end ≡ Emptied
 
 -- What a queue that was found empty comes to without a further call: the lag that the broker told; or nothing
 -- is left of it, where it can't have lagged. It stays marked until its lag is told.
-abbrev pub EndsEmpty : Bool → ℕ → OpenSubState → Taking → OpenSubState → Type 0
-EndsEmpty waits capacity o end new =
-    ((o.lagged ≡ true) × TellsLag waits end × (new ≡ o))
+abbrev pub EndsEmpty : Extent → ℕ → OpenSubState → Taking → OpenSubState → Type 0
+EndsEmpty extent capacity o end new =
+    ((o.lagged ≡ true) × TellsLag extent end × (new ≡ o))
     ⊎ ((o.lagged ≡ false) × (0 < o.until_lag) × (end ≡ Emptied) × (new ≡ after_empty capacity o))
 
 -- What is taken of one queue by these calls, in order, after so many others of this round: the queue and what
--- waits before and after it, and how it ended; `waits` is whether a transaction does. A further item is taken
+-- waits before and after it, and how it ended; `extent` is how much is taken. A further item is taken
 -- where the last is out as a whole. It stops where 65,536 octets wait, between two items or halfway in one, and
 -- fails where there is no memory for a MESSAGE. A queue that is found empty after as many items as it holds may
 -- have lagged: the broker is asked, and where it says so, the queue is taken on, until it is empty again. It
@@ -115,34 +126,42 @@ EndsEmpty waits capacity o end new =
 -- empty. So where 65,536 octets wait, there is no call at all; and where the broker is asked for an item and
 -- has none, 74 is told only if it said of the queue that it has lagged.
 abbrev pub Drains
-    : Bool → ℕ → ℕ → List BrokerRow → OpenSubState → List ℕ → Taking → OpenSubState → List ℕ → Type 0
-Drains waits capacity calls [] o wire end new after =
+    : Extent → ℕ → ℕ → List BrokerRow → OpenSubState → List ℕ → Taking → OpenSubState → List ℕ → Type 0
+Drains extent capacity calls [] o wire end new after =
     ((full_wire ≤ length wire) ⊎ (most_calls ≤ calls)) × (end ≡ Stopped) × (new ≡ o) × (after ≡ wire)
-Drains waits capacity calls (Takes sub (Some item) ∷ rows) o wire end new after =
+Drains extent capacity calls (Takes sub (Some item) ∷ rows) o wire end new after =
     (length wire < full_wire) × (sub ≡ o.sub)
-    × (((left_behind waits (messages_of o item) wire ≡ [])
-    × Drains waits capacity (calls + 1) rows (nearer_lag o) (with_messages waits (messages_of o item) wire) end
+    × (((left_behind (messages_of o item) wire ≡ [])
+    × Drains extent capacity (calls + 1) rows (nearer_lag o) (with_messages (messages_of o item) wire) end
     new after)
-    ⊎ ((rows ≡ []) × BreaksOff waits (messages_of o item) (nearer_lag o) wire end new after))
-Drains waits capacity calls (Takes sub None ∷ []) o wire end new after =
-    (length wire < full_wire) × (sub ≡ o.sub) × EndsEmpty waits capacity o end new × (after ≡ wire)
-Drains waits capacity calls (Takes sub None ∷ AsksLag lagging true ∷ rows) o wire end new after =
+    ⊎ ((rows ≡ []) × BreaksOff (messages_of o item) (nearer_lag o) wire end new after))
+Drains extent capacity calls (Takes sub None ∷ []) o wire end new after =
+    (length wire < full_wire) × (sub ≡ o.sub) × EndsEmpty extent capacity o end new × (after ≡ wire)
+Drains extent capacity calls (Takes sub None ∷ AsksLag lagging true ∷ rows) o wire end new after =
     (length wire < full_wire) × (sub ≡ o.sub) × (lagging ≡ o.sub) × (o.lagged ≡ false) × (o.until_lag ≡ 0)
-    × Drains waits capacity (calls + 1) rows (record o { lagged = true }) wire end new after
-Drains waits capacity calls (Takes sub None ∷ AsksLag lagging false ∷ []) o wire end new after =
+    × Drains extent capacity (calls + 1) rows (record o { lagged = true }) wire end new after
+Drains extent capacity calls (Takes sub None ∷ AsksLag lagging false ∷ []) o wire end new after =
     (length wire < full_wire) × (sub ≡ o.sub) × (lagging ≡ o.sub) × (o.lagged ≡ false) × (o.until_lag ≡ 0)
     × (end ≡ Emptied) × (new ≡ after_empty capacity o) × (after ≡ wire)
-Drains waits capacity calls _ o wire end new after = ⊥
+Drains extent capacity calls _ o wire end new after = ⊥
+
+-- The same of a queue of whose last item nothing is left, and where nothing but such a rest is taken: it stops.
+abbrev pub DrainsBehind
+    : Extent → ℕ → List BrokerRow → OpenSubState → List ℕ → Taking → OpenSubState → List ℕ → Type 0
+DrainsBehind All capacity asked o wire end new after = Drains All capacity 0 asked o wire end new after
+DrainsBehind ButLags capacity asked o wire end new after = Drains ButLags capacity 0 asked o wire end new after
+DrainsBehind Rest capacity asked o wire end new after =
+    (asked ≡ []) × (end ≡ Stopped) × (new ≡ o) × (after ≡ wire)
 
 -- The same of a queue of whose last item some MESSAGEs may be left: these are written first, and where they
 -- aren't all out then, nothing is asked. So where the last of three was left, and there is room, that is
--- written, and then the next item is taken.
+-- written, and then the next item is taken; but where an answer is owed, none is, so that it comes next.
 abbrev pub DrainsOn
-    : Bool → ℕ → List BrokerRow → OpenSubState → List ℕ → Taking → OpenSubState → List ℕ → Type 0
-DrainsOn waits capacity asked o wire end new after =
-    ((left_behind waits o.left wire ≡ [])
-    × Drains waits capacity 0 asked (record o { left = [] }) (with_messages waits o.left wire) end new after)
-    ⊎ ((asked ≡ []) × BreaksOff waits o.left (record o { left = [] }) wire end new after)
+    : Extent → ℕ → List BrokerRow → OpenSubState → List ℕ → Taking → OpenSubState → List ℕ → Type 0
+DrainsOn extent capacity asked o wire end new after =
+    ((left_behind o.left wire ≡ [])
+    × DrainsBehind extent capacity asked (record o { left = [] }) (with_messages o.left wire) end new after)
+    ⊎ ((asked ≡ []) × BreaksOff o.left (record o { left = [] }) wire end new after)
 
 -- ---- queue after queue
 
@@ -159,15 +178,15 @@ left_from _ behind = length behind
 -- These queues are taken, one after the other, up to the first that isn't emptied, and so many are left from
 -- there on; where there are none, nothing is left of them.
 abbrev pub DrainsAll
-    : Bool → ℕ → List BrokerRow → List OpenSubState → List ℕ → Taking → List OpenSubState → List ℕ → ℕ
+    : Extent → ℕ → List BrokerRow → List OpenSubState → List ℕ → Taking → List OpenSubState → List ℕ → ℕ
     → Type 0
-DrainsAll waits capacity asked [] wire end new after left =
+DrainsAll extent capacity asked [] wire end new after left =
     (asked ≡ []) × (end ≡ Emptied) × (new ≡ []) × (after ≡ wire) × (left ≡ 0)
-DrainsAll waits capacity asked (o ∷ os) wire end new after left =
+DrainsAll extent capacity asked (o ∷ os) wire end new after left =
     (first rest : List BrokerRow) × (asked ≡ first ++ rest)
     × (one : Taking) × (changed : OpenSubState) × (others : List OpenSubState) × (between : List ℕ)
-    × DrainsOn waits capacity first o wire one changed between × (new ≡ changed ∷ others)
-    × IfEmptied one (DrainsAll waits capacity rest os between end others after left)
+    × DrainsOn extent capacity first o wire one changed between × (new ≡ changed ∷ others)
+    × IfEmptied one (DrainsAll extent capacity rest os between end others after left)
     ((rest ≡ []) × (end ≡ one) × (others ≡ os) × (after ≡ between) × (left ≡ left_from one os))
 
 -- whether an item was taken by this call
@@ -190,16 +209,16 @@ begins_at next count = if nat_lt next count then next else 0
 -- for another for ever. But where the second stopped halfway in an item, the second is next again, so that
 -- nothing comes between.
 abbrev pub DrainsQueues
-    : Bool → ℕ → ℕ → List BrokerRow → List OpenSubState → List ℕ → Taking → List OpenSubState → List ℕ → ℕ
+    : Extent → ℕ → ℕ → List BrokerRow → List OpenSubState → List ℕ → Taking → List OpenSubState → List ℕ → ℕ
     → Type 0
-DrainsQueues waits capacity next asked queues wire end new after later =
+DrainsQueues extent capacity next asked queues wire end new after later =
     (front back : List OpenSubState) × (queues ≡ front ++ back)
     × (length front ≡ begins_at next (length queues))
     × (first rest : List BrokerRow) × (asked ≡ first ++ rest)
     × (one : Taking) × (changed others : List OpenSubState) × (between : List ℕ) × (left unseen : ℕ)
-    × DrainsAll waits capacity first back wire one changed between left × (new ≡ others ++ changed)
+    × DrainsAll extent capacity first back wire one changed between left × (new ≡ others ++ changed)
     × IfEmptied one
-    (DrainsAll waits capacity rest front between end others after unseen × (later ≡ length front - unseen))
+    (DrainsAll extent capacity rest front between end others after unseen × (later ≡ length front - unseen))
     ((rest ≡ []) × (end ≡ one) × (others ≡ front) × (after ≡ between) × (later ≡ length queues - left))
 
 -- ---- a round of the connection
@@ -231,13 +250,14 @@ Settles end any old asked result new =
 
 -- Its queues are taken, and what comes is written; the result is whether something came of it. One that
 -- leaves takes nothing. So where `a` holds an item and `b` has lagged, a's MESSAGE is written, what `b` holds
--- is taken to its end, and the last that is written is 74.
+-- is taken to its end, and the last that is written is 74. Where an answer is owed, only the rest of the item
+-- that is half out is written.
 abbrev pub DeliversRound : ConversationState → List BrokerRow → Bool → ConversationState → Type 0
 DeliversRound old asked result new =
     (IsSome old.exit × (asked ≡ []) × (result ≡ false) × (new ≡ old))
     ⊎ ((old.exit ≡ None) × (first rest : List BrokerRow) × (asked ≡ first ++ rest)
     × (end : Taking) × (subs : List OpenSubState) × (wire : List ℕ) × (next : ℕ)
-    × DrainsQueues (is_some old.held) old.capacity old.next first old.subs old.wire end subs wire next
+    × DrainsQueues (extent_of old.held) old.capacity old.next first old.subs old.wire end subs wire next
     × Settles end (has_item first || writes_on old) (record old { subs = subs; wire = wire; next = next }) rest
     result new)
 
@@ -257,9 +277,9 @@ taken_messages parts id (_ ∷ rows) = taken_messages parts id rows
 -- are the whole item.
 abbrev pub ItemsAreWhole : Type 0
 ItemsAreWhole =
-    (waits : Bool) (capacity : ℕ) (asked : List BrokerRow) (o : OpenSubState) (wire : List ℕ) (end : Taking)
+    (extent : Extent) (capacity : ℕ) (asked : List BrokerRow) (o : OpenSubState) (wire : List ℕ) (end : Taking)
     (new : OpenSubState) (after : List ℕ)
-    → DrainsOn waits capacity asked o wire end new after
+    → DrainsOn extent capacity asked o wire end new after
     → (out rest : List RawFrame) × (after ≡ wire ++ flat_map spelling_with_eol out)
     × (o.left ++ taken_messages o.parts o.id asked ≡ out ++ rest)
     × ((end ≡ Failed fault.NoReply) ⊎ (rest ≡ new.left)) × (is_any new.left ≡ true → end ≡ Halfway)

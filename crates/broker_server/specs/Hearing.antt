@@ -1,10 +1,11 @@
 -- What one connection of the server does with what comes.
-use Rattle.std.specs.Prelude.{◌≡◌, ◌⊎◌, ℕ, Bool, true, false, List, [], ◌∷◌, ◌++◌, codes, Some, None, IsSome, MatchOption, Ok, Err}
+use Rattle.std.specs.Prelude.{◌≡◌, ◌⊎◌, ℕ, Bool, true, false, List, [], ◌∷◌, ◌++◌, codes, Option, Some, None, IsSome, MatchOption, Ok, Err}
 use Rattle.stomp_frame.specs.declared.fault.FrameFault.{FrameFault}
 use Rattle.stomp_frame.specs.declared.raw_frame.RawFrame.{RawFrame}
 use Rattle.stomp_frame.specs.Cases.{case_fault}
 use Rattle.stomp_frame.specs.Reader.{Unread, NextReturns, with_piece}
 use Rattle.stomp_frame.specs.Receipts.{receipt_of}
+use Rattle.stomp_session.specs.declared.action.Action.TheVariants as actions
 use Rattle.stomp_session.specs.declared.action.Step.{Step}
 use Rattle.stomp_session.specs.Frames.{field, has_destination}
 use Rattle.stomp_session.specs.Names.{is_known}
@@ -13,9 +14,12 @@ use Rattle.delivery.specs.declared.connection_fault.ConnectionFault.TheVariants 
 use Rattle.delivery.specs.Core.Outcomes.{is_any}
 use Rattle.broker_server.specs.declared.conversation.conversation_fault.ConversationFault.{ConversationFault}
 use Rattle.broker_server.specs.declared.conversation.conversation_fault.ConversationFault.TheVariants as fault
-use Rattle.broker_server.specs.BrokerRows.{BrokerRow, LooksUp}
+use Rattle.broker_server.specs.declared.conversation.held.Held.{Held}
+use Rattle.broker_server.specs.declared.conversation.held.Held.TheVariants.{Waits, Owes}
+use Rattle.mcast_txn.specs.Transaction.{topics_of}
+use Rattle.broker_server.specs.BrokerRows.{AsksRoom, BrokerRow, LooksUp}
 use Rattle.broker_server.specs.ConversationFaults.{fault_of_reader, tells_version}
-use Rattle.broker_server.specs.Conversations.{Acts, ConversationState, EndsByError, EndsSaying, closing_rows}
+use Rattle.broker_server.specs.Conversations.{Acts, Concludes, ConversationState, Done, EndsByError, EndsSaying, Performs, closing_rows, replies}
 use Rattle.broker_server.specs.Judging.{Grows, IsFrameAccepted, IsFrameRefused}
 
 -- ---- one frame
@@ -80,12 +84,12 @@ TakesFrame f old asked new =
 
 -- ---- the frames of a stream
 
--- it takes frames: it doesn't leave, and no transaction waits for room
+-- it takes frames: it doesn't leave, no transaction waits for room, and no answer is owed
 abbrev pub Listens : ConversationState → Type 0
 Listens c = (c.exit ≡ None) × (c.held ≡ None)
 
 -- These frames are taken, one after the other: each is the next of the stream, and before it is read the
--- connection doesn't leave, and no transaction waits.
+-- connection doesn't leave, no transaction waits, and no answer is owed.
 abbrev pub TakesFrames : List RawFrame → ConversationState → List BrokerRow → ConversationState → Type 0
 TakesFrames [] old asked new = (asked ≡ []) × (new ≡ old)
 TakesFrames (f ∷ fs) old asked new =
@@ -98,7 +102,7 @@ abbrev pub ReadingFails : FrameFault → Unread → Unread → Type 0
 ReadingFails FrameFault.NoMemory old left = (left ≡ old) × (is_any old.text ≡ true)
 ReadingFails why old left = NextReturns old (Err why) left
 
--- Nothing more is taken: the connection leaves, or a transaction waits; or no frame of the stream is whole,
+-- Nothing more is taken: the connection leaves, or holds something; or no frame of the stream is whole,
 -- so that a half of a SEND waits for its other half; or what follows is none, and the connection leaves by
 -- that.
 abbrev pub Rests : ConversationState → List BrokerRow → ConversationState → Type 0
@@ -115,23 +119,30 @@ TakesAll old asked new =
     (frames : List RawFrame) × (between : ConversationState) × (first rest : List BrokerRow)
     × (asked ≡ first ++ rest) × TakesFrames frames old first between × Rests between rest new
 
--- A piece comes, while no item is half out. One that leaves drops it; without memory for it the connection leaves; else it is put to the
--- stream, and the frames that are whole then are taken. So where `SEND`, a frame that the session refuses,
--- and a second `SEND` come at once, one flight is committed, an ERROR is the last that is written, and the
--- second isn't read. While a transaction waits, a piece is put to the stream, and nothing is taken.
+-- A piece comes, while no item is half out. One that leaves drops it; without memory for it the connection
+-- leaves; else it is put to the stream, and the frames that are whole then are taken. So where `SEND`, a frame
+-- that the session refuses, and a second `SEND` come at once, one flight is committed, an ERROR is the last
+-- that is written, and the second isn't read. While something is held, a piece is put to the stream, and
+-- nothing is taken.
 abbrev pub Hears : List ℕ → ConversationState → List BrokerRow → ConversationState → Type 0
 Hears piece old asked new =
     (IsSome old.exit × (asked ≡ []) × (new ≡ old))
     ⊎ ((old.exit ≡ None) × (asked ≡ closing_rows old) × EndsByError fault.NoMemory None old new)
     ⊎ ((old.exit ≡ None) × TakesAll (record old { reader = with_piece old.reader piece }) asked new)
 
+-- What is held once a piece is kept: what was, or else that its frames are to be taken, behind no answer.
+abbrev pub kept_by : Option Held → Option Held
+kept_by None = Some (Owes (Ok tt) None)
+kept_by (Some what) = Some what
+
 -- While an item is half out, so that no frame is to come between its MESSAGEs, a piece that comes is put to the
--- stream, and nothing is taken. (The server reads nothing then: `may_read`.)
+-- stream, and nothing is taken, before it goes on. (The server reads nothing then: `may_read`.)
 abbrev pub KeepsPiece : List ℕ → ConversationState → List BrokerRow → ConversationState → Type 0
 KeepsPiece piece old asked new =
     (IsSome old.exit × (asked ≡ []) × (new ≡ old))
     ⊎ ((old.exit ≡ None) × (asked ≡ closing_rows old) × EndsByError fault.NoMemory None old new)
-    ⊎ ((old.exit ≡ None) × (asked ≡ []) × (new ≡ record old { reader = with_piece old.reader piece }))
+    ⊎ ((old.exit ≡ None) × (asked ≡ [])
+    × (new ≡ record old { reader = with_piece old.reader piece; held = kept_by old.held }))
 
 -- the one where an item is half out, else the other
 abbrev pub IfHalf : Bool → Type 0 → Type 0 → Type 0
@@ -143,12 +154,33 @@ abbrev pub HearsOrKeeps : List ℕ → ConversationState → List BrokerRow → 
 HearsOrKeeps piece old asked new =
     IfHalf old.half (KeepsPiece piece old asked new) (Hears piece old asked new)
 
--- It goes on with the transaction that waits, if one does: room is asked for again, and that is done or waits
--- again; then the frames that are whole are taken. So where a `SEND` waits for room, and an UNSUBSCRIBE came
--- behind it, the flight is committed and the RECEIPT written before the subscription ends.
+-- What a connection goes on with is done, while no item is half out: a transaction asks for room again, and is
+-- committed and answered, or waits again; or the answer that is owed is given.
+abbrev pub Finishes : Held → ConversationState → List BrokerRow → ConversationState → Type 0
+Finishes (Waits sends receipt) old asked new =
+    Acts (record { action = actions.Commit sends; receipt = receipt }) old asked new
+Finishes (Owes done receipt) old asked new = Concludes done (replies false receipt) receipt old asked new
+
+-- While an item is half out nothing may come between its MESSAGEs, but others may wait for room behind the
+-- connection: so a transaction asks for room, too, and is committed at once where there is some, and what that
+-- came to is owed. So a COMMIT with the receipt `r` is committed, and what waits to be written is as it was;
+-- `r` comes behind the item. Where an answer is owed already, nothing is done.
+abbrev pub GoesOnHalfway : Held → ConversationState → List BrokerRow → ConversationState → Type 0
+GoesOnHalfway (Waits sends receipt) old asked new =
+    ((asked ≡ AsksRoom (topics_of sends) false ∷ []) × (new ≡ record old { held = Some (Waits sends receipt) }))
+    ⊎ ((done : Done) × (between : ConversationState) × Performs (actions.Commit sends) old asked done between
+    × (new ≡ record between { held = Some (Owes done receipt) }))
+GoesOnHalfway (Owes done receipt) old asked new =
+    (asked ≡ []) × (new ≡ record old { held = Some (Owes done receipt) })
+
+-- It goes on with what is held, if something is: that is done, and then the frames that are whole are taken;
+-- while an item is half out none is. So where a `SEND` waits for room, and an UNSUBSCRIBE came behind it, the
+-- flight is committed and the RECEIPT written before the subscription ends, and where an item of that
+-- subscription is half out meanwhile, its rest is written before the RECEIPT.
 abbrev pub GoesOn : ConversationState → List BrokerRow → ConversationState → Type 0
 GoesOn old asked new =
     ((old.held ≡ None) × (asked ≡ []) × (new ≡ old))
-    ⊎ ((step : Step) × (old.held ≡ Some step) × (between : ConversationState) × (first rest : List BrokerRow)
-    × (asked ≡ first ++ rest) × Acts step (record old { held = None }) first between
-    × TakesAll between rest new)
+    ⊎ ((what : Held) × (old.held ≡ Some what)
+    × IfHalf old.half (GoesOnHalfway what (record old { held = None }) asked new)
+    ((between : ConversationState) × (first rest : List BrokerRow) × (asked ≡ first ++ rest)
+    × Finishes what (record old { held = None }) first between × TakesAll between rest new))

@@ -1,23 +1,18 @@
 -- How much memory a connection holds, and when it is refused more (own).
 use Rattle.std.specs.Prelude.{◌≡◌, ◌⊎◌, ℕ, ◌+◌, ◌-◌, nat_lt, nat_le, Bool, ◌&&◌, ◌||◌, List, [], length, Option, Some, None, IsSome}
 use Rattle.mcast_txn.specs.Transaction.{weight}
-use Rattle.stomp_session.specs.declared.action.Action.{Action}
-use Rattle.stomp_session.specs.declared.action.Action.TheVariants as actions
-use Rattle.stomp_session.specs.declared.action.Step.{Step}
 use Rattle.stomp_session.specs.Open.{open_weight}
 use Rattle.broker_server.specs.declared.conversation.conversation_fault.ConversationFault.TheVariants as fault
+use Rattle.broker_server.specs.declared.conversation.held.Held.{Held}
+use Rattle.broker_server.specs.declared.conversation.held.Held.TheVariants.{Waits, Owes}
 use Rattle.broker_server.specs.BrokerRows.{BrokerRow}
 use Rattle.broker_server.specs.Conversations.{ConversationState, EndsByError, closing_rows}
 
--- what the transaction of an action weighs, if it has one
-abbrev pub action_weight : Action → ℕ
-action_weight (actions.Commit sends) = weight sends
-action_weight _ = 0
-
 -- what a transaction weighs that waits for room; nothing where none waits
-abbrev pub held_weight : Option Step → ℕ
+abbrev pub held_weight : Option Held → ℕ
+held_weight (Some (Waits sends receipt)) = weight sends
+held_weight (Some (Owes done receipt)) = 0
 held_weight None = 0
-held_weight (Some step) = action_weight step.action
 
 -- What a connection holds that isn't committed: as many octets as came and weren't read yet, and what the SENDs
 -- of its open transactions weigh, and the transaction that waits for room. So where `SEND` came of a frame,

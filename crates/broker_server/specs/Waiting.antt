@@ -1,8 +1,11 @@
 -- What a connection does whose transactions wait for room, beside one whose transactions find it at once.
-use Rattle.std.specs.Prelude.{◌≡◌, ℕ, Bool, true, false, not, List, [], ◌∷◌, ◌++◌, filter, map, None}
+use Rattle.std.specs.Prelude.{◌≡◌, ◌⊎◌, ℕ, Bool, true, false, not, List, [], ◌∷◌, ◌++◌, filter, map, Option, Some, None}
 use Rattle.std.specs.List.{list_any}
+use Rattle.mcast_txn.specs.declared.draft.sent_message.SentMessage.{SentMessage}
+use Rattle.stomp_session.specs.declared.action.Action.TheVariants as actions
+use Rattle.broker_server.specs.declared.conversation.held.Held.TheVariants.{Waits, Owes}
 use Rattle.broker_server.specs.BrokerRows.{BrokerRow, AsksRoom}
-use Rattle.broker_server.specs.Conversations.{ConversationState, OpenSubState}
+use Rattle.broker_server.specs.Conversations.{ConversationState, Done, OpenSubState, Performs}
 use Rattle.broker_server.specs.Delivering.{DeliversRound}
 use Rattle.broker_server.specs.Hearing.{GoesOn, Hears}
 
@@ -12,15 +15,16 @@ use Rattle.broker_server.specs.Hearing.{GoesOn, Hears}
 pub data Round : Type 0 where
   -- this piece came
   Heard : List ℕ → List BrokerRow → Round
-  -- it went on with the transaction that waits
+  -- it went on with what it held
   WentOn : List BrokerRow → Round
   -- its queues were taken
   Delivered : List BrokerRow → Round
   -- some of what waits was written
   Wrote : Round
 
--- It went through these rounds, in order. Nothing was read while a transaction waited or an item was half out,
--- and it didn't leave by what was delivered. So a `SEND` that finds no room at first is heard, its queues are taken, and it goes on.
+-- It went through these rounds, in order. Nothing was read while something was held or an item was half out, and
+-- it didn't leave by what was delivered. So a `SEND` that finds no room at first is heard, its queues are taken,
+-- and it goes on.
 abbrev pub GoesThrough : List Round → ConversationState → ConversationState → Type 0
 GoesThrough [] old new = new ≡ old
 GoesThrough (Heard piece asked ∷ rounds) old new =
@@ -88,16 +92,26 @@ but_items c = record c {
 
 -- ---- laws
 
+-- One connection is as another, but for what is delivered; or the other owes the answer to a transaction that
+-- waits yet in this one, and did this for it.
+abbrev pub IsAsOrBefore : ConversationState → List BrokerRow → ConversationState → Type 0
+IsAsOrBefore one asked other =
+    ((asked ≡ []) × (but_items one ≡ but_items other))
+    ⊎ ((sends : List SentMessage) × (receipt : Option (List ℕ)) × (one.held ≡ Some (Waits sends receipt))
+    × (done : Done) × (between : ConversationState)
+    × Performs (actions.Commit sends) (record one { held = None }) asked done between
+    × (but_items (record between { held = Some (Owes done receipt) }) ≡ but_items other))
+
 -- Whatever a connection goes through, another that hears the same pieces, one after the other, asks the same
 -- of the broker for them, in the same order, but for room, and is then as that one, but for what is delivered.
 -- So where a `SEND` waits, and an UNSUBSCRIBE came behind it, the flight is committed first, and once, however
 -- often it went on and was delivered to; and where the `SEND` waits still, nothing was asked for the
--- UNSUBSCRIBE.
+-- UNSUBSCRIBE. Where that one owes an answer, since an item is half out, its transaction waits in the other yet.
 abbrev pub WaitsInOrder : Type 0
 WaitsInOrder =
     (rounds : List Round) (old new : ConversationState) → old.held ≡ None → GoesThrough rounds old new
-    → (asked : List BrokerRow) × (other : ConversationState) × HearsEach (pieces rounds) old asked other
-    × (but_room asked ≡ but_room (asked_for_frames rounds)) × (but_items other ≡ but_items new)
+    → (asked last : List BrokerRow) × (other : ConversationState) × HearsEach (pieces rounds) old asked other
+    × IsAsOrBefore other last new × (but_room (asked ++ last) ≡ but_room (asked_for_frames rounds))
 
 -- That other one found room each time that it asked, where no transaction waits in the end.
 abbrev pub FindsRoomAtOnce : Type 0

@@ -7,22 +7,25 @@ ghost use Rattle.stomp_frame.specs.declared.fault.FrameFault.{FrameFault};
 ghost use Rattle.stomp_frame.specs.declared.raw_frame.RawFrame.{RawFrame};
 ghost use Rattle.stomp_frame.specs.ClientFrames.{raw_of};
 ghost use Rattle.broker_server.specs.BrokerRows.{AsksInOrder, BrokerRow};
-ghost use Rattle.broker_server.specs.Conversations.{PutsFrames, EndsByError, EndsSaying, Connects, Begins, EndsSub, CommitsSends, CommitsBy, Acts, Answers, Concludes, IsLost};
+ghost use Rattle.broker_server.specs.Conversations.{PutsFrames, EndsByError, EndsSaying, Connects, Begins, EndsSub, CommitsSends, CommitsBy, Acts, Answers, Concludes, IsLost, is_waiting};
 ghost use Rattle.broker_server.specs.ConversationFaults.{tells_version};
 ghost use Rattle.broker_server.specs.Delivering.{DeliversRound, may_read, writes_on};
 ghost use Rattle.delivery.specs.Core.Outcomes.{is_any};
 ghost use Rattle.stomp_session.specs.Open.{IsKnownTo};
-ghost use Rattle.broker_server.specs.Hearing.{AcceptsFrame, DeniesFrame, GoesOn, HearsOrKeeps, IsNewTo, Rests, TakesAll, TakesFrame, TakesFrames};
+ghost use Rattle.broker_server.specs.Hearing.{AcceptsFrame, DeniesFrame, Finishes, GoesOn, GoesOnHalfway, HearsOrKeeps, IsNewTo, Rests, TakesAll, TakesFrame, TakesFrames, kept_by};
 ghost use Rattle.broker_server.specs.Holding.{IsRefusedMemory, MakesRoom, held_weight, uncommitted};
 ghost use Rattle.broker_server.specs.Wires.{GoesOut};
 ghost use Rattle.broker_server.specs.Conversations.{closed, IsNew, closing_rows, gate_rows, is_of_id, next_without, replies};
 ghost use Rattle.stomp_session.specs.declared.action.Action.TheVariants as actions;
+ghost use Rattle.broker_server.specs.declared.conversation.held.Held.TheVariants as helds;
 
 mod broker_calls;
 mod closing;
 mod conversation_fault;
 mod drained;
 mod exit;
+mod extent;
+mod held;
 mod ignored;
 mod ignored_so_far;
 mod item_rest;
@@ -38,6 +41,8 @@ use closing::end_subs;
 pub use conversation_fault::ConversationFault;
 use drained::Taking;
 pub use exit::Exit;
+use extent::Extent;
+use held::Held;
 pub use ignored::Ignored;
 use ignored_so_far::IgnoredSoFar;
 use mcast_txn::{Topic, Txn};
@@ -58,9 +63,9 @@ use taking::drain_queues;
 const MOST: usize = 1_048_576;
 
 /// One connection of the server, without its socket. In contracts it is what came and isn't read yet, its session, its
-/// sender's gate, its open subscriptions, the transaction that waits for room, the octets that wait to be written to
-/// it, why it leaves, once it does, whether a reply was left out, whether items may be left in its queues, whether one
-/// is half out, how many each queue holds, and which of them is looked at first.
+/// sender's gate, its open subscriptions, what it goes on with later, the octets that wait to be written to it, why it
+/// leaves, once it does, whether a reply was left out, whether items may be left in its queues, whether one is half out,
+/// how many each queue holds, and which of them is looked at first.
 pub struct Conversation<C: BrokerCalls> {
     alloc: Global,
     reader: FrameReader,
@@ -70,8 +75,8 @@ pub struct Conversation<C: BrokerCalls> {
     /// The gate of its sender, from its CONNECT to its end.
     gate: Option<Gate>,
     subs: Vec<OpenSub<C>>,
-    /// The accepted COMMIT, or SEND outside a transaction, that waits for room, if one does.
-    held: Option<Step>,
+    /// The accepted COMMIT, or SEND outside a transaction, that waits for room, or whose answer is owed, if one is.
+    held: Option<Held>,
     wire: Wire,
     /// Why it leaves, once it does.
     exit: Option<Exit>,
@@ -261,15 +266,27 @@ impl<C: BrokerCalls> Conversation<C> {
         self.gate.is_some()
     }
 
-    /// Whether a transaction waits for room: no frame behind it is taken before it was committed.
+    /// Whether a transaction waits for room, or its answer is owed behind an item that is half out: no frame behind it is
+    /// taken before `go_on` has done with it.
     pub fn is_held(&self) -> bool
         ensures { result ≡ is_some self.now.held }
     {
         self.held.is_some()
     }
 
-    /// Whether more may be read: it doesn't leave, no transaction waits for room, no item is half out, and fewer than
-    /// 1,048,576 octets wait to be written.
+    /// Whether a transaction waits for room.
+    pub fn waits_for_room(&self) -> bool
+        ensures { result ≡ is_waiting self.now.held }
+    {
+        match &self.held {
+            Some(Held::Waits(_, _)) => true,
+            Some(Held::Owes(_, _)) => false,
+            None => false,
+        }
+    }
+
+    /// Whether more may be read: it doesn't leave, nothing is held, no item is half out, and fewer than 1,048,576 octets
+    /// wait to be written.
     pub fn may_read(&self) -> bool
         ensures { result ≡ may_read self.now }
     {
@@ -296,8 +313,8 @@ impl<C: BrokerCalls> Conversation<C> {
     }
 
     /// Takes a piece that came, and does what each frame that it ends asks for. Once it leaves, the rest is dropped;
-    /// while a transaction waits for room, what is behind it is kept; and while an item is half out, so is all. Where the
-    /// broker doesn't grant the memory for it, the connection leaves, as where there is none.
+    /// while a transaction waits for room, what is behind it is kept; and while an item is half out, so is all, which
+    /// `go_on` then takes. Where the broker doesn't grant the memory for it, the connection leaves, as where there is none.
     pub fn hear(&mut self, calls: &mut C, piece: &[u8])
         ensures hears { (asked : List BrokerRow) × AsksInOrder C.called calls.old asked calls.new
             × HearsOrKeeps piece.now self.old asked self.new }
@@ -313,7 +330,7 @@ impl<C: BrokerCalls> Conversation<C> {
             return;
         }
         match self.reader.feed(piece) {
-            Ok(()) if self.half => {}
+            Ok(()) if self.half => self.keep(),
             Ok(()) => self.hear_all(calls),
             Err(NoMemory) => self.fail(calls, ConversationFault::NoMemory, None),
         }
@@ -336,15 +353,59 @@ impl<C: BrokerCalls> Conversation<C> {
         }
     }
 
+    /// What came is kept while an item is half out: it is heard behind that.
+    fn keep(&mut self)
+        ensures { self.new ≡ record self.old { held = kept_by self.old.held } }
+    {
+        if self.held.is_none() {
+            self.held = Some(Held::Owes(Ok(()), None));
+        }
+    }
+
     /// Asks again for the room of the transaction that waits for it, if one does. Where there is some, it is committed
-    /// and answered, and the frames behind it that came are taken.
+    /// and answered, and the frames behind it that came are taken. While an item is half out, the answer is owed, and
+    /// given, before those frames are taken, by the first call behind the item.
     pub fn go_on(&mut self, calls: &mut C)
         ensures { (asked : List BrokerRow) × AsksInOrder C.called calls.old asked calls.new
             × GoesOn self.old asked self.new }
     {
-        if let Some(step) = self.held.take() {
-            self.act(calls, step);
-            self.hear_all(calls);
+        let Some(held) = self.held.take() else {
+            return;
+        };
+        if self.half {
+            self.go_on_halfway(calls, held);
+            return;
+        }
+        self.finish(calls, held);
+        self.hear_all(calls);
+    }
+
+    /// Asks for room while an item is half out: where there is some, the transaction is committed at once, as others may
+    /// wait behind it, and its answer is owed.
+    fn go_on_halfway(&mut self, calls: &mut C, held: Held)
+        ensures { (asked : List BrokerRow) × AsksInOrder C.called calls.old asked calls.new
+            × GoesOnHalfway held self.old asked self.new }
+    {
+        match held {
+            Held::Waits(txn, receipt) => match calls.reserve(&txn) {
+                Some(room) => {
+                    let done = self.commit(calls, txn, room);
+                    self.hold(Held::Owes(done, receipt));
+                }
+                None => self.hold(Held::Waits(txn, receipt)),
+            },
+            Held::Owes(done, receipt) => self.hold(Held::Owes(done, receipt)),
+        }
+    }
+
+    /// Commits and answers what waited for room, or holds it again; or gives the answer that is owed.
+    fn finish(&mut self, calls: &mut C, held: Held)
+        ensures { (asked : List BrokerRow) × AsksInOrder C.called calls.old asked calls.new
+            × Finishes held self.old asked self.new }
+    {
+        match held {
+            Held::Waits(txn, receipt) => self.send(calls, txn, receipt),
+            Held::Owes(done, receipt) => self.conclude(calls, done, false, &receipt),
         }
     }
 
@@ -477,18 +538,15 @@ impl<C: BrokerCalls> Conversation<C> {
                 let done = self.commit(calls, txn, room);
                 self.conclude(calls, done, false, &receipt);
             }
-            None => self.hold(Step {
-                action: Action::Commit(txn),
-                receipt,
-            }),
+            None => self.hold(Held::Waits(txn, receipt)),
         }
     }
 
-    /// Holds a step.
-    fn hold(&mut self, step: Step)
-        ensures { self.new ≡ record self.old { held = Some step } }
+    /// It goes on with this later.
+    fn hold(&mut self, held: Held)
+        ensures { self.new ≡ record self.old { held = Some held } }
     {
-        self.held = Some(step);
+        self.held = Some(held);
     }
 
     /// What follows an action: its answer, or the connection leaves by its fault.
@@ -640,7 +698,7 @@ impl<C: BrokerCalls> Conversation<C> {
     }
 
     /// Ends what is open: its subscriptions, and then its gate is given back. A transaction that waits for room is
-    /// dropped.
+    /// dropped, and so is an answer that is owed.
     fn close(&mut self, calls: &mut C, exit: Exit)
         ensures closed { self.new ≡ closed exit self.old }
         ensures rows { AsksInOrder C.called calls.old (closing_rows self.old) calls.new }
@@ -704,8 +762,9 @@ impl<C: BrokerCalls> Conversation<C> {
 
     /// Takes what is there of each queue and sends it, while few octets wait; whether something came of it. It begins
     /// with the rest of an item that is half out, and else behind the subscription where it stopped last, so that none
-    /// waits for another for ever. A subscription that has lagged ends the connection once all that it had accepted was
-    /// taken, but not while a transaction waits for room: then by a later call.
+    /// waits for another for ever. Where an answer is owed behind that item, nothing else is taken. A subscription that has
+    /// lagged ends the connection once all that it had accepted was taken, but not while a transaction waits for room: then
+    /// by a later call.
     pub fn deliver(&mut self, calls: &mut C) -> bool
         ensures { (asked : List BrokerRow) × AsksInOrder C.called calls.old asked calls.new
             × DeliversRound self.old asked result self.new }
@@ -713,7 +772,7 @@ impl<C: BrokerCalls> Conversation<C> {
         if self.exit.is_some() {
             return false;
         }
-        let waits = self.held.is_some();
+        let extent = Extent::of(&self.held);
         let writes_on = self.writes_on();
         let queues = self.subs.as_mut_slice();
         let (drained, next) = drain_queues(
@@ -722,7 +781,7 @@ impl<C: BrokerCalls> Conversation<C> {
             self.next,
             &mut self.wire,
             self.capacity,
-            waits,
+            extent,
         );
         self.next = next;
         self.more = drained.end.is_stopped();
@@ -771,15 +830,13 @@ fn slice_in(octets: &Option<Octets>) -> Option<&[u8]>
     }
 }
 
-/// What the transaction of this step weighs, if it has one. 2^64 - 1 where it weighs more.
-fn held_weight(held: &Option<Step>) -> u64
+/// What the transaction weighs that waits for room, if one does. 2^64 - 1 where it weighs more.
+fn held_weight(held: &Option<Held>) -> u64
     ensures { result ≡ min (held_weight held.now) (2 ^ 64 - 1) }
 {
     match held {
-        Some(step) => match &step.action {
-            Action::Commit(txn) => txn.weight(),
-            _ => 0,
-        },
+        Some(Held::Waits(txn, _)) => txn.weight(),
+        Some(Held::Owes(_, _)) => 0,
         None => 0,
     }
 }

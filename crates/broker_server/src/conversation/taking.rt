@@ -4,11 +4,12 @@ ghost use Rattle.std.specs.Prelude.{◌≡◌, ◌≤◌, List, Some, drop, IfEr
 ghost use Rattle.delivery.specs.Core.Output.{messages_for};
 ghost use Rattle.broker_server.specs.BrokerRows.{AsksInOrder, BrokerRow};
 ghost use Rattle.broker_server.specs.Conversations.{unwritten};
-ghost use Rattle.broker_server.specs.Delivering.{BreaksOff, Drains, DrainsAll, DrainsOn, DrainsQueues, FailsIn, StopsIn, TellsLag, WritesAll, begins_at, has_item};
+ghost use Rattle.broker_server.specs.Delivering.{BreaksOff, Drains, DrainsAll, DrainsBehind, DrainsOn, DrainsQueues, FailsIn, StopsIn, TellsLag, WritesAll, begins_at, has_item};
 
 use crate::conversation::broker_calls::BrokerCalls;
 use crate::conversation::conversation_fault::ConversationFault;
 use crate::conversation::drained::{Drained, Taking};
+use crate::conversation::extent::Extent;
 use crate::conversation::item_rest::ItemRest;
 use crate::conversation::open_sub::OpenSub;
 use crate::wire::Wire;
@@ -35,21 +36,21 @@ pub(crate) fn drain_queues<C: BrokerCalls>(
     next: usize,
     wire: &mut Wire,
     capacity: u64,
-    waits: bool,
+    extent: Extent,
 ) -> (Drained, usize)
     ensures { (asked : List BrokerRow) × AsksInOrder C.called calls.old asked calls.new
-        × DrainsQueues waits capacity next asked queues.old wire.old result.0.end queues.new wire.new result.1
+        × DrainsQueues extent capacity next asked queues.old wire.old result.0.end queues.new wire.new result.1
         × (result.0.any ≡ has_item asked) }
 {
     let count = queues.len();
     let first = begins_at(next, count);
     let (front, back) = queues.split_at_mut(first);
-    let (drained, left) = drain_all(calls, back, wire, capacity, waits);
+    let (drained, left) = drain_all(calls, back, wire, capacity, extent);
     let Taking::Emptied = drained.end else {
         let behind = count.saturating_sub(left);
         return (drained, behind);
     };
-    let (others, left) = drain_all(calls, front, wire, capacity, waits);
+    let (others, left) = drain_all(calls, front, wire, capacity, extent);
     let later = first.saturating_sub(left);
     let any = drained.any || others.any;
     let end = others.end;
@@ -63,16 +64,16 @@ fn drain_all<C: BrokerCalls>(
     queues: &mut [OpenSub<C>],
     wire: &mut Wire,
     capacity: u64,
-    waits: bool,
+    extent: Extent,
 ) -> (Drained, usize)
     ensures { (asked : List BrokerRow) × AsksInOrder C.called calls.old asked calls.new
-        × DrainsAll waits capacity asked queues.old wire.old result.0.end queues.new wire.new result.1
+        × DrainsAll extent capacity asked queues.old wire.old result.0.end queues.new wire.new result.1
         × (result.0.any ≡ has_item asked) }
 {
     let mut any = false;
     let mut left = queues.len();
     for queue in queues.iter_mut() {
-        let drained = drain_queue(calls, queue, wire, capacity, waits);
+        let drained = drain_queue(calls, queue, wire, capacity, extent);
         any = any || drained.any;
         let end = drained.end;
         match end {
@@ -85,24 +86,48 @@ fn drain_all<C: BrokerCalls>(
     (Drained { any, end }, left)
 }
 
-/// Writes what is left of the queue's item, if something is, and then takes what is there of the queue.
+/// Writes what is left of the queue's item, if something is, and then takes what is there of the queue, unless nothing
+/// but that rest is taken.
 fn drain_queue<C: BrokerCalls>(
     calls: &mut C,
     queue: &mut OpenSub<C>,
     wire: &mut Wire,
     capacity: u64,
-    waits: bool,
+    extent: Extent,
 ) -> Drained
     ensures { (asked : List BrokerRow) × AsksInOrder C.called calls.old asked calls.new
-        × DrainsOn waits capacity asked queue.old wire.old result.end queue.new wire.new
+        × DrainsOn extent capacity asked queue.old wire.old result.end queue.new wire.new
         × (result.any ≡ has_item asked) }
 {
     let Some(rest) = queue.rest.take() else {
-        return take_items(calls, queue, wire, capacity, waits);
+        return take_behind(calls, queue, wire, capacity, extent);
     };
-    match put_left(queue, rest, wire, waits) {
-        Ok(()) => take_items(calls, queue, wire, capacity, waits),
+    match put_left(queue, rest, wire) {
+        Ok(()) => take_behind(calls, queue, wire, capacity, extent),
         Err(end) => Drained { any: false, end },
+    }
+}
+
+/// Takes what is there of a subscription's queue, of whose last item nothing is left, unless nothing but that rest was to
+/// be taken.
+#[inline(always)]
+fn take_behind<C: BrokerCalls>(
+    calls: &mut C,
+    queue: &mut OpenSub<C>,
+    wire: &mut Wire,
+    capacity: u64,
+    extent: Extent,
+) -> Drained
+    ensures { (asked : List BrokerRow) × AsksInOrder C.called calls.old asked calls.new
+        × DrainsBehind extent capacity asked queue.old wire.old result.end queue.new wire.new
+        × (result.any ≡ has_item asked) }
+{
+    match extent {
+        Extent::Rest => Drained {
+            any: false,
+            end: Taking::Stopped,
+        },
+        _ => take_items(calls, queue, wire, capacity, extent),
     }
 }
 
@@ -113,10 +138,10 @@ fn take_items<C: BrokerCalls>(
     queue: &mut OpenSub<C>,
     wire: &mut Wire,
     capacity: u64,
-    waits: bool,
+    extent: Extent,
 ) -> Drained
     ensures { (asked : List BrokerRow) × AsksInOrder C.called calls.old asked calls.new
-        × Drains waits capacity 0 asked queue.old wire.old result.end queue.new wire.new
+        × Drains extent capacity 0 asked queue.old wire.old result.end queue.new wire.new
         × (result.any ≡ has_item asked) }
 {
     let mut any = false;
@@ -129,12 +154,12 @@ fn take_items<C: BrokerCalls>(
                 any = true;
                 queue.run = queue.run.saturating_add(1);
                 queue.until_lag = queue.until_lag.saturating_sub(1);
-                if let Err(end) = put_rest(queue, ItemRest { item, next: 0 }, wire, waits) {
+                if let Err(end) = put_rest(queue, ItemRest { item, next: 0 }, wire) {
                     return Drained { any, end };
                 }
             }
             None if queue.lagged => {
-                let end = end_of_lag(queue.topic, queue.run, waits);
+                let end = end_of_lag(queue.topic, queue.run, extent);
                 return Drained { any, end };
             }
             None if queue.until_lag == 0 && calls.has_lagged(&queue.sub) => {
@@ -158,14 +183,13 @@ fn put_left<C: BrokerCalls>(
     queue: &mut OpenSub<C>,
     rest: ItemRest,
     wire: &mut Wire,
-    waits: bool,
 ) -> Result<(), Taking>
-    ensures whole { OnOk result (WritesAll waits (unwritten queue.old.parts queue.old.id (Some rest)) wire.old wire.new
+    ensures whole { OnOk result (WritesAll (unwritten queue.old.parts queue.old.id (Some rest)) wire.old wire.new
         × (queue.new ≡ queue.old)) }
     ensures breaks_off { IfErr result (λ end.
-        BreaksOff waits (unwritten queue.old.parts queue.old.id (Some rest)) queue.old wire.old end queue.new wire.new) }
+        BreaksOff (unwritten queue.old.parts queue.old.id (Some rest)) queue.old wire.old end queue.new wire.new) }
 {
-    put_rest(queue, rest, wire, waits)
+    put_rest(queue, rest, wire)
 }
 
 /// Writes the rest of an item, as far as it is written now. Refused by how it ended where some MESSAGEs aren't: those are
@@ -175,15 +199,14 @@ fn put_rest<C: BrokerCalls>(
     queue: &mut OpenSub<C>,
     rest: ItemRest,
     wire: &mut Wire,
-    waits: bool,
 ) -> Result<(), Taking>
-    ensures whole { OnOk result (WritesAll waits (unwritten queue.old.parts queue.old.id (Some rest)) wire.old wire.new
+    ensures whole { OnOk result (WritesAll (unwritten queue.old.parts queue.old.id (Some rest)) wire.old wire.new
         × (queue.new ≡ queue.old)) }
     ensures breaks_off { IfErr result (λ end.
-        BreaksOff waits (unwritten queue.old.parts queue.old.id (Some rest)) queue.old wire.old end queue.new wire.new) }
+        BreaksOff (unwritten queue.old.parts queue.old.id (Some rest)) queue.old wire.old end queue.new wire.new) }
 {
     let ItemRest { item, next } = rest;
-    match put_messages(queue.id.as_slice(), queue.parts, &item, next, wire, waits) {
+    match put_messages(queue.id.as_slice(), queue.parts, &item, next, wire) {
         Ok(next) if next < item.part.sends.len() => {
             queue.rest = Some(ItemRest { item, next });
             Err(Taking::Halfway)
@@ -193,8 +216,7 @@ fn put_rest<C: BrokerCalls>(
     }
 }
 
-/// Writes an item's MESSAGEs from this one on, while few octets wait; or all of them while a transaction waits for room,
-/// which would have to wait for them, and others behind that. Which is the next that isn't written.
+/// Writes an item's MESSAGEs from this one on, while few octets wait. Which is the next that isn't written.
 #[inline(always)]
 fn put_messages(
     id: &[u8],
@@ -202,15 +224,14 @@ fn put_messages(
     item: &Released,
     next: usize,
     wire: &mut Wire,
-    waits: bool,
 ) -> Result<usize, NoMemory>
-    ensures ok { IfOk result (λ stopped. StopsIn waits (drop next (messages_for parts id.now item.now))
+    ensures ok { IfOk result (λ stopped. StopsIn (drop next (messages_for parts id.now item.now))
         (drop stopped (messages_for parts id.now item.now)) wire.old wire.new) }
-    ensures err { OnErr result (FailsIn waits (drop next (messages_for parts id.now item.now)) wire.old wire.new) }
+    ensures err { OnErr result (FailsIn (drop next (messages_for parts id.now item.now)) wire.old wire.new) }
 {
     let count = item.part.sends.len();
     for at in next..count {
-        if !waits && !wire.may_take() {
+        if !wire.may_take() {
             return Ok(at);
         }
         wire.put_message(id, parts, item, at)?;
@@ -219,12 +240,13 @@ fn put_messages(
 }
 
 /// What a queue at this topic comes to that has lagged, once it is empty and so many items were taken: a fault, but
-/// while a transaction waits for room nothing yet.
-fn end_of_lag(topic: Topic, items: u64, waits: bool) -> Taking
-    ensures { TellsLag waits result }
+/// while a transaction waits for room, or an answer is owed, nothing yet.
+fn end_of_lag(topic: Topic, items: u64, extent: Extent) -> Taking
+    ensures { TellsLag extent result }
 {
-    if waits {
-        return Taking::Emptied;
+    match extent {
+        Extent::All => Taking::Failed(ConversationFault::Lagged { topic, items }),
+        Extent::ButLags => Taking::Emptied,
+        Extent::Rest => Taking::Emptied,
     }
-    Taking::Failed(ConversationFault::Lagged { topic, items })
 }

@@ -155,7 +155,7 @@ impl<'a, 'b, R: Wait + Log + Clock, W: Side, T: Side> Connection<'a, 'b, R, W, T
         }
     }
 
-    /// Goes on with what waits for room. Then it reads while a read may give something, and does what each asks for; four
+    /// Goes on with what waits for room, or whose answer is owed. Then it reads while a read may give something, and does what each asks for; four
     /// times at most, and no longer than until the bell rings. Then the topics of what was committed are turned, before
     /// anything else is done.
     fn hear(&mut self, desk: &mut Desk<'a, R, W, T>) -> Round {
@@ -227,8 +227,8 @@ impl<'a, 'b, R: Wait + Log + Clock, W: Side, T: Side> Connection<'a, 'b, R, W, T
         }
     }
 
-    /// Goes on with the transaction that waits for room, if one does, as `tries` says, and says whom it waits for. All that
-    /// was read was done then, or waits.
+    /// Goes on with the transaction that waits for room, or whose answer is owed, if one is, as `tries` says, and says whom it
+    /// waits for. All that was read was done then, or waits.
     #[inline(always)]
     fn go_on(&mut self, desk: &mut Desk<'a, R, W, T>) -> Round
         ensures { result ≡ Idle → is_some desk.new.talk.held ≡ true → desk.new.calls.commits ≡ 0 }
@@ -244,8 +244,8 @@ impl<'a, 'b, R: Wait + Log + Clock, W: Side, T: Side> Connection<'a, 'b, R, W, T
     }
 
     /// Tries the transaction that waits for room, and what came behind it, until none waits, or there is no room though
-    /// all that it sent was turned, or it is told of something. What is there for it is taken once none waits: a lag that
-    /// was found meanwhile is told then.
+    /// all that it sent was turned, or an answer is owed behind an item that is half out, or it is told of something. What
+    /// is there for it is taken once none waits: a lag that was found meanwhile is told then.
     #[inline(never)]
     fn tries(&mut self, desk: &mut Desk<'a, R, W, T>) -> Round
         ensures { result ≡ Idle → desk.new.calls.commits ≡ 0 }
@@ -427,19 +427,19 @@ impl<'a, 'b, R: Wait + Log + Clock, W: Side, T: Side> Connection<'a, 'b, R, W, T
         if !desk.talk.is_connected() {
             return Ok(Some(Sleep::Until(self.time_to_connect(desk)?)));
         }
-        let is_held = desk.talk.is_held();
+        let waits = desk.talk.waits_for_room();
         if !desk.socket.is_blocked() {
-            return Ok(Some(self.calm_sleep(is_held)));
+            return Ok(Some(self.calm_sleep(waits)));
         }
-        if desk.is_lost() && !is_held {
+        if desk.is_lost() && !waits {
             return Err(WhyLeft::Untaken);
         }
         Ok(Some(Sleep::Timed))
     }
 
     /// By what it is woken, where the system takes what waits, and a transaction of it waits for room, or none does.
-    fn calm_sleep(&self, is_held: bool) -> Sleep {
-        if is_held {
+    fn calm_sleep(&self, waits: bool) -> Sleep {
+        if waits {
             Sleep::Timed
         } else if self.outfit.is_wide() {
             Sleep::Until(Span(TO_IDLE))

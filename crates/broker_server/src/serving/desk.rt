@@ -226,7 +226,7 @@ impl<'a, R: Wait + Log + Clock, W: Side, T: Side> Desk<'a, R, W, T> {
             sends: self.talk.sends(),
             octets_in: self.octets_in,
             octets_out: self.octets_out,
-            waiting: one_if(self.talk.is_held()),
+            waiting: one_if(self.talk.waits_for_room()),
             behind: one_if(is_behind),
             ..self.calls.activity()
         }

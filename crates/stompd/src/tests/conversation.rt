@@ -8,6 +8,7 @@ mod halves;
 mod holding;
 mod ignored;
 mod items;
+mod owed;
 mod parts;
 mod pieces;
 mod talk;

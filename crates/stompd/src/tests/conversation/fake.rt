@@ -78,7 +78,7 @@ pub(super) struct FakeRoom {
 #[derive(Drop)]
 pub(super) struct Fake {
     alloc: Global,
-    plan: Plan,
+    pub(super) plan: Plan,
     pub(super) rows: Vec<Row>,
     /// So many times there is no room, from now on.
     pub(super) refusals: u64,

@@ -1,7 +1,7 @@
 //! Items of many octets: written MESSAGE by MESSAGE as few octets wait, each as a whole before anything else.
 
 use super::fake::Row::{GivesBack, Takes, Unsubscribes};
-use super::fake::WILLING;
+use super::fake::{Plan, WILLING};
 use super::talk::{CONNECT, CONNECTED, SUBSCRIBE, Talk};
 use broker_server::{ConversationFault, Exit};
 use std::alloc::{AllocError, Global};
@@ -15,10 +15,10 @@ const SENDS: u32 = 6;
 const BODY: usize = 30_000;
 
 /// More octets than a MESSAGE of these has.
-const MESSAGE: usize = 30_200;
+pub(super) const MESSAGE: usize = 30_200;
 
 /// Where so many octets wait, no MESSAGE is written.
-const FULL: usize = 65_536;
+pub(super) const FULL: usize = 65_536;
 
 /// The RECEIPT of a transaction.
 const RECEIPT: &str = "RECEIPT\nreceipt-id:c\n\n\0\n";
@@ -40,6 +40,16 @@ const NO_MEMORY: &str = "ERROR\nmessage:72 NoMemory\ncontent-length:0\n\n\0\n";
 pub(super) struct Peer {
     pub(super) came: Vec<u8>,
     pub(super) room: usize,
+}
+
+impl Peer {
+    /// One to which nothing came, and that takes none.
+    pub(super) fn new(alloc: Global) -> Peer {
+        Peer {
+            came: Vec::new(alloc),
+            room: 0,
+        }
+    }
 }
 
 impl Write for Peer {
@@ -87,7 +97,7 @@ fn transaction(alloc: Global, topics: &[&str]) -> Result<String, AllocError> {
 /// What a subscription is called, its topic, the stamp of its items, and the index of its first SEND and how much greater
 /// that of each other is than the one's before.
 #[derive(Clone, Copy)]
-struct Told {
+pub(super) struct Told {
     id: &'static str,
     topic: &'static str,
     stamp: &'static str,
@@ -96,7 +106,7 @@ struct Told {
 }
 
 /// The subscription to A of a transaction to A alone.
-const AT_A: Told = Told {
+pub(super) const AT_A: Told = Told {
     id: "s",
     topic: "A",
     stamp: "1.0",
@@ -143,7 +153,7 @@ fn push_message(
 }
 
 /// What is written of a transaction: CONNECTED, the RECEIPT, and all MESSAGEs of one subscription after the other.
-fn expected(alloc: Global, all: &[Told]) -> Result<String, AllocError> {
+pub(super) fn expected(alloc: Global, all: &[Told]) -> Result<String, AllocError> {
     let mut text = String::from_str(alloc, CONNECTED)?;
     text.push_str(RECEIPT)?;
     for &told in all {
@@ -156,8 +166,18 @@ fn expected(alloc: Global, all: &[Told]) -> Result<String, AllocError> {
 
 /// A connection with subscriptions to these topics, which has committed such a transaction to them.
 fn committed(alloc: Global, topics: &[&str]) -> Option<Talk> {
+    committed_by(alloc, topics, WILLING, 64)
+}
+
+/// The same, of a broker with this plan, whose queues hold so many items.
+pub(super) fn committed_by(
+    alloc: Global,
+    topics: &[&str],
+    plan: Plan,
+    capacity: u64,
+) -> Option<Talk> {
     let text = transaction(alloc, topics).ok()?;
-    let mut talk = Talk::new(alloc, WILLING, 64)?;
+    let mut talk = Talk::new(alloc, plan, capacity)?;
     talk.hear(CONNECT);
     talk.hear(SUBSCRIBE);
     if topics.len() > 1 {
@@ -167,15 +187,16 @@ fn committed(alloc: Global, topics: &[&str]) -> Option<Talk> {
     Some(talk)
 }
 
-/// Whether what a connection was written is right while it takes what is there, and its peer so many octets at a time:
-/// never more than one MESSAGE waits beyond what is full, it isn't read from while an item is half out, and says that
-/// more is there.
-fn goes_on(talk: &mut Talk, peer: &mut Peer, at_once: usize) -> bool {
+/// Whether what a connection was written is right while it takes what is there, goes on with what it holds, and its peer
+/// takes so many octets at a time: never more than one MESSAGE waits beyond what is full, it isn't read from while an item
+/// is half out, and says that more is there.
+pub(super) fn goes_on(talk: &mut Talk, peer: &mut Peer, at_once: usize) -> bool {
     for _ in 0..1_000u32 {
         let wrote = talk.deliver();
         if talk.talk.wire().len() >= FULL + MESSAGE || wrote && talk.talk.wire().is_empty() {
             return false;
         }
+        talk.go_on();
         if !talk.talk.has_more() {
             return talk.talk.may_read();
         }
@@ -191,10 +212,7 @@ fn goes_on(talk: &mut Talk, peer: &mut Peer, at_once: usize) -> bool {
 fn comes(alloc: Global, topics: &[&str], all: &[Told], at_once: usize) -> Option<bool> {
     let whole = expected(alloc, all).ok()?;
     let mut talk = committed(alloc, topics)?;
-    let mut peer = Peer {
-        came: Vec::new(alloc),
-        room: 0,
-    };
+    let mut peer = Peer::new(alloc);
     let right = goes_on(&mut talk, &mut peer, at_once);
     peer.room = whole.len();
     let drained = talk.talk.drain(&mut peer).is_ok();
@@ -226,16 +244,12 @@ fn keeps(alloc: Global) -> Option<bool> {
     let mut whole = expected(alloc, &[AT_A]).ok()?;
     whole.push_str(ENDS.1).ok()?;
     let mut talk = committed(alloc, &["A"])?;
-    let mut peer = Peer {
-        came: Vec::new(alloc),
-        room: 0,
-    };
+    let mut peer = Peer::new(alloc);
     talk.deliver();
     let half = talk.talk.has_more() && !talk.talk.may_read();
     talk.hear(ENDS.0);
     let silent = !talk.fake.rows.as_slice().contains(&Unsubscribes(0));
     let right = goes_on(&mut talk, &mut peer, 10_000);
-    talk.hear("\n");
     peer.room = whole.len();
     let drained = talk.talk.drain(&mut peer).is_ok();
     let ended = talk.fake.rows.as_slice().ends_with(&[Unsubscribes(0)]);
@@ -252,10 +266,7 @@ fn nothing_comes_between(rt: HostRuntime) {
 fn is_lost(alloc: Global, calls: u32) -> Option<bool> {
     let whole = expected(alloc, &[AT_A]).ok()?;
     let mut talk = committed(alloc, &["A"])?;
-    let mut peer = Peer {
-        came: Vec::new(alloc),
-        room: 0,
-    };
+    let mut peer = Peer::new(alloc);
     for _ in 0..calls {
         talk.deliver();
         peer.room = MESSAGE;
@@ -282,24 +293,6 @@ fn one_is_lost_halfway(rt: HostRuntime) {
     for calls in 0..=SENDS {
         assert!(rt; is_lost(rt.alloc(), calls) == Some(true), "{calls} calls");
     }
-}
-
-/// Whether an item is written as a whole while a transaction of the connection waits for room.
-fn is_whole_while_one_waits(alloc: Global) -> Option<bool> {
-    let whole = expected(alloc, &[AT_A]).ok()?;
-    let mut talk = committed(alloc, &["A"])?;
-    talk.fake.refusals = 1;
-    talk.hear("SEND\ndestination:A\nreceipt:w\n\nhi\0");
-    let waits = talk.waits();
-    talk.deliver();
-    let out = talk.wrote(&[whole.as_str()]);
-    talk.go_on();
-    Some(waits && out && talk.wrote(&[whole.as_str(), "RECEIPT\nreceipt-id:w\n\n\0\n"]))
-}
-
-#[test]
-fn an_item_is_whole_while_a_transaction_waits(rt: HostRuntime) {
-    assert!(rt; is_whole_while_one_waits(rt.alloc()) == Some(true));
 }
 
 /// Whether these octets are what is expected up to the end of one of its frames, and then this.
@@ -345,10 +338,7 @@ fn memory_runs_out_halfway(rt: HostRuntime) {
 /// again only behind it.
 fn is_taken_once(alloc: Global) -> Option<bool> {
     let mut talk = committed(alloc, &["A"])?;
-    let mut peer = Peer {
-        came: Vec::new(alloc),
-        room: 0,
-    };
+    let mut peer = Peer::new(alloc);
     talk.fake.rows.clear();
     talk.deliver();
     let first = talk.asked(&[Takes(0, true)]);

@@ -1,12 +1,11 @@
 use Rattle.std.proofs.Common.{◌≡◌, rules, ℕ, Bool, List, true, false, [], ◌++◌, None, refl, sym, ap, subst, ◌∙◌, inr, append-nil}
 use Rattle.std.proofs.lemmas.List.{places, with_items_is}
-use Rattle.std.specs.Option.{is_some}
 use Rattle.std.specs.Prelude.{◌||◌}
 use Rattle.std.specs.Vec.{with_items}
 use Rattle.broker_server.specs.declared.conversation.drained.Taking.{Taking}
 use Rattle.broker_server.specs.BrokerRows.{AsksInOrder}
 use Rattle.broker_server.specs.Conversations.{ConversationState, EndsByError, OpenSubState, closing_rows}
-use Rattle.broker_server.specs.Delivering.{Settles, has_item, is_halfway, is_stopped, writes_on}
+use Rattle.broker_server.specs.Delivering.{Settles, extent_of, has_item, is_halfway, is_stopped, writes_on}
 use Rattle.broker_server.proofs.ConversationLemmas.{asks_on}
 use Rattle.broker_server.proofs.DeliveringLemmas.{drains_whole, settles_else}
 use Rattle.broker_server.proofs.conversation.Conversation.deliver.Goals as goal
@@ -41,8 +40,8 @@ returns-then-drained g c =
     let changed : left ≡ record after { more = stopped; half = halfway } =
     ap with (with_items_is held.subs new.queues (search (rules, places)))
     ∙ ap (λ (s : ConversationState). record s { subs = new.queues; wire = new.wire; next = next; more = stopped; half = halfway }) c.self.view_is in
-    let drains = drains_whole c.is_some-waits.result (is_some old.held) held.capacity old.capacity held.next old.next did.0 c.as_mut_slice-queues.result.now old.subs held.wire old.wire end new.queues new.wire next
-    (c.is_some-waits.ensures ∙ ap (λ (s : ConversationState). is_some s.held) c.self.view_is) (ap (λ (s : ConversationState). s.capacity) c.self.view_is) (ap (λ (s : ConversationState). s.next) c.self.view_is) (c.as_mut_slice-queues.ensures.value ∙ ap (λ (s : ConversationState). s.subs) c.self.view_is) (ap (λ (s : ConversationState). s.wire) c.self.view_is) did.2 in
+    let drains = drains_whole c.of-extent.result (extent_of old.held) held.capacity old.capacity held.next old.next did.0 c.as_mut_slice-queues.result.now old.subs held.wire old.wire end new.queues new.wire next
+    (c.of-extent.ensures ∙ ap (λ (s : ConversationState). extent_of s.held) c.self.view_is) (ap (λ (s : ConversationState). s.capacity) c.self.view_is) (ap (λ (s : ConversationState). s.next) c.self.view_is) (c.as_mut_slice-queues.ensures.value ∙ ap (λ (s : ConversationState). s.subs) c.self.view_is) (ap (λ (s : ConversationState). s.wire) c.self.view_is) did.2 in
     let settled : left ≡ record after { more = is_stopped end; half = is_halfway end } =
     changed
     ∙ (ap (λ (b : Bool). record after { more = b; half = halfway }) c.is_stopped-self-inside.ensures
@@ -83,8 +82,8 @@ returns-else-drained g c =
     let changed : left ≡ record after { more = stopped; half = halfway } =
     ap with (with_items_is held.subs new.queues (search (rules, places)))
     ∙ ap (λ (s : ConversationState). record s { subs = new.queues; wire = new.wire; next = next; more = stopped; half = halfway }) c.self.view_is in
-    let drains = drains_whole c.is_some-waits.result (is_some old.held) held.capacity old.capacity held.next old.next did.0 c.as_mut_slice-queues.result.now old.subs held.wire old.wire end new.queues new.wire next
-    (c.is_some-waits.ensures ∙ ap (λ (s : ConversationState). is_some s.held) c.self.view_is) (ap (λ (s : ConversationState). s.capacity) c.self.view_is) (ap (λ (s : ConversationState). s.next) c.self.view_is) (c.as_mut_slice-queues.ensures.value ∙ ap (λ (s : ConversationState). s.subs) c.self.view_is) (ap (λ (s : ConversationState). s.wire) c.self.view_is) did.2 in
+    let drains = drains_whole c.of-extent.result (extent_of old.held) held.capacity old.capacity held.next old.next did.0 c.as_mut_slice-queues.result.now old.subs held.wire old.wire end new.queues new.wire next
+    (c.of-extent.ensures ∙ ap (λ (s : ConversationState). extent_of s.held) c.self.view_is) (ap (λ (s : ConversationState). s.capacity) c.self.view_is) (ap (λ (s : ConversationState). s.next) c.self.view_is) (c.as_mut_slice-queues.ensures.value ∙ ap (λ (s : ConversationState). s.subs) c.self.view_is) (ap (λ (s : ConversationState). s.wire) c.self.view_is) did.2 in
     let settled : left ≡ record after { more = is_stopped end; half = is_halfway end } =
     changed
     ∙ (ap (λ (b : Bool). record after { more = b; half = halfway }) c.is_stopped-self-inside.ensures
@@ -126,8 +125,8 @@ returns-in-Failed g c =
     let changed : left ≡ record after { more = stopped; half = halfway } =
     ap with (with_items_is held.subs new.queues (search (rules, places)))
     ∙ ap (λ (s : ConversationState). record s { subs = new.queues; wire = new.wire; next = next; more = stopped; half = halfway }) c.self.view_is in
-    let drains = drains_whole c.is_some-waits.result (is_some old.held) held.capacity old.capacity held.next old.next did.0 c.as_mut_slice-queues.result.now old.subs held.wire old.wire end new.queues new.wire next
-    (c.is_some-waits.ensures ∙ ap (λ (s : ConversationState). is_some s.held) c.self.view_is) (ap (λ (s : ConversationState). s.capacity) c.self.view_is) (ap (λ (s : ConversationState). s.next) c.self.view_is) (c.as_mut_slice-queues.ensures.value ∙ ap (λ (s : ConversationState). s.subs) c.self.view_is) (ap (λ (s : ConversationState). s.wire) c.self.view_is) did.2 in
+    let drains = drains_whole c.of-extent.result (extent_of old.held) held.capacity old.capacity held.next old.next did.0 c.as_mut_slice-queues.result.now old.subs held.wire old.wire end new.queues new.wire next
+    (c.of-extent.ensures ∙ ap (λ (s : ConversationState). extent_of s.held) c.self.view_is) (ap (λ (s : ConversationState). s.capacity) c.self.view_is) (ap (λ (s : ConversationState). s.next) c.self.view_is) (c.as_mut_slice-queues.ensures.value ∙ ap (λ (s : ConversationState). s.subs) c.self.view_is) (ap (λ (s : ConversationState). s.wire) c.self.view_is) did.2 in
     let why = c.in-Failed.fault in
     let last = c.fail.new in
     let rest = closing_rows after in

@@ -18,6 +18,6 @@ returns-in-Err g c =
     let end = c.in-Err.end in
     let new = c.put_left.new in
     let rest_is : held.rest ≡ Some c.in-Some.rest = sym c.take.ensures.value ∙ c.in-Some.is in
-    let taken = subst (λ (rest : Option ItemRest). BreaksOff c.args.waits (unwritten held.parts held.id (Some c.in-Some.rest)) (with rest) c.args.wire.now end new.queue new.wire) c.take.ensures.after c.in-Err.ensures.breaks_off in
-    let off = subst (λ (rest : Option ItemRest). BreaksOff c.args.waits (unwritten held.parts held.id rest) (record (with rest) { left = [] }) c.args.wire.now end new.queue new.wire) (sym rest_is) taken in
-    ([], refl, inr (refl, subst (λ (q : OpenSubState). BreaksOff c.args.waits q.left (record q { left = [] }) c.args.wire.now end new.queue new.wire) c.queue.view_is off), refl)
+    let taken = subst (λ (rest : Option ItemRest). BreaksOff (unwritten held.parts held.id (Some c.in-Some.rest)) (with rest) c.args.wire.now end new.queue new.wire) c.take.ensures.after c.in-Err.ensures.breaks_off in
+    let off = subst (λ (rest : Option ItemRest). BreaksOff (unwritten held.parts held.id rest) (record (with rest) { left = [] }) c.args.wire.now end new.queue new.wire) (sym rest_is) taken in
+    ([], refl, inr (refl, subst (λ (q : OpenSubState). BreaksOff q.left (record q { left = [] }) c.args.wire.now end new.queue new.wire) c.queue.view_is off), refl)

@@ -1,17 +1,15 @@
-use Rattle.std.proofs.Common.{◌≡◌, ◌<◌, ◌≤◌, Bool, true, false, List, ℕ, length, drop, sym, ap, subst, ◌∙◌, arith, nat_lt}
-use Rattle.std.specs.Prelude.{◌||◌}
+use Rattle.std.proofs.Common.{◌≡◌, ◌<◌, ◌≤◌, true, false, List, ℕ, length, drop, sym, ap, subst, ◌∙◌, arith}
 use Rattle.mcast_txn.specs.declared.parts.part.Part.{Part}
 use Rattle.mcast_txn.specs.declared.parts.part_message.PartMessage.{PartMessage}
 use Rattle.mcast_txn.specs.Span.{Item}
 use Rattle.delivery.specs.Core.Output.{messages_for}
-use Rattle.broker_server.specs.Delivering.{FailsIn, full_wire, has_room}
-use Rattle.broker_server.proofs.DeliveringLemmas.{all_so_far, fails_so_far, none_so_far, one_so_far, or_so, stops_so_far}
+use Rattle.broker_server.specs.Delivering.{FailsIn, has_room}
+use Rattle.broker_server.proofs.DeliveringLemmas.{all_so_far, fails_so_far, none_so_far, one_so_far, stops_so_far}
 use Rattle.broker_server.proofs.EolLemmas.{as_many, err_of}
 use Rattle.broker_server.proofs.conversation.taking.put_messages.Goals as goal
-use Rattle.broker_server.proofs.conversation.taking.put_messages.Goals.{else-not-waits-via-then-not-waits+else-not-may_take, else-not-waits-via-else-not-waits}
 
 pub loop-at-init : goal.loop-at-init
-loop-at-init c = record { written = none_so_far c.args.waits (messages_for c.args.parts c.args.id.now c.args.item.now) c.args.next c.args.wire.now }
+loop-at-init c = record { written = none_so_far (messages_for c.args.parts c.args.id.now c.args.item.now) c.args.next c.args.wire.now }
 
 pub returns-then-not-may_take-clause-ok : goal.returns-then-not-may_take-clause-ok
 returns-then-not-may_take-clause-ok c =
@@ -20,8 +18,8 @@ returns-then-not-may_take-clause-ok c =
     let sends : c.deref.result.now.sends ≡ item.sends = ap (λ (q : Part). q.sends) c.deref.ensures ∙ ap (λ (x : Item). x.sends) c.item.view_is in
     let many : c.len-count.result ≡ length messages = c.len-count.ensures ∙ (ap (λ (xs : List PartMessage). length xs) sends ∙ sym (as_many c.args.parts c.args.id.now item)) in
     let there : c.loop-at.at < length messages = omega (arith, c.loop-at-test.true, many) in
-    let none : has_room c.args.waits c.loop-at.wire ≡ false = ap (λ (b : Bool). b || nat_lt (length c.loop-at.wire) full_wire) c.if-not-waits.true ∙ sym c.if-not-may_take.ensures in
-    stops_so_far c.args.waits messages c.args.next c.loop-at.at c.args.wire.now c.loop-at.wire there none c.loop-at.invariant.written
+    let none : has_room c.loop-at.wire ≡ false = sym c.if-not-may_take.ensures in
+    stops_so_far messages c.args.next c.loop-at.at c.args.wire.now c.loop-at.wire there none c.loop-at.invariant.written
 
 pub returns-in_err-put_message-clause-err : goal.returns-in_err-put_message-clause-err
 returns-in_err-put_message-clause-err c =
@@ -30,8 +28,8 @@ returns-in_err-put_message-clause-err c =
     let sends : c.deref.result.now.sends ≡ item.sends = ap (λ (q : Part). q.sends) c.deref.ensures ∙ ap (λ (x : Item). x.sends) c.item.view_is in
     let many : c.len-count.result ≡ length messages = c.len-count.ensures ∙ (ap (λ (xs : List PartMessage). length xs) sends ∙ sym (as_many c.args.parts c.args.id.now item)) in
     let there : c.loop-at.at < length messages = omega (arith, c.loop-at-test.true, many) in
-    let fails = fails_so_far c.args.waits messages c.args.next c.loop-at.at c.args.wire.now c.loop-at.wire there c.loop-at.invariant.written in
-    err_of c.from_residual.result _ (subst (λ (w : List ℕ). FailsIn c.args.waits (drop c.args.next messages) c.args.wire.now w) (sym c.in_err-put_message.ensures.err) fails)
+    let fails = fails_so_far messages c.args.next c.loop-at.at c.args.wire.now c.loop-at.wire there c.loop-at.invariant.written in
+    err_of c.from_residual.result _ (subst (λ (w : List ℕ). FailsIn (drop c.args.next messages) c.args.wire.now w) (sym c.in_err-put_message.ensures.err) fails)
 
 pub loop-at-preserved : goal.loop-at-preserved
 loop-at-preserved c =
@@ -40,11 +38,8 @@ loop-at-preserved c =
     let sends : c.deref.result.now.sends ≡ item.sends = ap (λ (q : Part). q.sends) c.deref.ensures ∙ ap (λ (x : Item). x.sends) c.item.view_is in
     let many : c.len-count.result ≡ length messages = c.len-count.ensures ∙ (ap (λ (xs : List PartMessage). length xs) sends ∙ sym (as_many c.args.parts c.args.id.now item)) in
     let there : c.loop-at.at < length messages = omega (arith, c.loop-at-test.true, many) in
-    let room : has_room c.args.waits c.loop-at.wire ≡ true = elim c.else-not-waits.branch [
-      | else-not-waits-via-then-not-waits+else-not-may_take w ↦ or_so c.args.waits (nat_lt (length c.loop-at.wire) full_wire) (sym w.if-not-may_take.ensures)
-      | else-not-waits-via-else-not-waits w ↦ ap (λ (b : Bool). b || nat_lt (length c.loop-at.wire) full_wire) w.if-not-waits.false
-    ] in
-    record { written = one_so_far c.args.waits messages c.args.next c.loop-at.at c.args.wire.now c.loop-at.wire c.put_message.new.self there room c.in_ok-put_message.ensures.ok c.loop-at.invariant.written }
+    let room : has_room c.loop-at.wire ≡ true = sym c.if-not-may_take.ensures in
+    record { written = one_so_far messages c.args.next c.loop-at.at c.args.wire.now c.loop-at.wire c.put_message.new.self there room c.in_ok-put_message.ensures.ok c.loop-at.invariant.written }
 
 pub returns-clause-ok : goal.returns-clause-ok
 returns-clause-ok c =
@@ -54,4 +49,4 @@ returns-clause-ok c =
     let many : c.len-count.result ≡ length messages = c.len-count.ensures ∙ (ap (λ (xs : List PartMessage). length xs) sends ∙ sym (as_many c.args.parts c.args.id.now item)) in
     let past : length messages ≤ c.loop-at.at = omega (arith, c.loop-at-test.false, many) in
     let over : length messages ≤ c.len-count.result = omega (arith, many) in
-    all_so_far c.args.waits messages c.args.next c.loop-at.at c.len-count.result c.args.wire.now c.loop-at.wire past over c.loop-at.invariant.written
+    all_so_far messages c.args.next c.loop-at.at c.len-count.result c.args.wire.now c.loop-at.wire past over c.loop-at.invariant.written

@@ -20,7 +20,7 @@ returns-in-Ok-clause-breaks_off g c =
     let sends : c.deref.result.now.sends ≡ item.sends = ap (λ (q : Part). q.sends) c.deref.ensures ∙ ap (λ (x : Item). x.sends) c.item.view_is in
     let many : c.len.result ≡ length messages = c.len.ensures ∙ (ap (λ (xs : List PartMessage). length xs) sends ∙ sym (as_many held.parts held.id item)) in
     let there : c.in-Ok.next < length messages = omega (arith, c.if-next-len.true, many) in
-    let stops = subst (λ (id : List ℕ). StopsIn c.args.waits (drop c.args.rest.next (messages_for held.parts id item)) (drop c.in-Ok.next (messages_for held.parts id item)) c.args.wire.now after) c.as_slice.ensures c.in-Ok.ensures.ok in
+    let stops = subst (λ (id : List ℕ). StopsIn (drop c.args.rest.next (messages_for held.parts id item)) (drop c.in-Ok.next (messages_for held.parts id item)) c.args.wire.now after) c.as_slice.ensures c.in-Ok.ensures.ok in
     let new : OpenSubState = record {
       id = held.id;
       parts = held.parts;
@@ -29,7 +29,7 @@ returns-in-Ok-clause-breaks_off g c =
       lagged = held.lagged;
       left = drop c.in-Ok.next messages;
     } in
-    subst (λ (q : OpenSubState). BreaksOff c.args.waits (drop c.args.rest.next (messages_for q.parts q.id item)) q c.args.wire.now Halfway new after) c.queue.view_is
+    subst (λ (q : OpenSubState). BreaksOff (drop c.args.rest.next (messages_for q.parts q.id item)) q c.args.wire.now Halfway new after) c.queue.view_is
     (inl (some_left_at messages c.in-Ok.next there, stops, refl, refl))
 
 pub returns-in-Ok-2-clause-whole : goal.returns-in-Ok-2-clause-whole
@@ -41,6 +41,6 @@ returns-in-Ok-2-clause-whole g c =
     let sends : c.deref.result.now.sends ≡ item.sends = ap (λ (q : Part). q.sends) c.deref.ensures ∙ ap (λ (x : Item). x.sends) c.item.view_is in
     let many : c.len.result ≡ length messages = c.len.ensures ∙ (ap (λ (xs : List PartMessage). length xs) sends ∙ sym (as_many c.args.queue.now.parts c.args.queue.now.id item)) in
     let over : length messages ≤ c.in-Ok.next = omega (arith, c.if-next-len.false, many) in
-    let stops = subst (λ (id : List ℕ). StopsIn c.args.waits (drop c.args.rest.next (messages_for held.parts id item)) (drop c.in-Ok.next (messages_for held.parts id item)) c.args.wire.now after) c.as_slice.ensures c.in-Ok.ensures.ok in
-    let whole = subst (λ (q : OpenSubState). StopsIn c.args.waits (drop c.args.rest.next (messages_for q.parts q.id item)) (drop c.in-Ok.next (messages_for q.parts q.id item)) c.args.wire.now after) c.queue.view_is stops in
+    let stops = subst (λ (id : List ℕ). StopsIn (drop c.args.rest.next (messages_for held.parts id item)) (drop c.in-Ok.next (messages_for held.parts id item)) c.args.wire.now after) c.as_slice.ensures c.in-Ok.ensures.ok in
+    let whole = subst (λ (q : OpenSubState). StopsIn (drop c.args.rest.next (messages_for q.parts q.id item)) (drop c.in-Ok.next (messages_for q.parts q.id item)) c.args.wire.now after) c.queue.view_is stops in
     ((whole.0 ∙ drop_all c.in-Ok.next messages over, whole.1), refl)

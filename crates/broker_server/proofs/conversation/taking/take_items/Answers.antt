@@ -33,8 +33,8 @@ returns-in-Err g c =
     let next_is : next ≡ nearer_lag o =
     ap (λ (sub : SubName). with sub c.saturating_sub-queue-inside.result) c.in-Some.ensures.same
     ∙ ap (λ (left : ℕ). with (name held.sub) left) c.saturating_sub-queue-inside.ensures in
-    let drains = subst (λ (q : OpenSubState). Drains c.args.waits c.args.capacity n (row ∷ []) q wire end after.queue after.wire) c.queue.view_is
-    (drains_half c.args.waits c.args.capacity n o next wire item (name held.sub) (room_of (length wire) c.if-not-may_take.ensures) refl next_is end after.queue after.wire c.in-Err.ensures.breaks_off) in (
+    let drains = subst (λ (q : OpenSubState). Drains c.args.extent c.args.capacity n (row ∷ []) q wire end after.queue after.wire) c.queue.view_is
+    (drains_half c.args.extent c.args.capacity n o next wire item (name held.sub) (room_of (length wire) c.if-not-may_take.ensures) refl next_is end after.queue after.wire c.in-Err.ensures.breaks_off) in (
       so_far.0 ++ row ∷ [],
       asks_on called c.args.calls.now c.loop-call.calls c.take.new.self so_far.0 (row ∷ []) so_far.1 (asks_one called c.loop-call.calls c.take.new.self row c.in-Some.ensures.taken),
       so_far.2 (row ∷ []) end after.queue after.wire drains,
@@ -59,7 +59,7 @@ returns-in-None g c =
       so_far.0 ++ row ∷ [],
       asks_on called c.args.calls.now c.loop-call.calls c.take.new.self so_far.0 (row ∷ []) so_far.1 (asks_one called c.loop-call.calls c.take.new.self row c.in-None.ensures.taken),
       so_far.2 (row ∷ []) c.end_of_lag-end.result (new (name c.take.new.sub)) c.loop-call.wire
-          (subst (λ (q : OpenSubState). Drains c.args.waits c.args.capacity c.loop-call._call (row ∷ []) q c.loop-call.wire c.end_of_lag-end.result (new (name c.take.new.sub)) c.loop-call.wire) c.queue.view_is
+          (subst (λ (q : OpenSubState). Drains c.args.extent c.args.capacity c.loop-call._call (row ∷ []) q c.loop-call.wire c.end_of_lag-end.result (new (name c.take.new.sub)) c.loop-call.wire) c.queue.view_is
           (room_of (length c.loop-call.wire) c.if-not-may_take.ensures, refl, inl (c.if-queue.true, c.end_of_lag-end.ensures, ap new c.in-None.ensures.same), refl)),
       no_item so_far.0 (row ∷ []) c.loop-call.any refl so_far.3,
     )
@@ -80,7 +80,7 @@ returns-in-None-3 g c =
       lagged = held.lagged;
       left = unwritten held.parts held.id held.rest;
     } in
-    let on = λ (rows : List BrokerRow). λ (q : OpenSubState). Drains c.args.waits c.args.capacity c.loop-call._call rows q c.loop-call.wire Emptied (new (name c.take.new.sub)) c.loop-call.wire in
+    let on = λ (rows : List BrokerRow). λ (q : OpenSubState). Drains c.args.extent c.args.capacity c.loop-call._call rows q c.loop-call.wire Emptied (new (name c.take.new.sub)) c.loop-call.wire in
     let new_is = ap new c.in-None.ensures.same in
     elim c.if-queue-eq0.branch [
       | then-queue-eq0+else-has_lagged w ↦ (
@@ -138,10 +138,10 @@ loop-call-preserved g c =
               so_far.0 ++ row ∷ [],
               asks_on called c.args.calls.now c.loop-call.calls c.match-take.calls so_far.0 (row ∷ []) so_far.1
                   (subst (λ x. AsksInOrder called c.loop-call.calls (row ∷ []) x) (sym w.calls-is) (asks_one called c.loop-call.calls c.take.new.self row w.in-Some.ensures.taken)),
-              (λ rows end new after d. drains_behind c.args.waits capacity so_far.0 (row ∷ []) rows c.args.queue.now c.args.wire.now end new after
+              (λ rows end new after d. drains_behind c.args.extent capacity so_far.0 (row ∷ []) rows c.args.queue.now c.args.wire.now end new after
                   (so_far.2 (row ∷ rows) end new after
-                  (subst (λ (q : OpenSubState). Drains c.args.waits capacity n (row ∷ rows) q wire end new after) c.queue.view_is
-                  (drains_item c.args.waits capacity n o next wire c.match-take.wire item (name held.sub) room refl next_is (whole.0.0, w.wire-is ∙ whole.0.1) rows end new after d)))),
+                  (subst (λ (q : OpenSubState). Drains c.args.extent capacity n (row ∷ rows) q wire end new after) c.queue.view_is
+                  (drains_item c.args.extent capacity n o next wire c.match-take.wire item (name held.sub) room refl next_is (whole.0.0, w.wire-is ∙ whole.0.1) rows end new after d)))),
               w.any-is ∙ some_item so_far.0 (row ∷ []) refl,
             );
           })
@@ -156,11 +156,11 @@ loop-call-preserved g c =
               so_far.0 ++ rows_asked,
               asks_on called c.args.calls.now c.loop-call.calls c.match-take.calls so_far.0 rows_asked so_far.1
                   (c.take.new.self, w.in-None.ensures.taken, asks_one called c.take.new.self c.match-take.calls (AsksLag (name c.take.new.sub) true) third),
-              (λ rows end new after d. drains_behind c.args.waits capacity so_far.0 rows_asked rows c.args.queue.now c.args.wire.now end new after
+              (λ rows end new after d. drains_behind c.args.extent capacity so_far.0 rows_asked rows c.args.queue.now c.args.wire.now end new after
                   (so_far.2 (Takes (name held.sub) None ∷ AsksLag (name c.take.new.sub) true ∷ rows) end new after
-                  (subst (λ (q : OpenSubState). Drains c.args.waits capacity n (Takes (name held.sub) None ∷ AsksLag (name c.take.new.sub) true ∷ rows) q wire end new after) c.queue.view_is
-                  (drains_lag c.args.waits capacity n o next wire (name held.sub) (name c.take.new.sub) room refl w.in-None.ensures.same w.if-queue.false w.if-queue-eq0.true next_is rows end new after
-                  (subst (λ (v : List ℕ). Drains c.args.waits capacity (n + 1) rows next v end new after) w.wire-is d))))),
+                  (subst (λ (q : OpenSubState). Drains c.args.extent capacity n (Takes (name held.sub) None ∷ AsksLag (name c.take.new.sub) true ∷ rows) q wire end new after) c.queue.view_is
+                  (drains_lag c.args.extent capacity n o next wire (name held.sub) (name c.take.new.sub) room refl w.in-None.ensures.same w.if-queue.false w.if-queue-eq0.true next_is rows end new after
+                  (subst (λ (v : List ℕ). Drains c.args.extent capacity (n + 1) rows next v end new after) w.wire-is d))))),
               w.any-is ∙ no_item so_far.0 rows_asked c.loop-call.any refl so_far.3,
             );
           })

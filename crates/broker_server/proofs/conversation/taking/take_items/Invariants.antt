@@ -11,7 +11,7 @@ invariant-loop-call g l =
     record {
       taken : (asked : List BrokerRow) × AsksInOrder g.C.BrokerCalls.called l.fn.calls asked l.calls
           × ((rows : List BrokerRow) (end : Taking) (new : OpenSubState) (after : List ℕ)
-          → Drains l.fn.waits l.capacity l._call rows l.queue l.wire end new after
-          → Drains l.fn.waits l.capacity 0 (asked ++ rows) l.fn.queue l.fn.wire end new after)
+          → Drains l.fn.extent l.capacity l._call rows l.queue l.wire end new after
+          → Drains l.fn.extent l.capacity 0 (asked ++ rows) l.fn.queue l.fn.wire end new after)
           × (l.any ≡ has_item asked);
     }
