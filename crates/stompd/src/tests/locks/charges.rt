@@ -10,7 +10,6 @@ use sender_gate::Gate;
 use std::alloc::Global;
 use std::sync::ledger::Blank;
 use std::sync::{Arc, Wait};
-use std::test::Fail;
 
 /// A call, of a broker of two topics and two subscriptions at topic 0, whose queues hold two items.
 #[derive(Clone, Copy)]
@@ -204,13 +203,14 @@ impl<'a, R: Wait> Job<R> for Rows<'a> {
 }
 
 /// Whether each of these calls is done, and behind it just this is charged.
-fn charges<R: Wait>(
-    rt: &R,
-    alloc: Global,
-    rows: &[(Call<'_>, [u64; 2])],
-) -> Result<bool, NoMemory> {
-    let opening = Opening::new(alloc, &[0, 0], 2, false)?;
-    Ok(with_broker(rt, alloc, opening, Rows { rows })? == Some(None))
+fn charges<R: Wait>(rt: &R, alloc: Global, rows: &[(Call<'_>, [u64; 2])]) -> bool {
+    match Opening::new(alloc, &[0, 0], 2, false) {
+        Ok(opening) => matches!(
+            with_broker(rt, alloc, opening, Rows { rows }),
+            Ok(Some(None))
+        ),
+        Err(NoMemory) => false,
+    }
 }
 
 /// Two senders, of whose transactions each is charged until both subscriptions have it, or end; where nobody subscribes it
@@ -228,9 +228,8 @@ const TAKEN: &[(Call<'static>, [u64; 2])] = &[
 ];
 
 #[test]
-fn one_is_charged_until_the_last_takes(rt: HostRuntime) -> Result<(), Fail> {
-    assert!(rt; charges(&rt, rt.alloc(), TAKEN)?);
-    Ok(())
+fn one_is_charged_until_the_last_takes(rt: HostRuntime) {
+    assert!(rt; charges(&rt, rt.alloc(), TAKEN));
 }
 
 /// A transaction to two topics is charged once, until both have let go of it; one that is refused isn't charged behind the
@@ -245,9 +244,8 @@ const BOTH: &[(Call<'static>, [u64; 2])] = &[
 ];
 
 #[test]
-fn one_is_charged_until_both_topics_let_go(rt: HostRuntime) -> Result<(), Fail> {
-    assert!(rt; charges(&rt, rt.alloc(), BOTH)?);
-    Ok(())
+fn one_is_charged_until_both_topics_let_go(rt: HostRuntime) {
+    assert!(rt; charges(&rt, rt.alloc(), BOTH));
 }
 
 /// One that lags keeps what its queue accepted, which is charged until it takes that or ends; what it didn't accept isn't
@@ -266,9 +264,8 @@ const LAGGED: &[(Call<'static>, [u64; 2])] = &[
 ];
 
 #[test]
-fn one_that_lags_keeps_what_it_accepted(rt: HostRuntime) -> Result<(), Fail> {
-    assert!(rt; charges(&rt, rt.alloc(), LAGGED)?);
-    Ok(())
+fn one_that_lags_keeps_what_it_accepted(rt: HostRuntime) {
+    assert!(rt; charges(&rt, rt.alloc(), LAGGED));
 }
 
 /// What each of two tells that isn't committed, and how much all then have.
@@ -292,11 +289,25 @@ fn is_sum(meters: &[Arc<Meter>], row: (u64, u64, u64)) -> bool {
     }
 }
 
-#[test]
-fn all_have_what_each_tells(rt: HostRuntime) -> Result<(), Fail> {
-    let meters = two_meters(rt.alloc())?;
+/// Whether that is so of each row, one after the other.
+fn are_sums(meters: &[Arc<Meter>]) -> bool {
     for &row in OPEN {
-        assert!(rt; is_sum(meters.as_slice(), row));
+        if !is_sum(meters, row) {
+            return false;
+        }
     }
-    Ok(())
+    true
+}
+
+/// Whether it is of two new meters.
+fn are_sums_of_two(alloc: Global) -> bool {
+    match two_meters(alloc) {
+        Ok(meters) => are_sums(meters.as_slice()),
+        Err(NoMemory) => false,
+    }
+}
+
+#[test]
+fn all_have_what_each_tells(rt: HostRuntime) {
+    assert!(rt; are_sums_of_two(rt.alloc()));
 }

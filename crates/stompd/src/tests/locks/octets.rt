@@ -10,13 +10,28 @@ use sender_gate::Gate;
 use std::alloc::Global;
 use std::sync::Wait;
 use std::sync::ledger::Blank;
-use std::test::Fail;
 
-/// How many octets a kibioctet has.
-const KIBI: u64 = 1_024;
+/// How many octets 16 KiB, 272 KiB, an octet more, and 512 KiB have.
+const KIBI_16: u64 = 16_384;
 
-/// How many a mebioctet has.
+const KIBI_272: u64 = 278_528;
+
+const OVER_272: u64 = 278_529;
+
+const KIBI_512: u64 = 524_288;
+
+/// How many 1 MiB, 5, 6, 8, 9 and 20 MiB have.
 const MEBI: u64 = 1_048_576;
+
+const MEBI_5: u64 = 5_242_880;
+
+const MEBI_6: u64 = 6_291_456;
+
+const MEBI_8: u64 = 8_388_608;
+
+const MEBI_9: u64 = 9_437_184;
+
+const MEBI_20: u64 = 20_971_520;
 
 /// A call, of a topic that has one subscription, which is waited for at first.
 #[derive(Clone, Copy)]
@@ -270,98 +285,104 @@ impl<'a, R: Wait> Job<R> for Rows<'a> {
 }
 
 /// Whether these calls at a broker whose queues have 64 places answer what is wanted.
-fn answers<R: Wait>(rt: &R, alloc: Global, rows: &[(Call, Answer)]) -> Result<bool, NoMemory> {
-    let opening = Opening::new(alloc, &[0], 64, false)?;
-    let found = with_broker(rt, alloc, opening, Rows { rows })?;
-    Ok(found.is_none())
+fn answers<R: Wait>(rt: &R, alloc: Global, rows: &[(Call, Answer)]) -> bool {
+    match Opening::new(alloc, &[0], 64, false) {
+        Ok(opening) => matches!(with_broker(rt, alloc, opening, Rows { rows }), Ok(None)),
+        Err(NoMemory) => false,
+    }
 }
 
 /// Parts that a sixty-fourth of 17 MiB is enough for are counted alone: 64 of them.
+const SMALL_PARTS_ARE_COUNTED_ALONE: &[(Call, Answer)] = &[
+    (Call::Enter(KIBI_16, 65), Answer::Full(64)),
+    (Call::Turn, Answer::Done),
+    (Call::Enter(0, 1), Answer::Lacked(0)),
+    (Call::Take(64), Answer::Is(true)),
+    (Call::Enter(KIBI_272, 65), Answer::Full(64)),
+    (Call::Turn, Answer::Done),
+    (Call::Take(64), Answer::Is(true)),
+    (Call::Enter(OVER_272, 65), Answer::Full(63)),
+];
+
 #[test]
-fn small_parts_are_counted_alone(rt: HostRuntime) -> Result<(), Fail> {
-    let rows = [
-        (Call::Enter(16 * KIBI, 65), Answer::Full(64)),
-        (Call::Turn, Answer::Done),
-        (Call::Enter(0, 1), Answer::Lacked(0)),
-        (Call::Take(64), Answer::Is(true)),
-        (Call::Enter(272 * KIBI, 65), Answer::Full(64)),
-        (Call::Turn, Answer::Done),
-        (Call::Take(64), Answer::Is(true)),
-        (Call::Enter(272 * KIBI + 1, 65), Answer::Full(63)),
-    ];
-    assert!(rt; answers(&rt, rt.alloc(), &rows)?);
-    Ok(())
+fn small_parts_are_counted_alone(rt: HostRuntime) {
+    assert!(rt; answers(&rt, rt.alloc(), SMALL_PARTS_ARE_COUNTED_ALONE));
 }
 
 /// Of 1 MiB, 17 come, whether they are reserved, pending or untaken; then one for each that is told to be taken. Smaller
 /// ones come behind them.
+const SEVENTEEN_OF_ONE_MEBIOCTET_COME: &[(Call, Answer)] = &[
+    (Call::Reserve(MEBI, 3), Answer::Done),
+    (Call::Enter(MEBI, 18), Answer::Full(14)),
+    (Call::Lacks(MEBI), Answer::Is(false)),
+    (Call::GiveBack, Answer::Done),
+    (Call::Enter(MEBI, 4), Answer::Full(3)),
+    (Call::Turn, Answer::Done),
+    (Call::Enter(MEBI, 1), Answer::Lacked(0)),
+    (Call::Lacks(MEBI), Answer::Is(true)),
+    (Call::Lacks(KIBI_512), Answer::Is(false)),
+    (Call::Take(1), Answer::Is(true)),
+    (Call::Enter(MEBI, 2), Answer::Lacked(1)),
+    (Call::Enter(KIBI_512, 18), Answer::Lacked(17)),
+    (Call::Enter(KIBI_16, 31), Answer::Lacked(30)),
+];
+
 #[test]
-fn seventeen_of_one_mebioctet_come(rt: HostRuntime) -> Result<(), Fail> {
-    let rows = [
-        (Call::Reserve(MEBI, 3), Answer::Done),
-        (Call::Enter(MEBI, 18), Answer::Full(14)),
-        (Call::Lacks(MEBI), Answer::Is(false)),
-        (Call::GiveBack, Answer::Done),
-        (Call::Enter(MEBI, 4), Answer::Full(3)),
-        (Call::Turn, Answer::Done),
-        (Call::Enter(MEBI, 1), Answer::Lacked(0)),
-        (Call::Lacks(MEBI), Answer::Is(true)),
-        (Call::Lacks(512 * KIBI), Answer::Is(false)),
-        (Call::Take(1), Answer::Is(true)),
-        (Call::Enter(MEBI, 2), Answer::Lacked(1)),
-        (Call::Enter(512 * KIBI, 18), Answer::Lacked(17)),
-        (Call::Enter(16 * KIBI, 31), Answer::Lacked(30)),
-    ];
-    assert!(rt; answers(&rt, rt.alloc(), &rows)?);
-    Ok(())
+fn seventeen_of_one_mebioctet_come(rt: HostRuntime) {
+    assert!(rt; answers(&rt, rt.alloc(), SEVENTEEN_OF_ONE_MEBIOCTET_COME));
 }
 
 /// One of more than half of 17 MiB comes only where nothing is reserved, pending or untaken; behind it smaller ones do.
+const A_LARGE_PART_COMES_FIRST: &[(Call, Answer)] = &[
+    (Call::Reserve(1, 1), Answer::Done),
+    (Call::Enter(MEBI_20, 1), Answer::Full(0)),
+    (Call::GiveBack, Answer::Done),
+    (Call::Enter(MEBI_20, 2), Answer::Full(1)),
+    (Call::Enter(MEBI_9, 1), Answer::Full(0)),
+    (Call::Enter(MEBI_8, 2), Answer::Full(1)),
+    (Call::Turn, Answer::Done),
+    (Call::Enter(MEBI_20, 1), Answer::Lacked(0)),
+    (Call::Take(1), Answer::Is(true)),
+    (Call::Enter(MEBI_20, 1), Answer::Lacked(0)),
+    (Call::Take(1), Answer::Is(true)),
+    (Call::Enter(u64::MAX, 2), Answer::Full(1)),
+    (Call::Turn, Answer::Done),
+    (Call::Take(1), Answer::Is(true)),
+    (Call::Enter(KIBI_16, 1), Answer::Done),
+    (Call::Enter(MEBI_20, 1), Answer::Full(0)),
+];
+
 #[test]
-fn a_large_part_comes_first(rt: HostRuntime) -> Result<(), Fail> {
-    let large = 20 * MEBI;
-    let rows = [
-        (Call::Reserve(1, 1), Answer::Done),
-        (Call::Enter(large, 1), Answer::Full(0)),
-        (Call::GiveBack, Answer::Done),
-        (Call::Enter(large, 2), Answer::Full(1)),
-        (Call::Enter(9 * MEBI, 1), Answer::Full(0)),
-        (Call::Enter(8 * MEBI, 2), Answer::Full(1)),
-        (Call::Turn, Answer::Done),
-        (Call::Enter(large, 1), Answer::Lacked(0)),
-        (Call::Take(1), Answer::Is(true)),
-        (Call::Enter(large, 1), Answer::Lacked(0)),
-        (Call::Take(1), Answer::Is(true)),
-        (Call::Enter(u64::MAX, 2), Answer::Full(1)),
-        (Call::Turn, Answer::Done),
-        (Call::Take(1), Answer::Is(true)),
-        (Call::Enter(16 * KIBI, 1), Answer::Done),
-        (Call::Enter(large, 1), Answer::Full(0)),
-    ];
-    assert!(rt; answers(&rt, rt.alloc(), &rows)?);
-    Ok(())
+fn a_large_part_comes_first(rt: HostRuntime) {
+    assert!(rt; answers(&rt, rt.alloc(), A_LARGE_PART_COMES_FIRST));
 }
 
 /// Who lacks room for a large part is passed over for that alone, and waited for again once its queue is known to be
 /// empty, whatever is due.
+const WHO_LACKS_ROOM_FOR_A_LARGE_PART_IS_PASSED_OVER: &[(Call, Answer)] = &[
+    (Call::Enter(MEBI, 2), Answer::Done),
+    (Call::Turn, Answer::Done),
+    (Call::Lacks(MEBI_6), Answer::Is(true)),
+    (Call::PassOver(MEBI_5), Answer::Is(false)),
+    (Call::PassOver(MEBI_6), Answer::Is(true)),
+    (Call::Lacks(MEBI_6), Answer::Is(false)),
+    (Call::Enter(MEBI_20, 1), Answer::Done),
+    (Call::Take(1), Answer::Is(true)),
+    (Call::WaitFor, Answer::Is(false)),
+    (Call::Take(1), Answer::Is(true)),
+    (Call::WaitFor, Answer::Is(true)),
+    (Call::Turn, Answer::Done),
+    (Call::PassOver(MEBI_9), Answer::Is(true)),
+    (Call::WaitFor, Answer::Is(false)),
+];
+
 #[test]
-fn who_lacks_room_for_a_large_part_is_passed_over(rt: HostRuntime) -> Result<(), Fail> {
-    let rows = [
-        (Call::Enter(MEBI, 2), Answer::Done),
-        (Call::Turn, Answer::Done),
-        (Call::Lacks(6 * MEBI), Answer::Is(true)),
-        (Call::PassOver(5 * MEBI), Answer::Is(false)),
-        (Call::PassOver(6 * MEBI), Answer::Is(true)),
-        (Call::Lacks(6 * MEBI), Answer::Is(false)),
-        (Call::Enter(20 * MEBI, 1), Answer::Done),
-        (Call::Take(1), Answer::Is(true)),
-        (Call::WaitFor, Answer::Is(false)),
-        (Call::Take(1), Answer::Is(true)),
-        (Call::WaitFor, Answer::Is(true)),
-        (Call::Turn, Answer::Done),
-        (Call::PassOver(9 * MEBI), Answer::Is(true)),
-        (Call::WaitFor, Answer::Is(false)),
-    ];
-    assert!(rt; answers(&rt, rt.alloc(), &rows)?);
-    Ok(())
+fn who_lacks_room_for_a_large_part_is_passed_over(rt: HostRuntime) {
+    assert!(rt;
+        answers(
+            &rt,
+            rt.alloc(),
+            WHO_LACKS_ROOM_FOR_A_LARGE_PART_IS_PASSED_OVER
+        )
+    );
 }

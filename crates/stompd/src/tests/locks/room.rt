@@ -63,11 +63,12 @@ enum Answer {
     Done,
     /// Whether it is so.
     Is(bool),
-    Refused(NoRoom),
+    /// There is no room at this topic, or, where one is named, this subscription there lacks it.
+    Full(u32, Option<u64>),
     /// The first numbers of a list.
     Numbers([Option<u64>; 3]),
     /// How many topics there are, and the first three.
-    Topics(usize, [Option<Topic>; 3]),
+    Topics(usize, [Option<u32>; 3]),
     Turned(u64, bool),
     State(Option<SubState>),
     /// It was refused as it must not be.
@@ -85,6 +86,14 @@ struct Done {
 /// What a call answers that was made, or was refused.
 fn done_if(is: bool) -> Answer {
     if is { Answer::Done } else { Answer::Failed }
+}
+
+/// What a call answers that was refused room.
+fn refused(fault: NoRoom) -> Answer {
+    match fault {
+        NoRoom::Full { topic, sub } => Answer::Full(topic.0, sub),
+        NoRoom::NoMemory => Answer::Failed,
+    }
 }
 
 /// Gives back what a hand had.
@@ -132,7 +141,7 @@ fn reserve<R: Wait, W: Side, T: Side>(
         }
         Err(fault) => {
             broker.release_room(rt, reserved);
-            Answer::Refused(fault)
+            refused(fault)
         }
     }
 }
@@ -153,7 +162,7 @@ fn reserve_from<R: Wait, W: Side, T: Side>(
     given_back(rt, broker, mem::replace(hand, Some(reserved)));
     match answer {
         Ok(()) => Answer::Done,
-        Err(fault) => Answer::Refused(fault),
+        Err(fault) => refused(fault),
     }
 }
 
@@ -173,6 +182,14 @@ fn kept<R: Wait, W: Side, T: Side>(
     }
 }
 
+/// The number of the topic of this index.
+fn number_at(topics: &[Topic], index: usize) -> Option<u32> {
+    match topics.get(index) {
+        Some(topic) => Some(topic.0),
+        None => None,
+    }
+}
+
 /// The topics of a hand.
 fn topics_in(hand: &Option<Reserved>) -> Answer {
     match hand {
@@ -181,9 +198,9 @@ fn topics_in(hand: &Option<Reserved>) -> Answer {
             Answer::Topics(
                 topics.len(),
                 [
-                    topics.first().copied(),
-                    topics.get(1).copied(),
-                    topics.get(2).copied(),
+                    number_at(topics, 0),
+                    number_at(topics, 1),
+                    number_at(topics, 2),
                 ],
             )
         }
@@ -427,365 +444,332 @@ fn first_other_at<R: Wait>(
     with_broker(rt, alloc, opening, Rows { rows })
 }
 
-/// No room at topic 0, for this subscription.
-fn full(sub: Option<u64>) -> Answer {
-    full_at(0, sub)
+/// Whether the calls answer so, at a broker whose queues have so many places.
+fn answers<R: Wait>(rt: &R, alloc: Global, capacity: usize, rows: &[(Call<'_>, Answer)]) -> bool
+    requires { (1 ≤ capacity) × (capacity ≤ 4096) }
+{
+    matches!(first_other_at(rt, alloc, capacity, rows), Ok(None))
 }
 
-/// No room at this topic, for this subscription.
-fn full_at(number: u32, sub: Option<u64>) -> Answer {
-    Answer::Refused(NoRoom::Full {
-        topic: Topic(number),
-        sub,
-    })
-}
-
-/// These two numbers.
-fn two(first: u64, second: u64) -> Answer {
-    Answer::Numbers([Some(first), Some(second), None])
-}
+/// The last item of one that lags.
+const LAG: Stamp = Stamp {
+    n: 2,
+    topic: Topic(0),
+};
 
 /// No number.
 const NOBODY: Answer = Answer::Numbers([None, None, None]);
 
 /// Where nobody is waited for, as much is reserved as a queue has places: what is pending counts.
+const NO_MORE_IS_RESERVED_THAN_A_QUEUE_TAKES: &[(Call<'static>, Answer)] = &[
+    (Call::Reserve(&[0]), Answer::Done),
+    (Call::Enter(&[0]), Answer::Done),
+    (Call::Reserve(&[0, 1]), Answer::Done),
+    (Call::ReserveMore(&[0]), Answer::Full(0, None)),
+    (Call::ReserveMore(&[1, 0]), Answer::Full(0, None)),
+    (Call::ReserveMore(&[1]), Answer::Done),
+    (Call::GiveBack, Answer::Done),
+    (Call::ReserveMore(&[0]), Answer::Done),
+    (Call::Reserve(&[0]), Answer::Full(0, None)),
+    (Call::Turn, Answer::Turned(1, false)),
+    (Call::Reserve(&[0]), Answer::Done),
+    (Call::Enter(&[0]), Answer::Done),
+    (Call::Reserve(&[0]), Answer::Full(0, None)),
+];
+
 #[test]
-fn no_more_is_reserved_than_a_queue_takes(rt: HostRuntime) -> Result<(), Fail> {
-    let rows = [
-        (Call::Reserve(&[0]), Answer::Done),
-        (Call::Enter(&[0]), Answer::Done),
-        (Call::Reserve(&[0, 1]), Answer::Done),
-        (Call::ReserveMore(&[0]), full(None)),
-        (Call::ReserveMore(&[1, 0]), full(None)),
-        (Call::ReserveMore(&[1]), Answer::Done),
-        (Call::GiveBack, Answer::Done),
-        (Call::ReserveMore(&[0]), Answer::Done),
-        (Call::Reserve(&[0]), full(None)),
-        (Call::Turn, Answer::Turned(1, false)),
-        (Call::Reserve(&[0]), Answer::Done),
-        (Call::Enter(&[0]), Answer::Done),
-        (Call::Reserve(&[0]), full(None)),
-    ];
-    let found = first_other_at(&rt, rt.alloc(), 2, &rows)?;
-    assert!(rt; found.is_none());
-    Ok(())
+fn no_more_is_reserved_than_a_queue_takes(rt: HostRuntime) {
+    assert!(rt; answers(&rt, rt.alloc(), 2, NO_MORE_IS_RESERVED_THAN_A_QUEUE_TAKES));
 }
 
 /// A topic that refuses takes no room, and what was taken at others is given back: topic 1 has room for two then.
+const A_REFUSED_RESERVATION_TAKES_NOTHING: &[(Call<'static>, Answer)] = &[
+    (Call::Reserve(&[0, 0]), Answer::Done),
+    (Call::ReserveMore(&[1, 1, 0]), Answer::Full(0, None)),
+    (Call::ReserveMore(&[1, 1]), Answer::Done),
+    (Call::GiveMoreBack, Answer::Done),
+    (Call::GiveBack, Answer::Done),
+    (Call::Reserve(&[0, 1, 1_024, 0]), Answer::Done),
+    (Call::ReserveMore(&[0]), Answer::Full(0, None)),
+];
+
 #[test]
-fn a_refused_reservation_takes_nothing(rt: HostRuntime) -> Result<(), Fail> {
-    let rows = [
-        (Call::Reserve(&[0, 0]), Answer::Done),
-        (Call::ReserveMore(&[1, 1, 0]), full(None)),
-        (Call::ReserveMore(&[1, 1]), Answer::Done),
-        (Call::GiveMoreBack, Answer::Done),
-        (Call::GiveBack, Answer::Done),
-        (Call::Reserve(&[0, 1, 1_024, 0]), Answer::Done),
-        (Call::ReserveMore(&[0]), full(None)),
-    ];
-    let found = first_other_at(&rt, rt.alloc(), 2, &rows)?;
-    assert!(rt; found.is_none());
-    Ok(())
+fn a_refused_reservation_takes_nothing(rt: HostRuntime) {
+    assert!(rt; answers(&rt, rt.alloc(), 2, A_REFUSED_RESERVATION_TAKES_NOTHING));
 }
 
 /// What is left of a reservation is given back: at topic 1, where no part was entered, and, where the commit is refused,
 /// at both.
+const WHAT_A_COMMIT_LEAVES_IS_GIVEN_BACK: &[(Call<'static>, Answer)] = &[
+    (Call::Reserve(&[0, 1, 0]), Answer::Done),
+    (Call::Enter(&[0]), Answer::Done),
+    (Call::Reserve(&[1, 1]), Answer::Done),
+    (Call::ReserveMore(&[0]), Answer::Done),
+    (Call::GiveBack, Answer::Done),
+    (Call::GiveMoreBack, Answer::Done),
+    (Call::Reserve(&[0, 1]), Answer::Done),
+    (Call::Enter(&[0, 1_024]), Answer::Failed),
+    (Call::Reserve(&[0, 1, 1]), Answer::Done),
+    (Call::ReserveMore(&[0]), Answer::Full(0, None)),
+];
+
 #[test]
-fn what_a_commit_leaves_is_given_back(rt: HostRuntime) -> Result<(), Fail> {
-    let rows = [
-        (Call::Reserve(&[0, 1, 0]), Answer::Done),
-        (Call::Enter(&[0]), Answer::Done),
-        (Call::Reserve(&[1, 1]), Answer::Done),
-        (Call::ReserveMore(&[0]), Answer::Done),
-        (Call::GiveBack, Answer::Done),
-        (Call::GiveMoreBack, Answer::Done),
-        (Call::Reserve(&[0, 1]), Answer::Done),
-        (Call::Enter(&[0, 1_024]), Answer::Failed),
-        (Call::Reserve(&[0, 1, 1]), Answer::Done),
-        (Call::ReserveMore(&[0]), full(None)),
-    ];
-    let found = first_other_at(&rt, rt.alloc(), 2, &rows)?;
-    assert!(rt; found.is_none());
-    Ok(())
+fn what_a_commit_leaves_is_given_back(rt: HostRuntime) {
+    assert!(rt; answers(&rt, rt.alloc(), 2, WHAT_A_COMMIT_LEAVES_IS_GIVEN_BACK));
 }
 
 /// Who is waited for lacks room while its items aren't told to be taken, and has room once they are.
-#[test]
-fn a_sender_waits_for_whoever_is_waited_for(rt: HostRuntime) -> Result<(), Fail> {
-    let rows = [
-        (Call::SubscribeWaitedFor, Answer::Is(true)),
-        (Call::Reserve(&[0]), Answer::Done),
-        (Call::Enter(&[0]), Answer::Done),
-        (Call::Turn, Answer::Turned(1, false)),
-        (Call::Reserve(&[0]), Answer::Done),
-        (Call::Lacking, two_numbers_none(0)),
-        (Call::ReserveMore(&[0]), full(Some(0))),
-        (Call::Take(0), Answer::Is(true)),
-        (Call::ReserveMore(&[0]), full(Some(0))),
-        (Call::Tell(0), Answer::Done),
-        (Call::Lacking, NOBODY),
-        (Call::ReserveMore(&[0]), Answer::Done),
-        (Call::Lacking, NOBODY),
-        (Call::Reserve(&[0]), full(None)),
-        (Call::Enter(&[0]), Answer::Done),
-        (Call::Turn, Answer::Turned(1, false)),
-        (Call::State(0), Answer::State(Some(SubState::Open))),
-    ];
-    let found = first_other_at(&rt, rt.alloc(), 2, &rows)?;
-    assert!(rt; found.is_none());
-    Ok(())
-}
+const A_SENDER_WAITS_FOR_WHOEVER_IS_WAITED_FOR: &[(Call<'static>, Answer)] = &[
+    (Call::SubscribeWaitedFor, Answer::Is(true)),
+    (Call::Reserve(&[0]), Answer::Done),
+    (Call::Enter(&[0]), Answer::Done),
+    (Call::Turn, Answer::Turned(1, false)),
+    (Call::Reserve(&[0]), Answer::Done),
+    (Call::Lacking, Answer::Numbers([Some(0), None, None])),
+    (Call::ReserveMore(&[0]), Answer::Full(0, Some(0))),
+    (Call::Take(0), Answer::Is(true)),
+    (Call::ReserveMore(&[0]), Answer::Full(0, Some(0))),
+    (Call::Tell(0), Answer::Done),
+    (Call::Lacking, NOBODY),
+    (Call::ReserveMore(&[0]), Answer::Done),
+    (Call::Lacking, NOBODY),
+    (Call::Reserve(&[0]), Answer::Full(0, None)),
+    (Call::Enter(&[0]), Answer::Done),
+    (Call::Turn, Answer::Turned(1, false)),
+    (Call::State(0), Answer::State(Some(SubState::Open))),
+];
 
-/// This number alone.
-fn two_numbers_none(first: u64) -> Answer {
-    Answer::Numbers([Some(first), None, None])
+#[test]
+fn a_sender_waits_for_whoever_is_waited_for(rt: HostRuntime) {
+    assert!(rt; answers(&rt, rt.alloc(), 2, A_SENDER_WAITS_FOR_WHOEVER_IS_WAITED_FOR));
 }
 
 /// Of three, the first two lack room; the third took. One that is passed over, or ended, lacks it no longer.
+const WHO_LACKS_ROOM_IS_NAMED: &[(Call<'static>, Answer)] = &[
+    (Call::SubscribeWaitedFor, Answer::Is(true)),
+    (Call::Subscribe, Answer::Done),
+    (Call::SubscribeWaitedFor, Answer::Is(true)),
+    (Call::SubscribeWaitedFor, Answer::Is(true)),
+    (Call::Reserve(&[0, 0]), Answer::Done),
+    (Call::Lacking, NOBODY),
+    (Call::Enter(&[0]), Answer::Done),
+    (Call::Reserve(&[0]), Answer::Done),
+    (Call::Enter(&[0]), Answer::Done),
+    (Call::Turn, Answer::Turned(2, false)),
+    (Call::Take(3), Answer::Is(true)),
+    (Call::Tell(3), Answer::Done),
+    (Call::Lacking, Answer::Numbers([Some(0), Some(2_048), None])),
+    (Call::Reserve(&[0]), Answer::Full(0, Some(0))),
+    (Call::PassOver(3), Answer::Is(false)),
+    (Call::PassOver(1), Answer::Is(false)),
+    (Call::PassOver(0), Answer::Is(true)),
+    (Call::PassOver(0), Answer::Is(false)),
+    (Call::Reserve(&[0]), Answer::Full(0, Some(2_048))),
+    (Call::Lacking, Answer::Numbers([Some(2_048), None, None])),
+    (Call::Unsubscribe(2), Answer::Done),
+    (Call::Lacking, NOBODY),
+    (Call::Reserve(&[0]), Answer::Done),
+    (Call::ReserveMore(&[0]), Answer::Full(0, Some(3_072))),
+];
+
 #[test]
-fn who_lacks_room_is_named(rt: HostRuntime) -> Result<(), Fail> {
-    let rows = [
-        (Call::SubscribeWaitedFor, Answer::Is(true)),
-        (Call::Subscribe, Answer::Done),
-        (Call::SubscribeWaitedFor, Answer::Is(true)),
-        (Call::SubscribeWaitedFor, Answer::Is(true)),
-        (Call::Reserve(&[0, 0]), Answer::Done),
-        (Call::Lacking, NOBODY),
-        (Call::Enter(&[0]), Answer::Done),
-        (Call::Reserve(&[0]), Answer::Done),
-        (Call::Enter(&[0]), Answer::Done),
-        (Call::Turn, Answer::Turned(2, false)),
-        (Call::Take(3), Answer::Is(true)),
-        (Call::Tell(3), Answer::Done),
-        (Call::Lacking, two(0, 2_048)),
-        (Call::Reserve(&[0]), full(Some(0))),
-        (Call::PassOver(3), Answer::Is(false)),
-        (Call::PassOver(1), Answer::Is(false)),
-        (Call::PassOver(0), Answer::Is(true)),
-        (Call::PassOver(0), Answer::Is(false)),
-        (Call::Reserve(&[0]), full(Some(2_048))),
-        (Call::Lacking, two_numbers_none(2_048)),
-        (Call::Unsubscribe(2), Answer::Done),
-        (Call::Lacking, NOBODY),
-        (Call::Reserve(&[0]), Answer::Done),
-        (Call::ReserveMore(&[0]), full(Some(3_072))),
-    ];
-    let found = first_other_at(&rt, rt.alloc(), 2, &rows)?;
-    assert!(rt; found.is_none());
-    Ok(())
+fn who_lacks_room_is_named(rt: HostRuntime) {
+    assert!(rt; answers(&rt, rt.alloc(), 2, WHO_LACKS_ROOM_IS_NAMED));
 }
 
 /// One that is passed over lags as the next row is released, and isn't waited for any more, though it took all.
+const WHO_IS_PASSED_OVER_LAGS: &[(Call<'static>, Answer)] = &[
+    (Call::SubscribeWaitedFor, Answer::Is(true)),
+    (Call::Reserve(&[0, 0]), Answer::Done),
+    (Call::Enter(&[0]), Answer::Done),
+    (Call::Reserve(&[0]), Answer::Done),
+    (Call::Enter(&[0]), Answer::Done),
+    (Call::Turn, Answer::Turned(2, false)),
+    (Call::Reserve(&[0]), Answer::Full(0, Some(0))),
+    (Call::PassOver(0), Answer::Is(true)),
+    (Call::WaitFor(0), Answer::Is(false)),
+    (Call::PassOver(0), Answer::Is(false)),
+    (Call::Reserve(&[0]), Answer::Done),
+    (Call::WaitFor(0), Answer::Is(false)),
+    (Call::Enter(&[0]), Answer::Done),
+    (Call::Turn, Answer::Turned(1, true)),
+    (Call::State(0), Answer::State(Some(SubState::Lag(LAG)))),
+    (Call::Take(0), Answer::Is(true)),
+    (Call::Take(0), Answer::Is(true)),
+    (Call::Tell(0), Answer::Done),
+    (Call::WaitFor(0), Answer::Is(false)),
+    (Call::Lacking, NOBODY),
+];
+
 #[test]
-fn who_is_passed_over_lags(rt: HostRuntime) -> Result<(), Fail> {
-    let lag = Stamp {
-        n: 2,
-        topic: Topic(0),
-    };
-    let rows = [
-        (Call::SubscribeWaitedFor, Answer::Is(true)),
-        (Call::Reserve(&[0, 0]), Answer::Done),
-        (Call::Enter(&[0]), Answer::Done),
-        (Call::Reserve(&[0]), Answer::Done),
-        (Call::Enter(&[0]), Answer::Done),
-        (Call::Turn, Answer::Turned(2, false)),
-        (Call::Reserve(&[0]), full(Some(0))),
-        (Call::PassOver(0), Answer::Is(true)),
-        (Call::WaitFor(0), Answer::Is(false)),
-        (Call::PassOver(0), Answer::Is(false)),
-        (Call::Reserve(&[0]), Answer::Done),
-        (Call::WaitFor(0), Answer::Is(false)),
-        (Call::Enter(&[0]), Answer::Done),
-        (Call::Turn, Answer::Turned(1, true)),
-        (Call::State(0), Answer::State(Some(SubState::Lag(lag)))),
-        (Call::Take(0), Answer::Is(true)),
-        (Call::Take(0), Answer::Is(true)),
-        (Call::Tell(0), Answer::Done),
-        (Call::WaitFor(0), Answer::Is(false)),
-        (Call::Lacking, NOBODY),
-    ];
-    let found = first_other_at(&rt, rt.alloc(), 2, &rows)?;
-    assert!(rt; found.is_none());
-    Ok(())
+fn who_is_passed_over_lags(rt: HostRuntime) {
+    assert!(rt; answers(&rt, rt.alloc(), 2, WHO_IS_PASSED_OVER_LAGS));
 }
 
 /// One that was passed over and didn't lag is waited for again once its queue is known to be empty.
+const WHO_WAS_PASSED_OVER_IS_WAITED_FOR_AGAIN: &[(Call<'static>, Answer)] = &[
+    (Call::SubscribeWaitedFor, Answer::Is(true)),
+    (Call::Reserve(&[0, 0]), Answer::Done),
+    (Call::Enter(&[0]), Answer::Done),
+    (Call::Reserve(&[0]), Answer::Done),
+    (Call::Enter(&[0]), Answer::Done),
+    (Call::Turn, Answer::Turned(2, false)),
+    (Call::PassOver(0), Answer::Is(true)),
+    (Call::Reserve(&[0]), Answer::Done),
+    (Call::WaitFor(0), Answer::Is(false)),
+    (Call::Take(0), Answer::Is(true)),
+    (Call::WaitFor(0), Answer::Is(false)),
+    (Call::Tell(0), Answer::Done),
+    (Call::WaitFor(0), Answer::Is(false)),
+    (Call::Take(0), Answer::Is(true)),
+    (Call::WaitFor(0), Answer::Is(false)),
+    (Call::Tell(0), Answer::Done),
+    (Call::WaitFor(0), Answer::Is(true)),
+    (Call::ReserveMore(&[0]), Answer::Done),
+    (Call::GiveMoreBack, Answer::Done),
+    (Call::Enter(&[0]), Answer::Done),
+    (Call::Turn, Answer::Turned(1, false)),
+    (Call::State(0), Answer::State(Some(SubState::Open))),
+    (Call::WaitFor(1), Answer::Is(true)),
+];
+
 #[test]
-fn who_was_passed_over_is_waited_for_again(rt: HostRuntime) -> Result<(), Fail> {
-    let rows = [
-        (Call::SubscribeWaitedFor, Answer::Is(true)),
-        (Call::Reserve(&[0, 0]), Answer::Done),
-        (Call::Enter(&[0]), Answer::Done),
-        (Call::Reserve(&[0]), Answer::Done),
-        (Call::Enter(&[0]), Answer::Done),
-        (Call::Turn, Answer::Turned(2, false)),
-        (Call::PassOver(0), Answer::Is(true)),
-        (Call::Reserve(&[0]), Answer::Done),
-        (Call::WaitFor(0), Answer::Is(false)),
-        (Call::Take(0), Answer::Is(true)),
-        (Call::WaitFor(0), Answer::Is(false)),
-        (Call::Tell(0), Answer::Done),
-        (Call::WaitFor(0), Answer::Is(false)),
-        (Call::Take(0), Answer::Is(true)),
-        (Call::WaitFor(0), Answer::Is(false)),
-        (Call::Tell(0), Answer::Done),
-        (Call::WaitFor(0), Answer::Is(true)),
-        (Call::ReserveMore(&[0]), Answer::Done),
-        (Call::GiveMoreBack, Answer::Done),
-        (Call::Enter(&[0]), Answer::Done),
-        (Call::Turn, Answer::Turned(1, false)),
-        (Call::State(0), Answer::State(Some(SubState::Open))),
-        (Call::WaitFor(1), Answer::Is(true)),
-    ];
-    let found = first_other_at(&rt, rt.alloc(), 2, &rows)?;
-    assert!(rt; found.is_none());
-    Ok(())
+fn who_was_passed_over_is_waited_for_again(rt: HostRuntime) {
+    assert!(rt; answers(&rt, rt.alloc(), 2, WHO_WAS_PASSED_OVER_IS_WAITED_FOR_AGAIN));
 }
 
 /// A part that is entered without a reservation passes over whom it leaves without room for all that are pending and
 /// reserved, and nobody else.
+const AN_UNRESERVED_COMMIT_PASSES_OVER: &[(Call<'static>, Answer)] = &[
+    (Call::SubscribeWaitedFor, Answer::Is(true)),
+    (Call::Commit(&[0]), Answer::Done),
+    (Call::Turn, Answer::Turned(1, false)),
+    (Call::SubscribeWaitedFor, Answer::Is(true)),
+    (Call::Reserve(&[0]), Answer::Done),
+    (Call::Lacking, Answer::Numbers([Some(0), None, None])),
+    (Call::Commit(&[0]), Answer::Done),
+    (Call::Lacking, NOBODY),
+    (Call::Enter(&[0]), Answer::Done),
+    (Call::Turn, Answer::Turned(2, true)),
+    (Call::State(1), Answer::State(Some(SubState::Open))),
+    (Call::Lacking, Answer::Numbers([Some(1_024), None, None])),
+    (Call::PassOver(0), Answer::Is(false)),
+];
+
 #[test]
-fn an_unreserved_commit_passes_over(rt: HostRuntime) -> Result<(), Fail> {
-    let rows = [
-        (Call::SubscribeWaitedFor, Answer::Is(true)),
-        (Call::Commit(&[0]), Answer::Done),
-        (Call::Turn, Answer::Turned(1, false)),
-        (Call::SubscribeWaitedFor, Answer::Is(true)),
-        (Call::Reserve(&[0]), Answer::Done),
-        (Call::Lacking, two_numbers_none(0)),
-        (Call::Commit(&[0]), Answer::Done),
-        (Call::Lacking, NOBODY),
-        (Call::Enter(&[0]), Answer::Done),
-        (Call::Turn, Answer::Turned(2, true)),
-        (Call::State(1), Answer::State(Some(SubState::Open))),
-        (Call::Lacking, two_numbers_none(1_024)),
-        (Call::PassOver(0), Answer::Is(false)),
-    ];
-    let found = first_other_at(&rt, rt.alloc(), 2, &rows)?;
-    assert!(rt; found.is_none());
-    Ok(())
+fn an_unreserved_commit_passes_over(rt: HostRuntime) {
+    assert!(rt; answers(&rt, rt.alloc(), 2, AN_UNRESERVED_COMMIT_PASSES_OVER));
 }
 
 /// Where more is pending than its queue takes, a subscription begins without being waited for.
+const A_SUBSCRIPTION_BEGINS_WITHOUT_ROOM: &[(Call<'static>, Answer)] = &[
+    (Call::Commit(&[0]), Answer::Done),
+    (Call::Commit(&[0]), Answer::Done),
+    (Call::SubscribeWaitedFor, Answer::Is(true)),
+    (Call::Commit(&[0]), Answer::Done),
+    (Call::SubscribeWaitedFor, Answer::Is(false)),
+    (Call::Lacking, NOBODY),
+    (Call::PassOver(0), Answer::Is(false)),
+];
+
 #[test]
-fn a_subscription_begins_without_room(rt: HostRuntime) -> Result<(), Fail> {
-    let rows = [
-        (Call::Commit(&[0]), Answer::Done),
-        (Call::Commit(&[0]), Answer::Done),
-        (Call::SubscribeWaitedFor, Answer::Is(true)),
-        (Call::Commit(&[0]), Answer::Done),
-        (Call::SubscribeWaitedFor, Answer::Is(false)),
-        (Call::Lacking, NOBODY),
-        (Call::PassOver(0), Answer::Is(false)),
-    ];
-    let found = first_other_at(&rt, rt.alloc(), 2, &rows)?;
-    assert!(rt; found.is_none());
-    Ok(())
+fn a_subscription_begins_without_room(rt: HostRuntime) {
+    assert!(rt; answers(&rt, rt.alloc(), 2, A_SUBSCRIPTION_BEGINS_WITHOUT_ROOM));
 }
 
 /// Those that lack room are asked from a number on, and then below it; one that has room isn't named.
+const WHO_IS_WAITED_FOR_IS_ASKED_FROM_A_NUMBER_ON: &[(Call<'static>, Answer)] = &[
+    (Call::SubscribeWaitedFor, Answer::Is(true)),
+    (Call::SubscribeWaitedFor, Answer::Is(true)),
+    (Call::SubscribeWaitedFor, Answer::Is(true)),
+    (Call::Reserve(&[0]), Answer::Done),
+    (Call::Enter(&[0]), Answer::Done),
+    (Call::Reserve(&[0]), Answer::Done),
+    (Call::Enter(&[0]), Answer::Done),
+    (Call::Turn, Answer::Turned(2, false)),
+    (Call::ReserveFrom(0, 0), Answer::Full(0, Some(0))),
+    (Call::ReserveFrom(0, 1), Answer::Full(0, Some(1_024))),
+    (Call::ReserveFrom(0, 1_024), Answer::Full(0, Some(1_024))),
+    (Call::ReserveFrom(0, 1_025), Answer::Full(0, Some(2_048))),
+    (Call::ReserveFrom(0, 2_049), Answer::Full(0, Some(0))),
+    (Call::Take(1), Answer::Is(true)),
+    (Call::Tell(1), Answer::Done),
+    (Call::ReserveFrom(0, 1_024), Answer::Full(0, Some(2_048))),
+    (Call::Take(2), Answer::Is(true)),
+    (Call::Tell(2), Answer::Done),
+    (Call::ReserveFrom(0, 1_024), Answer::Full(0, Some(0))),
+    (Call::Take(0), Answer::Is(true)),
+    (Call::Tell(0), Answer::Done),
+    (Call::ReserveFrom(0, 1_024), Answer::Done),
+    (Call::ReserveFrom(0, 1_024), Answer::Full(0, Some(1_024))),
+    (Call::Topics, Answer::Topics(1, [Some(0), None, None])),
+];
+
 #[test]
-fn who_is_waited_for_is_asked_from_a_number_on(rt: HostRuntime) -> Result<(), Fail> {
-    let rows = [
-        (Call::SubscribeWaitedFor, Answer::Is(true)),
-        (Call::SubscribeWaitedFor, Answer::Is(true)),
-        (Call::SubscribeWaitedFor, Answer::Is(true)),
-        (Call::Reserve(&[0]), Answer::Done),
-        (Call::Enter(&[0]), Answer::Done),
-        (Call::Reserve(&[0]), Answer::Done),
-        (Call::Enter(&[0]), Answer::Done),
-        (Call::Turn, Answer::Turned(2, false)),
-        (Call::ReserveFrom(0, 0), full(Some(0))),
-        (Call::ReserveFrom(0, 1), full(Some(1_024))),
-        (Call::ReserveFrom(0, 1_024), full(Some(1_024))),
-        (Call::ReserveFrom(0, 1_025), full(Some(2_048))),
-        (Call::ReserveFrom(0, 2_049), full(Some(0))),
-        (Call::Take(1), Answer::Is(true)),
-        (Call::Tell(1), Answer::Done),
-        (Call::ReserveFrom(0, 1_024), full(Some(2_048))),
-        (Call::Take(2), Answer::Is(true)),
-        (Call::Tell(2), Answer::Done),
-        (Call::ReserveFrom(0, 1_024), full(Some(0))),
-        (Call::Take(0), Answer::Is(true)),
-        (Call::Tell(0), Answer::Done),
-        (Call::ReserveFrom(0, 1_024), Answer::Done),
-        (Call::ReserveFrom(0, 1_024), full(Some(1_024))),
-        (Call::Topics, topics(&[0])),
-    ];
-    let found = first_other_at(&rt, rt.alloc(), 2, &rows)?;
-    assert!(rt; found.is_none());
-    Ok(())
-}
-
-/// These are the topics of the left hand.
-fn topics(numbers: &[u32]) -> Answer {
-    Answer::Topics(
-        numbers.len(),
-        [
-            topic_at(numbers, 0),
-            topic_at(numbers, 1),
-            topic_at(numbers, 2),
-        ],
-    )
-}
-
-/// The topic of this index.
-fn topic_at(numbers: &[u32], index: usize) -> Option<Topic> {
-    let &number = numbers.get(index)?;
-    Some(Topic(number))
+fn who_is_waited_for_is_asked_from_a_number_on(rt: HostRuntime) {
+    assert!(rt;
+        answers(
+            &rt,
+            rt.alloc(),
+            2,
+            WHO_IS_WAITED_FOR_IS_ASKED_FROM_A_NUMBER_ON
+        )
+    );
 }
 
 /// What is behind the topics that are kept is given back, and nothing else: of three at topic 0 and one at topic 1 two are
 /// kept, so at capacity 4 topic 0 has room for two more, and topic 1 for four. A refusal leaves what was there.
+const WHAT_IS_KEPT_STAYS_RESERVED: &[(Call<'static>, Answer)] = &[
+    (Call::ReserveFrom(0, 0), Answer::Done),
+    (Call::ReserveFrom(0, 0), Answer::Done),
+    (Call::ReserveFrom(1, 0), Answer::Done),
+    (Call::ReserveFrom(0, 0), Answer::Done),
+    (Call::Keep(4), Answer::Done),
+    (Call::Topics, Answer::Topics(4, [Some(0), Some(0), Some(1)])),
+    (Call::Keep(2), Answer::Done),
+    (Call::Topics, Answer::Topics(2, [Some(0), Some(0), None])),
+    (Call::ReserveMore(&[0, 0, 1, 1, 1, 1]), Answer::Done),
+    (Call::ReserveFrom(0, 0), Answer::Full(0, None)),
+    (Call::Topics, Answer::Topics(2, [Some(0), Some(0), None])),
+    (Call::GiveMoreBack, Answer::Done),
+    (Call::ReserveFrom(1, 0), Answer::Done),
+    (Call::Enter(&[0, 1]), Answer::Done),
+    (Call::Reserve(&[0, 0, 0]), Answer::Done),
+    (Call::ReserveMore(&[0]), Answer::Full(0, None)),
+    (Call::ReserveMore(&[1, 1, 1]), Answer::Done),
+    (Call::ReserveFrom(1, 0), Answer::Full(1, None)),
+    (Call::Keep(0), Answer::Done),
+    (Call::Topics, Answer::Topics(0, [None, None, None])),
+    (Call::Reserve(&[0, 0, 0]), Answer::Done),
+];
+
 #[test]
-fn what_is_kept_stays_reserved(rt: HostRuntime) -> Result<(), Fail> {
-    let rows = [
-        (Call::ReserveFrom(0, 0), Answer::Done),
-        (Call::ReserveFrom(0, 0), Answer::Done),
-        (Call::ReserveFrom(1, 0), Answer::Done),
-        (Call::ReserveFrom(0, 0), Answer::Done),
-        (Call::Keep(4), Answer::Done),
-        (
-            Call::Topics,
-            Answer::Topics(4, [Some(Topic(0)), Some(Topic(0)), Some(Topic(1))]),
-        ),
-        (Call::Keep(2), Answer::Done),
-        (Call::Topics, topics(&[0, 0])),
-        (Call::ReserveMore(&[0, 0, 1, 1, 1, 1]), Answer::Done),
-        (Call::ReserveFrom(0, 0), full(None)),
-        (Call::Topics, topics(&[0, 0])),
-        (Call::GiveMoreBack, Answer::Done),
-        (Call::ReserveFrom(1, 0), Answer::Done),
-        (Call::Enter(&[0, 1]), Answer::Done),
-        (Call::Reserve(&[0, 0, 0]), Answer::Done),
-        (Call::ReserveMore(&[0]), full(None)),
-        (Call::ReserveMore(&[1, 1, 1]), Answer::Done),
-        (Call::ReserveFrom(1, 0), full_at(1, None)),
-        (Call::Keep(0), Answer::Done),
-        (Call::Topics, topics(&[])),
-        (Call::Reserve(&[0, 0, 0]), Answer::Done),
-    ];
-    let found = first_other_at(&rt, rt.alloc(), 4, &rows)?;
-    assert!(rt; found.is_none());
-    Ok(())
+fn what_is_kept_stays_reserved(rt: HostRuntime) {
+    assert!(rt; answers(&rt, rt.alloc(), 4, WHAT_IS_KEPT_STAYS_RESERVED));
 }
 
 /// What is used up isn't the first where topics were reserved out of order; what is left is given back.
+const WHAT_IS_USED_UP_IS_FOUND_AMONG_THE_TOPICS: &[(Call<'static>, Answer)] = &[
+    (Call::Reserve(&[5, 3, 1, 0, 0]), Answer::Done),
+    (Call::Enter(&[0, 3]), Answer::Done),
+    (Call::Reserve(&[0, 1, 1, 3, 5, 5]), Answer::Done),
+    (Call::ReserveMore(&[0]), Answer::Full(0, None)),
+    (Call::GiveBack, Answer::Done),
+    (Call::Reserve(&[0, 1, 3, 5]), Answer::Done),
+    (Call::Enter(&[0, 1, 3]), Answer::Done),
+    (Call::Reserve(&[1, 5, 5]), Answer::Done),
+];
+
 #[test]
-fn what_is_used_up_is_found_among_the_topics(rt: HostRuntime) -> Result<(), Fail> {
-    let rows = [
-        (Call::Reserve(&[5, 3, 1, 0, 0]), Answer::Done),
-        (Call::Enter(&[0, 3]), Answer::Done),
-        (Call::Reserve(&[0, 1, 1, 3, 5, 5]), Answer::Done),
-        (Call::ReserveMore(&[0]), full(None)),
-        (Call::GiveBack, Answer::Done),
-        (Call::Reserve(&[0, 1, 3, 5]), Answer::Done),
-        (Call::Enter(&[0, 1, 3]), Answer::Done),
-        (Call::Reserve(&[1, 5, 5]), Answer::Done),
-    ];
-    let found = first_other_at(&rt, rt.alloc(), 2, &rows)?;
-    assert!(rt; found.is_none());
-    Ok(())
+fn what_is_used_up_is_found_among_the_topics(rt: HostRuntime) {
+    assert!(rt;
+        answers(
+            &rt,
+            rt.alloc(),
+            2,
+            WHAT_IS_USED_UP_IS_FOUND_AMONG_THE_TOPICS
+        )
+    );
 }
 
 /// Transactions to topic 0, each with a reservation; where there is none, the topic is turned, and the subscription that
