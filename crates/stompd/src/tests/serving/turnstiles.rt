@@ -139,3 +139,31 @@ impl Peers for Crossing {
 fn two_that_cross_get_through(rt: HostRuntime) {
     assert!(rt; serves(&quiet(rt), rt.alloc(), &Crossing, 0));
 }
+
+/// How many come one after another. If each kept the place of the next, that one would wait for five seconds, and later ones
+/// be closed, who have ten for their CONNECT.
+const ROUNDS: u64 = 8;
+
+/// Each subscribes to A, and is gone.
+#[derive(Drop)]
+struct OneByOne;
+
+impl Peers for OneByOne {
+    fn count(&self) -> u64 {
+        ROUNDS
+    }
+
+    fn meet(&self, alloc: Global, lines: &mut Lines) -> bool {
+        for _ in 0..ROUNDS {
+            if Client::subscribed(alloc, lines).is_none() {
+                return false;
+            }
+        }
+        true
+    }
+}
+
+#[test]
+fn each_leaves_its_place_to_the_next(rt: HostRuntime) {
+    assert!(rt; serves(&quiet(rt), rt.alloc(), &OneByOne, 0));
+}
