@@ -66,9 +66,9 @@ enum Answer {
     /// There is no room at this topic, or, where one is named, this subscription there lacks it.
     Full(u32, Option<u64>),
     /// The first numbers of a list.
-    Numbers([Option<u64>; 3]),
+    Numbers(Option<u64>, Option<u64>, Option<u64>),
     /// How many topics there are, and the first three.
-    Topics(usize, [Option<u32>; 3]),
+    Topics(usize, Option<u32>, Option<u32>, Option<u32>),
     Turned(u64, bool),
     State(Option<SubState>),
     /// It was refused as it must not be.
@@ -197,11 +197,9 @@ fn topics_in(hand: &Option<Reserved>) -> Answer {
             let topics = reserved.topics();
             Answer::Topics(
                 topics.len(),
-                [
-                    number_at(topics, 0),
-                    number_at(topics, 1),
-                    number_at(topics, 2),
-                ],
+                number_at(topics, 0),
+                number_at(topics, 1),
+                number_at(topics, 2),
             )
         }
         None => Answer::Failed,
@@ -283,11 +281,11 @@ fn turned<R: Wait, W: Side, T: Side>(rt: &R, broker: &Broker<R, W, T>) -> Answer
 fn lacking<R: Wait, W: Side, T: Side>(rt: &R, alloc: Global, broker: &Broker<R, W, T>) -> Answer {
     let mut list = Vec::new(alloc);
     match broker.lacking(rt, Topic(0), SMALL, &mut list) {
-        Ok(()) => Answer::Numbers([
+        Ok(()) => Answer::Numbers(
             list.first().copied(),
             list.get(1).copied(),
             list.get(2).copied(),
-        ]),
+        ),
         Err(NoMemory) => Answer::Failed,
     }
 }
@@ -458,7 +456,7 @@ const LAG: Stamp = Stamp {
 };
 
 /// No number.
-const NOBODY: Answer = Answer::Numbers([None, None, None]);
+const NOBODY: Answer = Answer::Numbers(None, None, None);
 
 /// Where nobody is waited for, as much is reserved as a queue has places: what is pending counts.
 const NO_MORE_IS_RESERVED_THAN_A_QUEUE_TAKES: &[(Call<'static>, Answer)] = &[
@@ -525,7 +523,7 @@ const A_SENDER_WAITS_FOR_WHOEVER_IS_WAITED_FOR: &[(Call<'static>, Answer)] = &[
     (Call::Enter(&[0]), Answer::Done),
     (Call::Turn, Answer::Turned(1, false)),
     (Call::Reserve(&[0]), Answer::Done),
-    (Call::Lacking, Answer::Numbers([Some(0), None, None])),
+    (Call::Lacking, Answer::Numbers(Some(0), None, None)),
     (Call::ReserveMore(&[0]), Answer::Full(0, Some(0))),
     (Call::Take(0), Answer::Is(true)),
     (Call::ReserveMore(&[0]), Answer::Full(0, Some(0))),
@@ -558,14 +556,14 @@ const WHO_LACKS_ROOM_IS_NAMED: &[(Call<'static>, Answer)] = &[
     (Call::Turn, Answer::Turned(2, false)),
     (Call::Take(3), Answer::Is(true)),
     (Call::Tell(3), Answer::Done),
-    (Call::Lacking, Answer::Numbers([Some(0), Some(2_048), None])),
+    (Call::Lacking, Answer::Numbers(Some(0), Some(2_048), None)),
     (Call::Reserve(&[0]), Answer::Full(0, Some(0))),
     (Call::PassOver(3), Answer::Is(false)),
     (Call::PassOver(1), Answer::Is(false)),
     (Call::PassOver(0), Answer::Is(true)),
     (Call::PassOver(0), Answer::Is(false)),
     (Call::Reserve(&[0]), Answer::Full(0, Some(2_048))),
-    (Call::Lacking, Answer::Numbers([Some(2_048), None, None])),
+    (Call::Lacking, Answer::Numbers(Some(2_048), None, None)),
     (Call::Unsubscribe(2), Answer::Done),
     (Call::Lacking, NOBODY),
     (Call::Reserve(&[0]), Answer::Done),
@@ -646,13 +644,13 @@ const AN_UNRESERVED_COMMIT_PASSES_OVER: &[(Call<'static>, Answer)] = &[
     (Call::Turn, Answer::Turned(1, false)),
     (Call::SubscribeWaitedFor, Answer::Is(true)),
     (Call::Reserve(&[0]), Answer::Done),
-    (Call::Lacking, Answer::Numbers([Some(0), None, None])),
+    (Call::Lacking, Answer::Numbers(Some(0), None, None)),
     (Call::Commit(&[0]), Answer::Done),
     (Call::Lacking, NOBODY),
     (Call::Enter(&[0]), Answer::Done),
     (Call::Turn, Answer::Turned(2, true)),
     (Call::State(1), Answer::State(Some(SubState::Open))),
-    (Call::Lacking, Answer::Numbers([Some(1_024), None, None])),
+    (Call::Lacking, Answer::Numbers(Some(1_024), None, None)),
     (Call::PassOver(0), Answer::Is(false)),
 ];
 
@@ -702,7 +700,7 @@ const WHO_IS_WAITED_FOR_IS_ASKED_FROM_A_NUMBER_ON: &[(Call<'static>, Answer)] = 
     (Call::Tell(0), Answer::Done),
     (Call::ReserveFrom(0, 1_024), Answer::Done),
     (Call::ReserveFrom(0, 1_024), Answer::Full(0, Some(1_024))),
-    (Call::Topics, Answer::Topics(1, [Some(0), None, None])),
+    (Call::Topics, Answer::Topics(1, Some(0), None, None)),
 ];
 
 #[test]
@@ -725,12 +723,12 @@ const WHAT_IS_KEPT_STAYS_RESERVED: &[(Call<'static>, Answer)] = &[
     (Call::ReserveFrom(1, 0), Answer::Done),
     (Call::ReserveFrom(0, 0), Answer::Done),
     (Call::Keep(4), Answer::Done),
-    (Call::Topics, Answer::Topics(4, [Some(0), Some(0), Some(1)])),
+    (Call::Topics, Answer::Topics(4, Some(0), Some(0), Some(1))),
     (Call::Keep(2), Answer::Done),
-    (Call::Topics, Answer::Topics(2, [Some(0), Some(0), None])),
+    (Call::Topics, Answer::Topics(2, Some(0), Some(0), None)),
     (Call::ReserveMore(&[0, 0, 1, 1, 1, 1]), Answer::Done),
     (Call::ReserveFrom(0, 0), Answer::Full(0, None)),
-    (Call::Topics, Answer::Topics(2, [Some(0), Some(0), None])),
+    (Call::Topics, Answer::Topics(2, Some(0), Some(0), None)),
     (Call::GiveMoreBack, Answer::Done),
     (Call::ReserveFrom(1, 0), Answer::Done),
     (Call::Enter(&[0, 1]), Answer::Done),
@@ -739,7 +737,7 @@ const WHAT_IS_KEPT_STAYS_RESERVED: &[(Call<'static>, Answer)] = &[
     (Call::ReserveMore(&[1, 1, 1]), Answer::Done),
     (Call::ReserveFrom(1, 0), Answer::Full(1, None)),
     (Call::Keep(0), Answer::Done),
-    (Call::Topics, Answer::Topics(0, [None, None, None])),
+    (Call::Topics, Answer::Topics(0, None, None, None)),
     (Call::Reserve(&[0, 0, 0]), Answer::Done),
 ];
 
