@@ -1,6 +1,6 @@
 //! What one connection asks of the broker.
 
-ghost use Rattle.std.specs.Prelude.{if◌then◌else◌, ◌≡◌, ◌≤◌, ◌<◌, ◌⊎◌, ◌==◌, [], map, true, IfSome, None, Some};
+ghost use Rattle.std.specs.Prelude.{if◌then◌else◌, ◌≡◌, ◌≤◌, ◌<◌, ◌⊎◌, ◌==◌, ◌-◌, [], map, true, IfSome, None, Some};
 ghost use Rattle.mcast_txn.specs.Transaction.{topics_of};
 ghost use Rattle.broker_server.specs.BrokerRows.{AsksInOrder, Unsubscribes};
 ghost use Rattle.broker_server.specs.Lines.{IsRoomAt};
@@ -805,7 +805,10 @@ impl<'a, R: Wait + Log + Clock, W: Side, T: Side> BrokerCalls for Calls<'a, R, W
         }
     }
 
-    fn unsubscribe(&mut self, sub: SeatedSub) {
+    /// It has one subscription fewer then.
+    fn unsubscribe(&mut self, sub: SeatedSub)
+        ensures fewer { self.new.subs ≡ self.old.subs - 1 }
+    {
         if sub.end() {
             self.end_at(sub.topic, from_ref(&sub));
         }

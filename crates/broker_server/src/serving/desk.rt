@@ -276,7 +276,11 @@ impl<'a, R: Wait + Log + Clock, W: Side, T: Side> Desk<'a, R, W, T> {
     }
 
     /// Whether the system has taken nothing of what waits for a minute. By a clock that can't be read it has.
-    fn is_untaken(&mut self) -> bool {
+    fn is_untaken(&mut self) -> bool
+        ensures first { self.old.untaken ≡ None → result ≡ false }
+        ensures since { is_some self.old.untaken ≡ true → self.new ≡ self.old }
+        ensures same { self.new ≡ record self.old { untaken = self.new.untaken } }
+    {
         let now = Instant::now(self.calls.rt()).ok();
         match (self.untaken, now) {
             (Some(since), Some(now)) => now.duration_since(since) >= untaken_time(),

@@ -10,6 +10,7 @@ mod figures;
 mod ignored;
 mod large;
 mod lines;
+mod listening;
 mod log_lines;
 mod logged;
 mod made;
