@@ -112,7 +112,7 @@ inline bounded() {
 proctype Sender(byte s) {
   mtype:bell was = Awake;
   short before, have;
-  byte t, n;
+  byte t, to, n;
   bool found, refused;
   do
   :: n < SENDS && !refused ->
@@ -145,19 +145,20 @@ proctype Sender(byte s) {
 #ifdef M_OPEN_BEFORE_SENT
               tell_open(s, holds[s] - 1);                        /* before it is counted */
 #endif
+              to = t; t = 0;
               d_step { sent_of[s]++; holds[s]-- };               /* calls.rt charge, meter.rt add_sent */
               sent++;                                            /* holdings.rt add_sent */
 #ifndef M_OPEN_BEFORE_SENT
-              tell_open(s, holds[s]);
+              tell_open(s, holds[s]);                            /* calls.rt tell_held */
 #endif
+              note_short();
               atomic {
                 if
-                :: !ended[t] -> queue[t]++; ITEMS(t, s)++        /* it is released */
+                :: !ended[to] -> queue[to]++; ITEMS(to, s)++     /* it is released */
                 :: else -> sent_of[s]--; sent--                  /* nobody takes it: charge.rt drop */
                 fi
               };
-              t = 0;
-              note_short()
+              to = 0
            fi
         fi
      fi

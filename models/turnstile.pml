@@ -33,7 +33,11 @@ bool ended[COMERS];
 #define IS_REGULAR(c) ((c) < REGULARS)
 /* The two conditions of a topic's turnstile, for regulars and for others. */
 #define CONDITION(t, regular) (2 * (t) + 1 + (regular -> 0 : 1))
+#ifdef M_FORGETS_REGULARS
+#define IS_SHUT(t, regular) (taken[t])
+#else
 #define IS_SHUT(t, regular) (taken[t] || (!(regular) && regulars[t] > 0))
+#endif
 
 #define LOCK(t) atomic { !lock[t] -> lock[t] = true }
 #define UNLOCK(t) lock[t] = false
@@ -80,6 +84,7 @@ inline enter(t) {
     beside = IS_SHUT(t, IS_REGULAR(me));
 #endif
     over = false;
+    assert(beside || IS_REGULAR(me) || regulars[t] == 0);        /* regulars first */
     if :: !beside -> taken[t] = true :: else fi;
     if
 #ifdef M_STAYS_IN_FRONT

@@ -28,6 +28,7 @@ def subscribed_and_reset(trial):
         found = [[rate(trial, prefix, SECONDS, Comers(trial, waits, [it])) for it in (TOPICS[0], topic)] for _ in range(trial.part(RUNS))]
         elsewhere, here = (statistics.median(it) for it in zip(*found))
         worst = min(it for _, it in found)
+        trial.expect(here > 0, f"{what}: nothing of a stream came")
         trial.expect(here >= LEAST_RATE * elsewhere, f"{what}: a stream had {here:,.0f}/s, and {elsewhere:,.0f} beside others")
         said.append(f"a stream had {here:,.0f}/s ({worst:,.0f} at worst) beside those who reset {what}, {elsewhere:,.0f} beside others")
     return "; ".join(said)
