@@ -10,6 +10,8 @@ struct client {
     const struct wire *wire;
     int socket;
     bool may_write;
+    /* Whether it is among those that the load generator reads next. */
+    bool is_ready;
     struct octets in, out;
     /* The publisher that it is, -1 for none; the first of its streams. */
     int publisher, first_stream;

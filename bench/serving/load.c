@@ -18,12 +18,20 @@
 /* Events taken at once, and the longest wait, in milliseconds. */
 enum { EVENTS = 256, WAIT = 50 };
 
+/* A client is read so often at once, and then again once each other one that has something was: the server goes on writing while it is
+ * read, so one alone could keep the others waiting. */
+enum { READS_AT_ONCE = 4 };
+
 /* By the clock messages are due each millisecond; above this rate, ten times as often. */
 enum { HIGH_RATE = 10000, SOON = MILLISECOND / 10 };
 
 static struct plan plan;
 static struct client *clients;
 static int count_of_clients, poller, timer;
+
+/* Those that may have more to read. */
+static struct client **ready;
+static int count_of_ready;
 static int64_t begun;
 
 /* The client that is this reader. The publishers' come first; with `own` they are the same. */
@@ -48,6 +56,7 @@ static bool connect_all(void)
 {
     int count = plan.own ? plan.publishers : plan.publishers + plan.readers;
     clients = room_of((size_t)count, sizeof *clients);
+    ready = room_of((size_t)count, sizeof *ready);
     while (count_of_clients < count)
         if (!client_connect(&clients[count_of_clients++], &plan))
             return false;
@@ -167,17 +176,44 @@ static void attend(struct client *client, uint32_t events)
         client->may_write = true;
         client_write(client);
     }
-    while (events & ~(uint32_t)EPOLLOUT && client_read(client))
+    if (events & ~(uint32_t)EPOLLOUT && !client->is_ready) {
+        client->is_ready = true;
+        ready[count_of_ready++] = client;
+    }
+}
+
+/* Reads some of what came at a client; whether it may have more. */
+static bool read_some(struct client *client)
+{
+    for (int reads = 0; reads < READS_AT_ONCE; reads++) {
+        if (!client_read(client))
+            return false;
         hear_all(client, clock_now());
+    }
+    return true;
+}
+
+/* Reads some of what came at each. */
+static void read_ready(void)
+{
+    int kept = 0;
+    for (int at = 0; at < count_of_ready; at++) {
+        struct client *client = ready[at];
+        client->is_ready = read_some(client);
+        if (client->is_ready)
+            ready[kept++] = client;
+    }
+    count_of_ready = kept;
 }
 
 /* Waits for what comes; the time then. */
 static int64_t wait(void)
 {
     struct epoll_event events[EVENTS];
-    int count = epoll_wait(poller, events, EVENTS, WAIT);
+    int count = epoll_wait(poller, events, EVENTS, count_of_ready > 0 ? 0 : WAIT);
     for (int at = 0; at < count; at++)
         attend(events[at].data.ptr, events[at].events);
+    read_ready();
     return clock_now();
 }
 

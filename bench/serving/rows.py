@@ -16,6 +16,10 @@ SIZES = {16: "16 octets", 1024: "1 KiB", 20000: "20,000 octets"}
 OF_LARGEST = 80_000_000
 UNTIL_ALL_CAME = "warm=0 measured=150000"
 
+# How many SENDs of one that never waits are on their way to 1,000 subscribers: 16 times what a queue holds. What is in the sockets of more
+# than that comes only minutes later, and the floor would hold it a thousand times.
+OF_CEASELESS = 1024
+
 IDLE = 256
 
 # How many items the shape has room for at a subscription.
@@ -96,9 +100,10 @@ def bursts():
         yield burst("burst", "", 1, size, senders, subscribers)
     for size, senders, subscribers in itertools.product(SIZES, (1, 2, 8, 64), (1, 16)):
         yield burst("burst of transactions", transactions, 2, size, senders, subscribers)
-    ceaseless = "publishers=8 size=16 window=1048576 unpaced warm=0 measured=4000"
-    yield Row("burst for 4 seconds: 8 senders, 16 octets, 1 subscriber", ceaseless, 1, "burst")
-    yield Row("burst for 4 seconds: 8 senders, 16 octets, 1,000 subscribers", f"{ceaseless} readers=20 each=50", 1, "burst")
+    ceaseless = "publishers=8 size=16 unpaced warm=0 measured=4000"
+    yield Row("burst for 4 seconds: 8 senders, 16 octets, 1 subscriber", f"{ceaseless} window=1048576", 1, "burst")
+    many = f"{ceaseless} window={OF_CEASELESS} readers=20 each=50"
+    yield Row("burst for 4 seconds: 8 senders, 16 octets, 1,000 subscribers", many, 1, "burst", "waiting")
 
 
 def growths():
@@ -156,4 +161,9 @@ def names(row, prefix):
 
 
 # The row of each growth with which the others are compared.
-BASES = {"connections": "connections: 16", "topics": "topics: 1", "subscribers": "subscribers of one topic: 1"}
+BASES = {
+    "connections": "connections: 16",
+    "topics": "topics: 1",
+    "subscribers": "subscribers of one topic: 1",
+    "waiting": "subscribers of one topic: 1,000",
+}
