@@ -145,12 +145,20 @@ impl Wire {
 
     /// Lets go of what was written, where that is 65,536 octets or more, and as many as wait: so each octet is moved at
     /// most once for one that was written. Out of memory it stays.
+    #[inline(always)]
     fn tidy(&mut self)
         ensures { self.new ≡ self.old }
     {
-        if self.written < FULL || self.written < self.len() {
-            return;
+        if self.written >= FULL && self.written >= self.len() {
+            self.let_go();
         }
+    }
+
+    /// Lets go of what was written; out of memory it stays. It is seldom called, and so apart.
+    #[inline(never)]
+    fn let_go(&mut self)
+        ensures { self.new ≡ self.old }
+    {
         if let Ok(octets) = Octets::from_slice(self.alloc, self.pending()) {
             self.octets = octets;
             self.written = 0;

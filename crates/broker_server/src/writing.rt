@@ -65,7 +65,7 @@ pub(crate) fn write_message(
 
 /// The same of a subscription that asked for parts: the MESSAGE says which of the part's it is, from 1, and how many
 /// these are.
-#[inline(never)]
+#[inline(always)]
 fn write_part(id: &[u8], item: &Released, at: usize, out: &mut Octets) -> Result<(), NoMemory>
     requires { at < length item.now.sends }
     ensures ok { OnOk result (IfSome (slice_get (part_messages id.now item.now) at)
@@ -94,6 +94,7 @@ fn write_part(id: &[u8], item: &Released, at: usize, out: &mut Octets) -> Result
 }
 
 /// Appends the MESSAGE and its EOL; after `NoMemory` perhaps the frame alone.
+#[inline(never)]
 fn put_part_with_eol(message: &PartMessage, out: &mut Octets) -> Result<(), NoMemory>
     ensures ok { OnOk result (out.new ≡ out.old ++ spelling_with_eol (part_message_of message.now)) }
     ensures err { OnErr result (Extends out.old out.new) }

@@ -1,7 +1,10 @@
 -- What a step answers, over the list of the frames that were accepted.
-use Rattle.std.proofs.Common.{◌≡◌, ◌⊎◌, Bool, true, false, List, ℕ, [], ◌∷◌, ◌++◌, None, Some, refl, sym, ap, subst, ◌∙◌, inl, inr, if◌then◌else◌}
+use Rattle.std.proofs.Common.{◌≡◌, ◌⊎◌, Bool, true, false, List, ℕ, [], ◌∷◌, ◌++◌, None, Some, refl, sym, ap, subst, ◌∙◌, inl, inr, Result, Ok, Err, if◌then◌else◌}
 use Rattle.stomp_frame.specs.declared.command.Command.{Command}
 use Rattle.stomp_frame.specs.declared.command.Command.TheVariants as commands
+use Rattle.stomp_frame.specs.declared.client_frame.ClientFrame.{ClientFrame}
+use Rattle.stomp_frame.specs.declared.client_frame.ClientFrame.TheVariants as client_frames
+use Rattle.stomp_frame.specs.ClientFrames.{raw_of}
 use Rattle.stomp_frame.specs.declared.raw_frame.RawFrame.{RawFrame}
 use Rattle.stomp_frame.specs.Cases.{is_connect}
 use Rattle.stomp_frame.specs.Receipts.{receipt_of}
@@ -11,9 +14,9 @@ use Rattle.stomp_session.specs.declared.fault.SessionFault.TheVariants as faults
 use Rattle.stomp_session.specs.declared.judged.Judged.{Judged}
 use Rattle.stomp_session.specs.Open.{Held, SessionState, StandsFor, held_after, state_of}
 use Rattle.stomp_session.specs.Answers.{Accepts, Refuses, action_by, takes_memory}
-use Rattle.stomp_session.specs.Inner.Effects.{action_of, effect, held_with, refusal_by, AcceptsAs, JudgesAs, RefusesAs}
+use Rattle.stomp_session.specs.Inner.Effects.{action_of, effect, held_with, refusal_by, AcceptsAs, Handles, JudgesAs, RefusesAs}
 use Rattle.stomp_session.specs.Frames.{has_destination, with_destination}
-use Rattle.stomp_session.proofs.History.{Follows, connect-follows, stomp-follows}
+use Rattle.stomp_session.proofs.History.{Follows, connect-follows, stomp-follows, send-follows, subscribe-follows, unsubscribe-follows, begin-follows, commit-follows, abort-follows, disconnect-follows}
 use Rattle.stomp_session.proofs.Later.{known-push, state-push, with_destination-none}
 
 -- the step accepts the frame after these, and the session holds what is open after it, by the names as they are then
@@ -61,24 +64,45 @@ connect_or_stomp commands.Stomp e = inr refl
 connect_or_stomp _ e = cc
 
 -- and they leave the names
-connect-unnamed : (names : List (List ℕ)) (f : RawFrame) → is_connect f.command ≡ true → names ≡ with_destination f names
+pub connect-unnamed : (names : List (List ℕ)) (f : RawFrame) → is_connect f.command ≡ true → names ≡ with_destination f names
 connect-unnamed names f connects = elim (connect_or_stomp f.command connects) [
   | inl e ↦ unnamed commands.Connect names f e refl
   | inr e ↦ unnamed commands.Stomp names f e refl
 ]
 
--- a STOMP is a CONNECT
-pub accepts-connect : (s : SessionState) (names : List (List ℕ)) (f : RawFrame) (judged : Judged) (step : Step) (new : SessionState) → is_connect f.command ≡ true
-    → JudgesAs commands.Connect (held_with names s) f judged new
-    → step.action ≡ action_of judged f → step.receipt ≡ receipt_of f
-    → (frames : List RawFrame) → StandsFor s names frames → Answered names f step new names frames
-accepts-connect s names f judged step new connects judges action receipt frames stands = by (connect_or_stomp f.command connects)
+-- where it is judged as a CONNECT, it is judged as what it is
+pub handles-connect : (s : Held) (f : RawFrame) (result : Result Judged SessionFault) (new : SessionState) → is_connect f.command ≡ true
+    → Handles commands.Connect s f result new → Handles f.command s f result new
+handles-connect s f result new connects handles = by (connect_or_stomp f.command connects)
   where
-    by : (f.command ≡ commands.Connect) ⊎ (f.command ≡ commands.Stomp) → Answered names f step new names frames
-    by (inl e) = accepts-judged commands.Connect s names f judged step new names e judges (connect-unnamed names f connects) action receipt (λ frames. connect-follows names frames f) frames stands
-    by (inr e) =
-        let as_stomp : JudgesAs commands.Stomp (held_with names s) f judged new = record { accepted = judges.accepted; action = judges.action; id = judges.id; held = judges.held } in
-        accepts-judged commands.Stomp s names f judged step new names e as_stomp (connect-unnamed names f connects) action receipt (λ frames. stomp-follows names frames f) frames stands
+    as_stomp : (result : Result Judged SessionFault) → Handles commands.Connect s f result new → Handles commands.Stomp s f result new
+    as_stomp (Ok judged) judges = record { accepted = judges.accepted; action = judges.action; id = judges.id; held = judges.held }
+    as_stomp (Err faults.NoMemory) why = why
+    as_stomp (Err _) why = why
+
+    by : (f.command ≡ commands.Connect) ⊎ (f.command ≡ commands.Stomp) → Handles f.command s f result new
+    by (inl e) = subst (λ c. Handles c s f result new) (sym e) handles
+    by (inr e) = subst (λ c. Handles c s f result new) (sym e) (as_stomp result handles)
+
+-- what a client's frame changes is what it opens and closes in the list
+pub frame-follows : (frame : ClientFrame) (names : List (List ℕ)) (frames : List RawFrame) → Follows names frames (raw_of frame) (raw_of frame).command
+frame-follows frame names frames = by frame
+  where
+    with_command : (command : Command) (f : RawFrame) → f.command ≡ command → Follows names frames f command → Follows names frames f f.command
+    with_command command f e follows = subst (λ c. Follows names frames f c) (sym e) follows
+
+    by : (frame : ClientFrame) → Follows names frames (raw_of frame) (raw_of frame).command
+    by (client_frames.Connect frame) = elim (connect_or_stomp frame.raw.command frame.complete.command) [
+      | inl e ↦ with_command commands.Connect frame.raw e (connect-follows names frames frame.raw)
+      | inr e ↦ with_command commands.Stomp frame.raw e (stomp-follows names frames frame.raw)
+    ]
+    by (client_frames.Send frame) = with_command commands.Send frame.raw frame.complete.command (send-follows names frames frame.raw)
+    by (client_frames.Subscribe frame) = with_command commands.Subscribe frame.raw frame.complete.command (subscribe-follows names frames frame.raw)
+    by (client_frames.Unsubscribe frame) = with_command commands.Unsubscribe frame.raw frame.complete.command (unsubscribe-follows names frames frame.raw)
+    by (client_frames.Begin frame) = with_command commands.Begin frame.raw frame.complete.command (begin-follows names frames frame.raw)
+    by (client_frames.Commit frame) = with_command commands.Commit frame.raw frame.complete.command (commit-follows names frames frame.raw)
+    by (client_frames.Abort frame) = with_command commands.Abort frame.raw frame.complete.command (abort-follows names frames frame.raw)
+    by (client_frames.Disconnect frame) = with_command commands.Disconnect frame.raw frame.complete.command (disconnect-follows names frames frame.raw)
 
 -- a fault that a frame of this command is refused with: its first refusal, or there was no memory
 refused-by : (command : Command) (s : Held) (f : RawFrame) (fault : SessionFault) → RefusesAs command s f fault
@@ -97,12 +121,3 @@ pub refuses : (command : Command) (s : SessionState) (names : List (List ℕ)) (
 refuses command s names f fault e why frames stands =
     subst (λ c. (refusal_by c (held_after names frames) f ≡ Some fault) ⊎ ((refusal_by c (held_after names frames) f ≡ None) × (fault ≡ faults.NoMemory) × (takes_memory c (held_after names frames) f ≡ true))) (sym e)
     (refused-by command (held_after names frames) f fault (subst (λ h. RefusesAs command h f fault) (ap (held_with names) stands.holds) why))
-
--- a STOMP is refused as a CONNECT is
-pub refuses-connect : (s : SessionState) (names : List (List ℕ)) (f : RawFrame) (fault : SessionFault) → is_connect f.command ≡ true
-    → RefusesAs commands.Connect (held_with names s) f fault → (frames : List RawFrame) → StandsFor s names frames → Refuses (held_after names frames) f fault
-refuses-connect s names f fault connects why frames stands = elim (connect_or_stomp f.command connects) [
-  | inl e ↦ refuses commands.Connect s names f fault e why frames stands
-  | inr e ↦ subst (λ c. (refusal_by c (held_after names frames) f ≡ Some fault) ⊎ ((refusal_by c (held_after names frames) f ≡ None) × (fault ≡ faults.NoMemory) × (takes_memory c (held_after names frames) f ≡ true))) (sym e)
-      (refused-by commands.Connect (held_after names frames) f fault (subst (λ h. RefusesAs commands.Connect h f fault) (ap (held_with names) stands.holds) why))
-]

@@ -1,6 +1,6 @@
 //! A connection's session.
 
-ghost use Rattle.std.specs.Prelude.{◌≡◌, ◌∷◌, [], ◌++◌, ◌-◌, ◌^◌, codes, min, ℕ, List, Some, None, IfSome, IfOk, IfErr, OnOk, OnErr};
+ghost use Rattle.std.specs.Prelude.{◌≡◌, ◌∷◌, [], ◌++◌, ◌-◌, ◌^◌, codes, min, ℕ, List, false, Some, None, IfSome, IfOk, IfErr, OnOk, OnErr};
 ghost use Rattle.stomp_frame.specs.declared.command.Command.TheVariants as commands;
 ghost use Rattle.stomp_frame.specs.declared.raw_frame.RawFrame.{RawFrame as Frame};
 ghost use Rattle.stomp_frame.specs.ClientFrames.{raw_of};
@@ -14,7 +14,7 @@ ghost use Rattle.stomp_session.specs.Open.{after_close, asks_parts, held_after, 
 ghost use Rattle.mcast_txn.specs.Checks.{first_refusal};
 ghost use Rattle.stomp_session.specs.Refusals.{is_closed, is_new, has_other_ack};
 ghost use Rattle.stomp_session.specs.Answers.{Accepts, AreTexts, Refuses};
-ghost use Rattle.stomp_session.specs.Inner.Effects.{AcceptsAs, Handles, IsRouteOf, RefusesAs, held_with, refusal_by};
+ghost use Rattle.stomp_session.specs.Inner.Effects.{AcceptsAs, Handles, IsRouteOf, RefusesAs, held_with, is_send_frame, refusal_by};
 
 use crate::action::{Action, Step};
 use crate::destination::Destination;
@@ -372,6 +372,28 @@ impl Session {
         }
     }
 
+    /// Judges another frame than a SEND, and does what it asks of the session; the names are what they were where it is
+    /// refused.
+    #[inline(never)]
+    fn judge(&mut self, frame: &ClientFrame, names: &mut Names) -> Result<Judged, SessionFault>
+        requires { is_send_frame frame.now ≡ false }
+        ensures handles { Handles (raw_of frame.now).command (held_with names.old self.old)
+            (raw_of frame.now) result self.new }
+        ensures named { OnOk result (names.new ≡ with_destination (raw_of frame.now) names.old) }
+        ensures unnamed { OnErr result (names.new ≡ names.old) }
+    {
+        match frame {
+            ClientFrame::Send(_) => unreachable!(),
+            ClientFrame::Connect(frame) => self.connect(frame),
+            ClientFrame::Subscribe(frame) => self.subscribe(frame, names),
+            ClientFrame::Unsubscribe(frame) => self.unsubscribe(frame),
+            ClientFrame::Begin(frame) => self.begin(frame),
+            ClientFrame::Commit(frame) => self.commit(frame),
+            ClientFrame::Abort(frame) => self.abort(frame),
+            ClientFrame::Disconnect(frame) => self.disconnect(frame),
+        }
+    }
+
     /// A refusal closes the session.
     fn refused(
         &mut self,
@@ -413,31 +435,18 @@ impl Session {
         ensures stays_closed { self.old.phase ≡ phases.Closed
             → (result ≡ Err (frame, faults.Closed)) × (self.new ≡ self.old) }
     {
-        macro_rules! answers {
-            ($($case:ident => $method:ident($($lent:ident)?);)*) => {
-                match frame {
-                    ClientFrame::Send(frame) => match self.send(frame, names) {
-                        Ok(step) => Ok(step),
-                        Err((frame, fault)) => self.refused(ClientFrame::Send(frame), fault),
-                    },
-                    $(ClientFrame::$case(frame) => match self.$method(&frame $(, $lent)?) {
-                        Ok(judged) => Ok(judged.into_step(frame.raw)),
-                        Err(fault) => self.refused(ClientFrame::$case(frame), fault),
-                    },)*
-                }
-            };
-        }
         if let Phase::Closed = self.phase {
             return Err((frame, SessionFault::Closed));
         }
-        answers! {
-            Connect => connect();
-            Subscribe => subscribe(names);
-            Unsubscribe => unsubscribe();
-            Begin => begin();
-            Commit => commit();
-            Abort => abort();
-            Disconnect => disconnect();
+        match frame {
+            ClientFrame::Send(frame) => match self.send(frame, names) {
+                Ok(step) => Ok(step),
+                Err((frame, fault)) => self.refused(ClientFrame::Send(frame), fault),
+            },
+            other => match self.judge(&other, names) {
+                Ok(judged) => Ok(judged.into_step(other.into_raw())),
+                Err(fault) => self.refused(other, fault),
+            },
         }
     }
 }

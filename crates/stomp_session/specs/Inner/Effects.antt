@@ -1,10 +1,12 @@
 -- What an accepted frame changes in what a session holds. Proofs go by it; no public contract speaks of it.
-use Rattle.std.specs.Prelude.{◌≡◌, ◌<◌, ℕ, Bool, List, [], ◌∷◌, ◌++◌, codes, length, true, not, ◌&&◌, nat_lt, Option, Some, None, IsSome, IfSome, Result, Ok, Err, if◌then◌else◌}
+use Rattle.std.specs.Prelude.{◌≡◌, ◌<◌, ℕ, Bool, List, [], ◌∷◌, ◌++◌, codes, length, true, false, not, ◌&&◌, nat_lt, Option, Some, None, IsSome, IfSome, Result, Ok, Err, if◌then◌else◌}
 use Rattle.std.specs.List.{position_or_len}
 use Rattle.std.specs.Option.{option_map, option_map_or}
 use Rattle.std.specs.Str.{bytes_eq}
 use Rattle.stomp_frame.specs.declared.command.Command.{Command}
 use Rattle.stomp_frame.specs.declared.command.Command.TheVariants as commands
+use Rattle.stomp_frame.specs.declared.client_frame.ClientFrame.{ClientFrame}
+use Rattle.stomp_frame.specs.declared.client_frame.ClientFrame.TheVariants as client_frames
 use Rattle.stomp_frame.specs.declared.raw_frame.RawFrame.{RawFrame}
 use Rattle.stomp_frame.specs.Headers.{first_of}
 use Rattle.stomp_frame.specs.Receipts.{receipt_of}
@@ -136,6 +138,11 @@ pub record JudgesAs (command : Command) (s : Held) (f : RawFrame) (judged : Judg
 abbrev pub Handles : Command → Held → RawFrame → Result Judged SessionFault → SessionState → Type 0
 Handles command s f (Ok judged) new = JudgesAs command s f judged new
 Handles command s f (Err fault) new = RefusesAs command s f fault
+
+-- whether it is a SEND
+abbrev pub is_send_frame : ClientFrame → Bool
+is_send_frame (client_frames.Send frame) = true
+is_send_frame _ = false
 
 -- the index of the first of this id; their number where there is none
 abbrev pub index_of_id : {X : Type 0} → List ℕ → List (List ℕ × X) → ℕ

@@ -5,6 +5,7 @@ mod eols;
 mod fake;
 mod faults;
 mod halves;
+mod holding;
 mod ignored;
 mod items;
 mod owed;

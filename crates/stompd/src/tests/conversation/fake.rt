@@ -11,6 +11,7 @@ use mcast_txn::{Part, Released, Sender, Stamp, Ticket, Topic, Txn};
 use sender_gate::{ClaimFault, Flying, Gate};
 use std::alloc::Global;
 use std::sync::Arc;
+use std::sync::atomic::{AtomicU64, Ordering};
 use stomp_frame::ClientFrame;
 use stomp_session::{Names, Session, Step};
 
@@ -91,6 +92,8 @@ pub(super) struct Fake {
     clock: u64,
     taken: u64,
     asked: bool,
+    /// What the transactions weigh that were charged.
+    charged: AtomicU64,
 }
 
 impl Fake {
@@ -107,7 +110,13 @@ impl Fake {
             clock: 0,
             taken: 0,
             asked: false,
+            charged: AtomicU64::new(0),
         }
+    }
+
+    /// What the transactions weigh that were charged.
+    pub(super) fn charged(&self) -> u64 {
+        self.charged.load(Ordering::SeqCst)
     }
 
     /// Keeps a row. One that is lost for want of memory is found missing.
@@ -303,6 +312,7 @@ impl BrokerCalls for Fake {
     }
 
     fn charged(&self, txn: Txn) -> Txn {
+        self.charged.fetch_add(txn.weight(), Ordering::SeqCst);
         txn
     }
 

@@ -20,15 +20,13 @@ const HI: &str =
     "MESSAGE\nsubscription:s\nmessage-id:2.0.0\ndestination:A\ncontent-length:2\n\nhi\0\n";
 
 /// The same SEND, and an UNSUBSCRIBE behind it.
-const BOTH: &str =
-    "SEND\ndestination:A\nreceipt:w\n\nhi\0UNSUBSCRIBE\nid:s\nreceipt:u\n\n\0";
+const BOTH: &str = "SEND\ndestination:A\nreceipt:w\n\nhi\0UNSUBSCRIBE\nid:s\nreceipt:u\n\n\0";
 
 /// The RECEIPT of the UNSUBSCRIBE.
 const ENDED: &str = "RECEIPT\nreceipt-id:u\n\n\0\n";
 
 /// The ERROR where the log of the SEND's topic is full.
-const LOG_FULL: &str =
-    "ERROR\nmessage:41 LogFull\nreceipt-id:w\ncontent-length:0\n\n\0\n";
+const LOG_FULL: &str = "ERROR\nmessage:41 LogFull\nreceipt-id:w\ncontent-length:0\n\n\0\n";
 
 /// A broker that says of each subscription that it has lagged.
 const LAGGING: Plan = Plan {
@@ -115,7 +113,12 @@ fn one_is_committed_halfway(rt: HostRuntime) {
 fn comes_before_the_next(alloc: Global) -> Option<bool> {
     let mut talk = halfway(alloc, WILLING, 64, SEND)?;
     talk.go_on();
-    let rows = &[AsksRoom(true), Commits(true), Takes(0, true), Takes(0, false)];
+    let rows = &[
+        AsksRoom(true),
+        Commits(true),
+        Takes(0, true),
+        Takes(0, false),
+    ];
     comes_out(alloc, &mut talk, &[RECEIPT, HI], rows).ok()
 }
 
@@ -131,12 +134,7 @@ fn ends_behind(alloc: Global) -> Option<bool> {
     talk.fake.plan.commit = Some(CommitFault::LogFull);
     talk.go_on();
     let owing = owes(&talk, waited) && talk.asked(&[AsksRoom(true), Commits(false)]);
-    let rows = &[
-        AsksRoom(true),
-        Commits(false),
-        Unsubscribes(0),
-        GivesBack,
-    ];
+    let rows = &[AsksRoom(true), Commits(false), Unsubscribes(0), GivesBack];
     let all = comes_out(alloc, &mut talk, &[LOG_FULL], rows).ok()?;
     let exit = Exit::Error(ConversationFault::Commit(CommitFault::LogFull));
     Some(owing && all && talk.leaves_by(exit))
@@ -183,12 +181,7 @@ fn is_lost(alloc: Global) -> Option<bool> {
     let owing = owes(&talk, waited);
     talk.lose();
     talk.go_on();
-    let rows = &[
-        AsksRoom(true),
-        Commits(true),
-        Unsubscribes(0),
-        GivesBack,
-    ];
+    let rows = &[AsksRoom(true), Commits(true), Unsubscribes(0), GivesBack];
     let ended = talk.leaves_by(Exit::Lost) && !talk.talk.is_held() && talk.asked(rows);
     Some(owing && ended && !talk.deliver() && talk.talk.wire().len() == waited)
 }
