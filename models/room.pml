@@ -81,7 +81,9 @@
    what was committed by who has committed more than one. Transactions are to one topic or two; those of sender n are to
    the topics whose bits are TO0, TO1, TO2; BOTH: to all; OTHER: the first sender's are to all, and the others' to those
    of these bits. SETTLES: a verdict is a step of its own. ONCE: who reads a transaction that finds no room sleeps, where
-   the code asks again before. ENDLESS: all senders but the first send for ever. */
+   the code asks again before. ENDLESS: all senders but the first send for ever. HALVES: of an item that fills the wire the
+   rest may come later, before which its connection hears nothing; and who doesn't read has nothing waiting at the
+   beginning. */
 #define TOPIC(s) (TOPICS - 1 - (s) % TOPICS)
 #define SENDS(c) ((c) < SENDERS)
 #define ASKS(c) ((c) == 0 -> BIG : 1)
@@ -107,6 +109,14 @@
 #define TO2 TO1
 #endif
 #define TO(c) ((c) == 0 -> TO0 : ((c) == 1 -> TO1 : TO2))
+#ifdef HALVES
+#define HALFWAY(c) half[c]
+#define OWES(c) owing[c]
+#else
+#define HALFWAY(c) false
+#define OWES(c) false
+#endif
+#define MAY_HEAR(c) (made < MAKES(c) && !HALFWAY(c) && !OWES(c))     /* conversation.rt may_read */
 /* From this topic on, the first of these. */
 #define FIRST_OF(bits) do :: t < TOPICS && !((bits) & BIT(t)) -> t++ :: else -> break od; skip
 /* So many may keep room at a topic and wait at another. */
@@ -152,6 +162,10 @@ bool desk[CONNS];                /* the desk's lock */
 bool at_desk[CONNS];             /* Some(desk) behind it */
 bool more[CONNS];                /* has_more */
 bool leaving[CONNS];
+#ifdef HALVES
+bool half[CONNS];                /* an item is half out */
+bool owing[CONNS];               /* the answer to a transaction that was committed meanwhile is owed */
+#endif
 byte wire[CONNS];                /* items that wait to be written */
 bool blocked[CONNS];
 bool reads[CONNS] = true;        /* the client: the system takes what is written */
@@ -416,7 +430,11 @@ inline sub_end(sub) {
 /* conversation.rt close, calls.rt end_all: all that is open ends, that of one topic at once, calls.rt end_at: the seats,
    topic_seats.rt remove_all, then the subscriptions, broker.rt unsubscribe_all, then who waits for room */
 inline talk_close(c) {
+#ifdef HALVES
+  d_step { leaving[c] = true; half[c] = false; owing[c] = false };
+#else
   leaving[c] = true;
+#endif
   do
   :: d_step { e < TOPICS -> more[c] = false; n = 0; u = 0; EACH_OF(c, e, n++; u = s); u = (n == 1 -> Sub(u) : (n > 1 -> Any : 0)) };
      if
@@ -437,8 +455,27 @@ inline talk_close(c) {
   od;
   e = 0
 }
+#ifdef HALVES
+#define MAY_BE_HALF(c) if \
+    :: wire[c] >= WIRE -> half[c] = true; more[c] = true \
+    :: true \
+    fi
+#else
+#define MAY_BE_HALF(c) skip
+#endif
 /* taking.rt drain_queue, of each queue in turn, calls.rt take */
 inline talk_drain(c, waits) {
+#ifdef HALVES
+  if                                                             /* taking.rt put_left */
+  :: d_step { half[c] && wire[c] < WIRE -> half[c] = false; wire[c]++; sent = true; more[c] = true }
+  :: d_step { half[c] && wire[c] >= WIRE -> more[c] = true }
+  :: !half[c]
+  fi;
+  if                                                             /* taking.rt take_behind */
+  :: OWES(c) -> s = SUBS
+  :: !OWES(c)
+  fi;
+#endif
   do
   :: d_step { s < SUBS ->
        if
@@ -455,8 +492,8 @@ inline talk_drain(c, waits) {
      if
      :: got == Other -> s++
      :: got == Full -> break
-     :: got == Item -> skip
-     :: got == Half -> tell_taken(s, HALF_RINGS)
+     :: got == Item -> MAY_BE_HALF(c)
+     :: got == Half -> tell_taken(s, HALF_RINGS); MAY_BE_HALF(c)
      :: got == Last || got == None ->
 #ifdef M_WAITS_BEFORE_TELL
         wait_again(s);
@@ -716,6 +753,7 @@ inline give_places_back(c) {
   t = 0
 }
 
+#define HEARS(c) (want == 0 && !HALFWAY(c) && !OWES(c))
 /* Whether this is the first of its topics at which a transaction has no room. */
 #ifdef M_FALLING
 #define IS_NEXT(t) ((want & ~room[c] & BIT(t)) > 0)
@@ -776,13 +814,13 @@ heard:
      fi;
 #if FRAMES > 0
      if                                                          /* connection.rt hear */
-     :: frame[c] == Nothing || want > 0 -> skip
-     :: frame[c] == Subscribe && want == 0 ->                    /* calls.rt subscribe: the seat, then the subscription */
+     :: frame[c] == Nothing || want > 0 || HALFWAY(c) || OWES(c) -> skip
+     :: frame[c] == Subscribe && HEARS(c) ->                    /* calls.rt subscribe: the seat, then the subscription */
         frame[c] = Nothing; busy = true;
         d_step { !seats[TOPIC(SUBS - 1)] -> seated[SUBS - 1] = true };
         d_step { !topic[TOPIC(SUBS - 1)] -> assert(FITS(SUBS - 1, 0));
           open_[SUBS - 1] = true; waited[SUBS - 1] = true; has[SUBS - 1] = true }
-     :: frame[c] == Unsubscribe && want == 0 ->                  /* of its first subscription: calls.rt unsubscribe */
+     :: frame[c] == Unsubscribe && HEARS(c) ->                  /* of its first subscription: calls.rt unsubscribe */
         d_step { frame[c] = Nothing; busy = true;
           do :: e < SUBS && !(TAKER(e) == c && has[e]) -> e++ :: else -> break od };
         if
@@ -790,7 +828,7 @@ heard:
         :: e >= SUBS
         fi;
         e = 0
-     :: frame[c] == End && want == 0 -> talk_close(c); goto leave
+     :: frame[c] == End && HEARS(c) -> talk_close(c); goto leave
      fi
 #endif
   :: !TAKES(c) -> may = false
@@ -798,9 +836,16 @@ heard:
   if
   :: SENDS(c) ->
      if
+#ifdef M_HALF_WAITS
+     :: want > 0 && !HALFWAY(c) -> goto go_on
+#else
      :: want > 0 -> goto go_on
-     :: want == 0 && made < MAKES(c) -> goto hear
-     :: want == 0 && made == MAKES(c) && commits > 0 -> goto turn
+#endif
+#if defined(HALVES) && !defined(M_OWED_FORGOTTEN)
+     :: want == 0 && OWES(c) && !HALFWAY(c) -> goto answers
+#endif
+     :: want == 0 && MAY_HEAR(c) -> goto hear
+     :: want == 0 && !MAY_HEAR(c) && commits > 0 -> goto turn
      :: else
      fi
   :: !SENDS(c)
@@ -808,7 +853,7 @@ heard:
   goto idle;
 hear:                                                            /* connection.rt hear: it may hear more, or turns */
   if
-  :: made < MAKES(c) ->
+  :: MAY_HEAR(c) ->
 #ifdef ENDLESS
      made = (c == 0 -> made + 1 : made);
 #else
@@ -826,14 +871,14 @@ hear:                                                            /* connection.r
      goto ask
 #ifdef M_SLEEPS_FIRST
   :: commits > 0 -> goto turn
-  :: made >= MAKES(c) && commits == 0 -> goto round
+  :: !MAY_HEAR(c) && commits == 0 -> goto round
 #else
   :: stands[c] > 0 -> rest(c); goto hear                         /* connection.rt go_on */
   :: stands[c] == 0 && commits > 0 -> goto turn
 #if BATCH > 1
   :: stands[c] > 0 && commits > 0 -> turn_owed(true); goto hear  /* calls.rt count_commit */
 #endif
-  :: made >= MAKES(c) && stands[c] == 0 && commits == 0 -> goto round
+  :: !MAY_HEAR(c) && stands[c] == 0 && commits == 0 -> goto round
 #endif
   fi;
 turn:                                                            /* the end of connection.rt hear */
@@ -1136,6 +1181,28 @@ enter:
 #endif
 entered:
   want = 0;
+#ifdef HALVES
+  if                                                             /* conversation.rt go_on_halfway: its answer is owed */
+  :: HALFWAY(c) ->
+     owing[c] = true; again = false;
+     if                                                          /* connection.rt try_once */
+     :: commits > 0 -> turn_owed(false)
+     :: commits == 0
+     fi;
+#ifndef M_HALF_STAYS
+     if
+     :: stands[c] > 0 -> rest(c)
+     :: stands[c] == 0
+     fi;
+#endif
+     goto idle
+  :: !HALFWAY(c)
+  fi;
+  goto answered;
+answers:                                                         /* conversation.rt finish */
+  owing[c] = false; again = true;
+answered:
+#endif
 #ifdef OWN
   if                                                             /* connection.rt end_wait */
   :: again && TAKES(c) -> desk_deliver(c, false); sent = false
@@ -1144,7 +1211,7 @@ entered:
 #endif
   busy = true; again = false;
   if
-  :: made < MAKES(c) || commits > 0 || stands[c] > 0 -> goto hear
+  :: MAY_HEAR(c) || commits > 0 || stands[c] > 0 -> goto hear
   :: else
   fi;
   goto round;
@@ -1171,7 +1238,7 @@ idle:
 sleeps:
 end:
   atomic {                                                       /* connection.rt wait and work, and bell.rt hears */
-    !desk[c] && (woken[c] || (blocked[c] && reads[c]) || (frame[c] != Nothing && want == 0)
+    !desk[c] && (woken[c] || (blocked[c] && reads[c]) || (frame[c] != Nothing && HEARS(c))
 #if PASSES > 0
     || (want > 0 && passes < PASSES && (MAY_BE_PASSED(0) || MAY_BE_PASSED(1)))
 #endif
@@ -1286,6 +1353,12 @@ proctype Monitor() {
 #ifndef NEVER
   for (i : 0 .. SENDERS - 1) { assert(held[i] == 0) }            /* nobody waits for who waits for it */
 #endif
+#ifdef HALVES
+  for (i : 0 .. CONNS - 1) {                                     /* what is owed is given once the item is out */
+    assert(!owing[i] || half[i]);
+    assert(!half[i] || !reads[i])
+  }
+#endif
 }
 
 init {
@@ -1309,7 +1382,9 @@ init {
 #else
       reads[i] = (STOPS == 0);
 #endif
+#ifndef HALVES
       if :: reads[i] -> skip :: else -> wire[i] = WIRE; blocked[i] = true fi;
+#endif
       run Connection(i, ASKS(i));
 #if STOPS > 0 || FRAMES > 0 || defined(NEVER)
       if :: TAKES(i) -> run Client(i) :: else fi

@@ -128,7 +128,7 @@ does_free step old asked new does free =
 -- ---- where a transaction waits, and what is done of it later
 
 -- the step of a COMMIT of these, or of a SEND
-abbrev commit_of : List SentMessage → Option (List ℕ) → Step
+abbrev pub commit_of : List SentMessage → Option (List ℕ) → Step
 commit_of sends receipt = record { action = actions.Commit sends; receipt = receipt }
 
 -- Once this was asked, by calls that are `Takes`, a transaction waits: whatever is done of it from then on is done behind those.
