@@ -1,6 +1,7 @@
 //! What one connection asks of the broker.
 
 ghost use Rattle.std.specs.Prelude.{if◌then◌else◌, ◌≡◌, ◌≤◌, ◌<◌, ◌⊎◌, ◌==◌, ◌-◌, [], map, true, IfSome, None, Some};
+ghost use Rattle.std.specs.Option.{is_some};
 ghost use Rattle.mcast_txn.specs.Transaction.{topics_of};
 ghost use Rattle.broker_server.specs.BrokerRows.{AsksInOrder, Unsubscribes};
 ghost use Rattle.broker_server.specs.Lines.{IsRoomAt};
@@ -447,19 +448,11 @@ impl<'a, R: Wait + Log + Clock, W: Side, T: Side> Calls<'a, R, W, T> {
         }
     }
 
-    /// It goes on with nothing that was read: where it waits for no room, it isn't the first of a line any more; and it leaves the
-    /// turnstile within which it is, where it has come to this before.
+    /// It goes on with nothing that was read: where it waits for no room, it isn't the first of a line any more.
     #[inline(always)]
     pub(crate) fn rest(&mut self)
-        ensures { self.new ≡ record self.old {
-          waiting = self.new.waiting;
-          stay = self.new.stay;
-          patience = self.new.patience;
-        } }
+        ensures { self.new ≡ record self.old { waiting = self.new.waiting } }
     {
-        if self.stay.is_some() {
-            self.end_stay();
-        }
         if !self.waiting.is_idle() {
             let asker = self.asker();
             self.waiting.rests(&asker);
@@ -467,9 +460,14 @@ impl<'a, R: Wait + Log + Clock, W: Side, T: Side> Calls<'a, R, W, T> {
     }
 
     /// It is about to begin a subscription at this topic, within the turnstile there. It leaves another one first, so that
-    /// nobody waits in a ring; this one, too, where it has begun many.
+    /// nobody waits in a ring; this one, too, where it has begun many. What it owes is turned before, and it is the first of
+    /// no line: so nobody waits for it meanwhile.
     fn enter_turnstile(&mut self, topic: Topic)
         ensures { self.new ≡ record self.old {
+          unturned = self.new.unturned;
+          commits = self.new.commits;
+          heard = self.new.heard;
+          waiting = self.new.waiting;
           stay = self.new.stay;
           stayed = self.new.stayed;
           patience = self.new.patience;
@@ -480,6 +478,10 @@ impl<'a, R: Wait + Log + Clock, W: Side, T: Side> Calls<'a, R, W, T> {
         {
             return;
         }
+        if self.commits > 0 {
+            self.turn_topics();
+        }
+        self.rest();
         let before = self.stay.take();
         leave(self.rt, self.hub, before);
         let Some(seats) = self.hub.seats(topic) else {
@@ -508,19 +510,21 @@ impl<'a, R: Wait + Log + Clock, W: Side, T: Side> Calls<'a, R, W, T> {
         }
     }
 
-    /// It has done what it read, and leaves the turnstile within which it is where it had done so before: it has taken and
-    /// written once since, so that nobody waits for it.
-    #[inline(never)]
-    fn end_stay(&mut self)
-        ensures { self.new ≡ record self.old { stay = self.new.stay; patience = self.new.patience } }
+    /// It has taken and written since all that it read was done: it leaves the turnstile within which it is, if it is.
+    #[inline(always)]
+    pub(crate) fn end_stay(&mut self)
+        ensures { self.new ≡ record self.old { stay = None; patience = self.new.patience } }
     {
-        let is_over = match &mut self.stay {
-            Some(stay) => stay.is_over(),
-            None => false,
-        };
-        if is_over {
+        if self.stay.is_some() {
             self.leave_turnstile();
         }
+    }
+
+    /// Whether it is within a turnstile.
+    pub(crate) fn is_within(&self) -> bool
+        ensures { result ≡ is_some self.now.stay }
+    {
+        self.stay.is_some()
     }
 
     /// It leaves the turnstile within which it is, if it is.

@@ -148,8 +148,9 @@ impl<'a, 'b, R: Wait + Log + Clock, W: Side, T: Side> Connection<'a, 'b, R, W, T
         if desk.talk.is_leaving() {
             return Round::Leaving;
         }
+        desk.calls.end_stay();
         match self.hear(desk) {
-            Round::Idle if busy || sent > 0 => Round::Busy,
+            Round::Idle if busy || sent > 0 || desk.calls.is_within() => Round::Busy,
             Round::Idle if desk.is_gone() && !desk.talk.is_held() => Round::Gone,
             round => round,
         }

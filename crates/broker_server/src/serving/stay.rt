@@ -17,20 +17,17 @@ pub(crate) struct Stay {
     since: Option<Moment>,
     /// How many subscriptions more may be begun in it.
     left: u32,
-    /// Whether its connection has done once what it read.
-    done: bool,
 }
 
 impl Stay {
     /// One at this topic since this moment, or beside who is within, in which one is begun.
     pub(crate) fn new(topic: Topic, since: Option<Moment>) -> Stay
-        ensures { result ≡ record { topic = topic; since = since; left = 63; done = false } }
+        ensures { result ≡ record { topic = topic; since = since; left = 63 } }
     {
         Stay {
             topic,
             since,
             left: MORE,
-            done: false,
         }
     }
 
@@ -41,16 +38,6 @@ impl Stay {
         self.topic
     }
 
-    /// Its connection has done what it read; whether it had before, and so has taken and written once since.
-    pub(crate) fn is_over(&mut self) -> bool
-        ensures over { result ≡ self.old.done }
-        ensures done { self.new ≡ record self.old { done = true } }
-    {
-        let is_over = self.done;
-        self.done = true;
-        is_over
-    }
-
     /// It ends; since when it was, unless it came beside who was within.
     pub(crate) fn end(self) -> Option<Moment>
         ensures { result ≡ self.since }
@@ -59,7 +46,6 @@ impl Stay {
             topic: _,
             since,
             left: _,
-            done: _,
         } = self;
         since
     }
