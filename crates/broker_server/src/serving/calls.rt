@@ -463,7 +463,8 @@ impl<'a, R: Wait + Log + Clock, W: Side, T: Side> Calls<'a, R, W, T> {
     /// nobody waits in a ring; this one, too, where it has begun many. What it owes is turned before, and it is the first of
     /// no line: so nobody waits for it meanwhile.
     fn enter_turnstile(&mut self, topic: Topic)
-        ensures { self.new ≡ record self.old {
+        ensures turned { self.old.stay ≡ None → self.new.commits ≡ 0 }
+        ensures same { self.new ≡ record self.old {
           unturned = self.new.unturned;
           commits = self.new.commits;
           heard = self.new.heard;
