@@ -164,7 +164,7 @@ inline subscribe(t) {
 #define OTHERS_HEAR(c) (hears[0] && c != 0 || hears[1] && c != 1 || COMERS > 2 && hears[COMERS - 1] && c != COMERS - 1)
 
 /* A connection's thread: conversation.rt hear, a frame after another, up to a transaction that waits; then it takes, and
-   then calls.rt rest leaves the turnstile. */
+   then connection.rt round leaves the turnstile. */
 proctype Comer(byte me) {
   byte frames, topic, within = NONE, kept = NONE;
   bool held, has_regulars, beside, over;

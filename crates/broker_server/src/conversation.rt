@@ -387,14 +387,15 @@ impl<C: BrokerCalls> Conversation<C> {
             × GoesOnHalfway held self.old asked self.new }
     {
         match held {
-            Held::Waits(txn, receipt) => {
-                let Some(room) = calls.reserve(&txn) else {
+            Held::Waits(txn, receipt) => match calls.reserve(&txn) {
+                Some(room) => {
+                    let came_to = self.commit(calls, txn, room);
+                    self.hold(Held::Owes(came_to, receipt));
+                }
+                None => {
                     self.hold(Held::Waits(txn, receipt));
-                    return;
-                };
-                let came_to = self.commit(calls, txn, room);
-                self.hold(Held::Owes(came_to, receipt));
-            }
+                }
+            },
             Held::Owes(done, receipt) => self.hold(Held::Owes(done, receipt)),
         }
     }

@@ -12,12 +12,12 @@ returns-in-Some g c =
     let txn = c.in-Waits.txn in
     let receipt = c.in-Waits.receipt in
     let row = AsksRoom (topics_of txn) true in
-    let did = c.commit-done.ensures in
+    let did = c.commit-came_to.ensures in
     let rows = row ∷ did.0 in (
       rows,
       (c.reserve.new.self, c.in-Some.ensures, did.1),
       subst (λ (h : Held). GoesOnHalfway h c.args.self.now rows c.hold.new.self) (sym c.in-Waits.is)
-          (inr (c.commit-done.result, c.commit-done.new.self, (did.0, refl, did.2), c.hold.ensures)),
+          (inr (c.commit-came_to.result, c.commit-came_to.new.self, (did.0, refl, did.2), c.hold.ensures)),
     )
 
 pub returns-in-None : goal.returns-in-None
