@@ -10,7 +10,6 @@ mod figures;
 mod ignored;
 mod large;
 mod lines;
-mod listening;
 mod log_lines;
 mod logged;
 mod made;
