@@ -1,7 +1,5 @@
 //! The server on loopback, each test with a port that the system chooses.
 
-mod at_once;
-mod capacity;
 mod client;
 mod drawn;
 mod ending;
@@ -23,7 +21,6 @@ mod served;
 mod sizes;
 mod slow;
 mod subscribed;
-mod turnstiles;
 mod unconnected;
 mod unread;
 mod waiting;

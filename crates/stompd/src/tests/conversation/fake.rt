@@ -11,7 +11,6 @@ use mcast_txn::{Part, Released, Sender, Stamp, Ticket, Topic, Txn};
 use sender_gate::{ClaimFault, Flying, Gate};
 use std::alloc::Global;
 use std::sync::Arc;
-use std::sync::atomic::{AtomicU64, Ordering};
 use stomp_frame::ClientFrame;
 use stomp_session::{Names, Session, Step};
 
@@ -78,7 +77,7 @@ pub(super) struct FakeRoom {
 #[derive(Drop)]
 pub(super) struct Fake {
     alloc: Global,
-    pub(super) plan: Plan,
+    plan: Plan,
     pub(super) rows: Vec<Row>,
     /// So many times there is no room, from now on.
     pub(super) refusals: u64,
@@ -92,8 +91,6 @@ pub(super) struct Fake {
     clock: u64,
     taken: u64,
     asked: bool,
-    /// What the transactions weigh that were charged.
-    charged: AtomicU64,
 }
 
 impl Fake {
@@ -110,13 +107,7 @@ impl Fake {
             clock: 0,
             taken: 0,
             asked: false,
-            charged: AtomicU64::new(0),
         }
-    }
-
-    /// What the transactions weigh that were charged.
-    pub(super) fn charged(&self) -> u64 {
-        self.charged.load(Ordering::SeqCst)
     }
 
     /// Keeps a row. One that is lost for want of memory is found missing.
@@ -312,7 +303,6 @@ impl BrokerCalls for Fake {
     }
 
     fn charged(&self, txn: Txn) -> Txn {
-        self.charged.fetch_add(txn.weight(), Ordering::SeqCst);
         txn
     }
 

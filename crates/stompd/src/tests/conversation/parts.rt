@@ -1,9 +1,7 @@
 //! `part:yes`: MESSAGEs that say which of their transaction's they are.
 
 use super::fake::{Plan, WILLING};
-use super::halves::Peer;
 use super::talk::{CONNECT, CONNECTED, SEND, Talk};
-use broker_server::Exit;
 use std::alloc::Global;
 
 /// Two subscriptions that ask for parts, and one to A that doesn't.
@@ -79,33 +77,4 @@ const OF_LAG: &str =
 #[test]
 fn a_lag_is_told_behind_whole_parts(rt: HostRuntime) {
     assert!(rt; writes(rt.alloc(), LAGGING, &[S, SEND, SEND, SEND], OF_LAG));
-}
-
-/// Whether a peer that takes so many octets of a part got just the first so many, where its connection ends then: it is
-/// written nothing more.
-fn is_cut(alloc: Global, wanted: &[u8], count: usize) -> Option<bool> {
-    let mut talk = Talk::new(alloc, WILLING, 64)?;
-    for text in [CONNECT, S, T, THREE] {
-        talk.hear(text);
-    }
-    talk.deliver();
-    let mut peer = Peer {
-        came: Vec::new(alloc),
-        room: CONNECTED.len().saturating_add(count),
-    };
-    talk.talk.drain(&mut peer).ok()?;
-    let left = talk.talk.wire().len();
-    talk.lose();
-    let silent = !talk.deliver() && talk.talk.wire().len() == left;
-    let front = wanted.get(..count)?;
-    let came = peer.came.as_slice().strip_prefix(CONNECTED.as_bytes())?;
-    Some(silent && left == wanted.len() - count && came == front && talk.leaves_by(Exit::Lost))
-}
-
-#[test]
-fn a_part_is_cut_at_each_octet(rt: HostRuntime) {
-    let wanted = OF_THREE.as_bytes();
-    for count in 0..=wanted.len() {
-        assert!(rt; is_cut(rt.alloc(), wanted, count) == Some(true), "{count}");
-    }
 }

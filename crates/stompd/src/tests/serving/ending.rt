@@ -21,7 +21,7 @@ fn put_words(alloc: Global, port: u16, words: &mut Vec<String>) -> Result<(), Al
 }
 
 /// Those words.
-pub(super) fn words(alloc: Global, port: u16) -> Result<Vec<String>, AllocError> {
+fn words(alloc: Global, port: u16) -> Result<Vec<String>, AllocError> {
     let mut words = Vec::new(alloc);
     put_words(alloc, port, &mut words)?;
     Ok(words)

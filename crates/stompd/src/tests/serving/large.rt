@@ -18,7 +18,7 @@ const BODY: usize = 1_048_576;
 const HEAD: &str = "SEND\ndestination:A\ntransaction:x\n\n";
 
 /// A SEND of the transaction.
-pub(super) fn send(alloc: Global) -> Option<String> {
+fn send(alloc: Global) -> Option<String> {
     let mut text = String::from_str(alloc, HEAD).ok()?;
     for _ in 0..BODY {
         text.push('x').ok()?;

@@ -77,7 +77,7 @@ fn pauses(client: &mut Client, refused: &mut Client) -> bool {
 }
 
 /// The last words to one that lagged.
-pub(super) const LAGGED: &[u8] = b"ERROR\nmessage:74 Lagged\ncontent-length:0\n\n\0\n";
+const LAGGED: &[u8] = b"ERROR\nmessage:74 Lagged\ncontent-length:0\n\n\0\n";
 
 /// Whether all that comes ends with 74, behind fewer MESSAGEs than were sent.
 fn ends_lagged(client: &mut Client) -> bool {
