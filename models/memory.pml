@@ -1,7 +1,8 @@
-/* What connections hold together: who counts what, who is told to make room, and who is refused.
+/* What connections hold together: who counts what, who is refused, and who makes room.
 
-   Each step that another thread may see, or be seen by, is one step here, with its place in the code beside it. Sizes and
-   mutants stand in runs.txt, what is left out in README.md. */
+   A sender that leaves may come anew, with a new meter: what it committed before still counts in all, but to nobody that is there. A
+   taker's client reads, or doesn't, whenever its thread looks. Each step that another thread may see, or be seen by, is one step here,
+   with its place in the code beside it. Sizes and mutants stand in runs.txt, what is left out in README.md. */
 
 #ifndef SENDERS
 #define SENDERS 2
@@ -9,7 +10,10 @@
 #ifndef SENDS                    /* so many pieces of one octet come from each, */
 #define SENDS 2
 #endif
-#ifndef TAKERS                   /* and what is committed goes to so many */
+#ifndef COMES                    /* each time that it comes: so often */
+#define COMES 1
+#endif
+#ifndef TAKERS                   /* and what is committed goes to so many, */
 #define TAKERS 1
 #endif
 #ifndef PASSINGS                 /* each of which is passed over so often, at most, */
@@ -18,119 +22,90 @@
 #ifndef CAPACITY                 /* and whose queues hold so many each */
 #define CAPACITY 2
 #endif
-#ifndef MOST                     /* beyond so many octets who holds more than LITTLE is refused */
+#ifndef ALL                      /* beyond so many octets everybody is refused, */
+#define ALL 4
+#endif
+#ifndef MOST                     /* and where no more is left of so many than he has open, who holds more than LITTLE */
 #define MOST 2
 #endif
 #ifndef LITTLE
 #define LITTLE 1
 #endif
-#ifndef SHORT                    /* from so many on, of which one is committed, those who were passed over make room */
+#ifndef SHORT                    /* from so many on, of which one is committed, memory is short */
 #define SHORT 1
 #endif
-
-mtype:bell = { Awake, Told, Asleep };
-mtype:overdue = { No, PassedOver, Due };
 
 /* The counts: of all, and of each sender. */
 short open, sent;
 short told[SENDERS], sent_of[SENDERS];
 byte holds[SENDERS];             /* what it does hold that isn't committed */
+byte left;                       /* what those committed who left */
 bool gone[SENDERS];
 
-/* Each taker: its seat, its bell, its queue, with whose items are in it, and whether its client reads. */
-bool seat_passed_over[TAKERS];
-mtype:overdue overdue[TAKERS];
-mtype:bell bell[TAKERS];
-bool woken[TAKERS], ended[TAKERS];
+/* Each taker: its seat, its queue, with whose items are in it, the last for those who left, and whether more is in it than its client
+   takes. */
+bool passed_over[TAKERS];
+bool stuck[TAKERS], ended[TAKERS];
 byte queue[TAKERS];
-byte items[TAKERS * SENDERS];
-#define ITEMS(t, s) items[(t) * SENDERS + (s)]
+byte items[TAKERS * (SENDERS + 1)];
+#define ITEMS(t, s) items[(t) * (SENDERS + 1) + (s)]
 
-bool list;                       /* the lock of the hub's list of connections */
+/* holding.rt is_refused: by what all hold, and what he has open and committed */
+#ifdef M_ALL_TO_ONE
+#define SHARED(all, mine) ((all) > MOST)
+#else
+#define SHARED(all, mine) ((all) >= MOST || MOST - (all) <= (mine))
+#endif
+#ifdef M_NO_END
+#define REFUSED(all, mine, his) (SHARED(all, mine) && (mine) + (his) > LITTLE)
+#else
+#define REFUSED(all, mine, his) ((all) > ALL || SHARED(all, mine) && (mine) + (his) > LITTLE)
+#endif
 
-#define LOCK(lock) atomic { !lock -> lock = true }
-#define UNLOCK(lock) lock = false
-
-/* bell.rt ring */
-inline ring(t) {
-  if
-  :: bell[t] == Told -> skip
-  :: else ->
-     d_step { was = bell[t]; bell[t] = Told };
-     if
-     :: was == Asleep -> woken[t] = true
-     :: else
-     fi;
-     was = Awake
-  fi
-}
 /* meter.rt tell_open: its own count, and then that of all */
 inline tell_open(s, octets) {
   d_step { before = told[s]; told[s] = octets };
   open = open + octets - before;
   before = 0
 }
-/* calls.rt note_short, hub.rt ring_overdue, bell.rt ring_overdue */
-inline note_short() {
-  have = open;                                                   /* holdings.rt open */
-  if
-  :: sent >= 1 && have + sent >= SHORT ->                        /* holdings.rt sent, holding.rt is_short */
-     LOCK(list);
-     do
-     :: t < TAKERS ->
-#ifdef M_RINGS_FIRST
-        ring(t);
-#endif
-        d_step { found = (overdue[t] == PassedOver); if :: found -> overdue[t] = Due :: else fi };  /* overdue.rt becomes_due */
-#ifndef M_RINGS_FIRST
-        if
-        :: found -> ring(t)
-        :: else
-        fi;
-#endif
-        t++
-     :: t >= TAKERS -> break
-     od;
-     UNLOCK(list)
-  :: else
-  fi;
-  t = 0; have = 0; found = false
-}
 
-/* All hold no more than is allowed, whenever somebody comes to hold more. */
-inline bounded() {
+/* All hold no more than is allowed, whenever somebody comes to hold more; nor has he more open than half of MOST, or a little. Where
+   nobody leaves, all together have LITTLE each beyond MOST. */
+inline bounded(s) {
   d_step {
+    have = left;
     do
     :: t < SENDERS -> have = have + holds[t] + sent_of[t]; t++
     :: t >= SENDERS -> break
     od;
-    assert(have <= MOST + SENDERS * LITTLE);
+    assert(have <= ALL);
+    assert(COMES > 1 || have <= MOST + SENDERS * LITTLE);
+    assert(holds[s] <= LITTLE || 2 * holds[s] < MOST);
     t = 0; have = 0
   }
 }
 
 proctype Sender(byte s) {
-  mtype:bell was = Awake;
   short before, have;
-  byte t, to, n;
-  bool found, refused;
+  byte t, to, n, comes;
+  bool refused;
+again:
   do
   :: n < SENDS && !refused ->
      n++;
-     tell_open(s, holds[s] + 1);                                 /* calls.rt may_hold, note_held */
-     note_short();                                               /* calls.rt tell_held */
+     tell_open(s, holds[s] + 1);                                 /* calls.rt may_hold, note_held, tell_held */
 #ifdef M_SENT_BEFORE_OPEN
-     have = sent; refused = (have + open > MOST && holds[s] + 1 + sent_of[s] > LITTLE);
+     have = sent; refused = REFUSED(have + open, holds[s] + 1, sent_of[s]);
 #else
      have = open;                                                /* holdings.rt open, and then sent */
-     refused = (have + sent > MOST && holds[s] + 1 + sent_of[s] > LITTLE);  /* holding.rt is_refused */
+     refused = REFUSED(have + sent, holds[s] + 1, sent_of[s]);   /* holding.rt is_refused */
 #endif
      have = 0;
      if
      :: refused -> skip
      :: else ->
         holds[s]++;
-        bounded();
+        bounded(s);
         if
         :: true -> skip                                          /* it stays open */
         :: true ->                                               /* it is committed */
@@ -151,7 +126,6 @@ proctype Sender(byte s) {
 #ifndef M_OPEN_BEFORE_SENT
               tell_open(s, holds[s]);                            /* calls.rt tell_held */
 #endif
-              note_short();
               atomic {
                 if
                 :: !ended[to] -> queue[to]++; ITEMS(to, s)++     /* it is released */
@@ -171,6 +145,19 @@ proctype Sender(byte s) {
 #ifdef M_GIVES_TWICE
   open = open - before - 1;
 #endif
+  n = 0; refused = false; comes++;
+  if
+  :: comes < COMES ->                                            /* another one comes in its place: hub.rt meter */
+     d_step {
+       do
+       :: t < TAKERS -> ITEMS(t, SENDERS) = ITEMS(t, SENDERS) + ITEMS(t, s); ITEMS(t, s) = 0; t++
+       :: t >= TAKERS -> break
+       od;
+       left = left + sent_of[s]; sent_of[s] = 0; t = 0
+     };
+     goto again
+  :: else
+  fi;
   gone[s] = true
 }
 
@@ -178,15 +165,7 @@ proctype Sender(byte s) {
 proctype Passing(byte t) {
   byte n;
   do
-  :: n < PASSINGS && queue[t] > 0 ->
-     n++;
-#ifdef M_TOLD_FIRST
-     atomic { if :: overdue[t] == No -> overdue[t] = PassedOver :: else fi };
-     seat_passed_over[t] = true
-#else
-     seat_passed_over[t] = true;
-     atomic { if :: overdue[t] == No -> overdue[t] = PassedOver :: else fi }  /* overdue.rt set_passed_over */
-#endif
+  :: n < PASSINGS && queue[t] > 0 -> n++; passed_over[t] = true
   :: true -> break
   od
 }
@@ -199,67 +178,59 @@ inline let_go(t) {
     :: s < SENDERS && ITEMS(t, s) == 0 -> s++
     :: else -> break
     od;
-    ITEMS(t, s)--; queue[t]--
+    ITEMS(t, s)--; queue[t]--;
+    if
+    :: s < SENDERS -> sent_of[s]--
+    :: else -> left--
+    fi;
+    s = 0
   };
-  sent_of[s]--;
-  sent--;
-  s = 0
+  sent--
 }
 
-/* A taker's thread: connection.rt round. */
+/* A round of a taker's thread: connection.rt round. Where it is stuck it wakes by time, too: connection.rt sleep_of. How much time is over
+   is left open; but a third look finds that it is so much. */
 proctype Taker(byte t) {
-  bool heard, due, may;
-  byte s;
+  short have;
+  bool took, short_now;
+  byte s, since;                                                 /* desk.rt is_untaken: how often it looked since something was taken */
+end:
   do
   :: ended[t] -> break
-  :: else ->
-     if                                                          /* bell.rt hears */
-     :: bell[t] == Awake -> skip
-     :: else -> d_step { heard = (bell[t] == Told); bell[t] = Awake }
-     fi;
-     if
-     :: heard ->
-#ifdef M_LOOKS_FIRST
-        due = seat_passed_over[t];
-        d_step { due = due && overdue[t] == Due; if :: overdue[t] == Due -> overdue[t] = No :: else fi };
+#ifdef M_SLEEPS_ON
+  :: !ended[t] && queue[t] > 0 && !stuck[t] ->
 #else
-        d_step { due = (overdue[t] == Due); if :: due -> overdue[t] = No :: else fi };  /* overdue.rt takes_due */
-        due = (due && seat_passed_over[t]);                      /* desk.rt make_room, is_passed_over */
+  :: !ended[t] && queue[t] > 0 && (!stuck[t] || open + sent >= SHORT && sent >= 1 && since < 3) ->
 #endif
-        if
-        :: due && queue[t] > 0 -> ended[t] = true                /* its queue is let go of below */
-#ifndef M_FORGETS
-        :: due && queue[t] == 0 ->
-           atomic { if :: overdue[t] == No -> overdue[t] = PassedOver :: else fi }  /* overdue.rt set_passed_over */
+     stuck[t] = false; took = false;                             /* desk.rt deliver */
+     do
+     :: queue[t] > 0 -> let_go(t); took = true; since = 0        /* its client reads: desk.rt write */
+     :: queue[t] > 0 -> stuck[t] = true; break                   /* or it doesn't: desk.rt note_stuck */
+     :: queue[t] == 0 -> passed_over[t] = false; break           /* calls.rt find_empty, seat.rt take_passed_over */
+     od;
+     if
+     :: stuck[t] ->
+        have = open;                                             /* calls.rt time_to_take, holdings.rt open, and then sent */
+        short_now = (sent >= 1 && have + sent >= SHORT);         /* holding.rt is_short */
+        have = 0;
+        if                                                       /* desk.rt make_room, is_overdue */
+        :: !short_now -> skip
+        :: short_now && passed_over[t] -> ended[t] = true        /* desk.rt is_passed_over */
+#ifdef M_ENDS_READERS
+        :: short_now && !passed_over[t] -> assert(!took); ended[t] = true
+#else
+#ifndef M_NEVER_STUCK
+        :: short_now && !passed_over[t] && since > 0 -> assert(!took); ended[t] = true
 #endif
-        :: else
-        fi
+        :: short_now && !passed_over[t] && since < 2 -> since++  /* desk.rt is_untaken */
+#ifdef M_NEVER_STUCK
+        :: short_now && !passed_over[t] && since == 2 -> since++
+#endif
+#endif
+        fi;
+        short_now = false
      :: else
-     fi;
-     if
-     :: !ended[t] && queue[t] > 0 ->
-        if
-        :: true -> skip                                          /* its client doesn't read */
-        :: true ->
-           let_go(t);
-           if                                                    /* calls.rt find_empty, seat.rt take_passed_over */
-           :: queue[t] == 0 -> seat_passed_over[t] = false
-           :: else
-           fi
-        fi
-     :: else
-     fi;
-     if
-     :: ended[t] || heard -> skip
-     :: else ->
-        d_step { may = (bell[t] == Awake); if :: may -> bell[t] = Asleep :: else fi };  /* bell.rt sleeps */
-        if
-        :: !may -> skip
-        :: else ->
-end:       atomic { woken[t] -> woken[t] = false }
-        fi
-     fi;
-     heard = false; due = false; may = false
+     fi
   od;
   do
   :: queue[t] > 0 -> let_go(t)
@@ -267,24 +238,23 @@ end:       atomic { woken[t] -> woken[t] = false }
   od
 }
 
-/* Where nothing can run: each count is what is held; who was told to make room has looked, and who was passed over, and keeps
-   something, is found by who looks next. */
+/* Where nothing can run: each count is what is held; and where memory is short nobody keeps more than his client takes. */
 proctype Monitor() {
   byte s, t, all, queued;
   (timeout);
+  all = left;
   for (s : 0 .. SENDERS - 1) { assert(gone[s] && told[s] == 0 && holds[s] == 0); all = all + sent_of[s] }
   for (t : 0 .. TAKERS - 1) {
     queued = queued + queue[t];
-    assert(overdue[t] != Due || ended[t]);
-    assert(!seat_passed_over[t] || queue[t] == 0 || overdue[t] == PassedOver)
+    assert(ended[t] || queue[t] == 0 || sent < 1 || open + sent < SHORT)
   }
-  assert(!list && open == 0 && sent == all && all == queued)
+  assert(open == 0 && sent == all && all == queued)
 }
 
 init {
   byte i;
   atomic {
-    for (i : 0 .. TAKERS - 1) { overdue[i] = No; bell[i] = Awake; run Taker(i); run Passing(i) }
+    for (i : 0 .. TAKERS - 1) { run Taker(i); run Passing(i) }
     for (i : 0 .. SENDERS - 1) { run Sender(i) }
     run Monitor();
     i = 0

@@ -1,6 +1,8 @@
 """What bench/hostile does to see whom a sender waits for, and for how long: rows as in hostility.py."""
 
 import contextlib
+import os
+import signal
 import socket
 import statistics
 import threading
@@ -124,25 +126,67 @@ def fast_enough_for_large_sends(trial, count=120):
     return comes_whole(trial, trial.part(count), MOST_BODY, 7_000_000)
 
 
-def comes_whole(trial, count, size, rate):
-    """So many SENDs at once, to one that reads so many octets a second."""
+def fast_enough_where_the_server_stands_still(trial, count=3000):
+    """3,000 SENDs of 10,000 octets that come at once, to one that reads 2 MB a second, where the server is stopped for two seconds, twice, as by
+    its machine's host."""
+    stopping = threading.Thread(target=stop_twice, args=(trial.server.number,), daemon=True)
+    stopping.start()
+    try:
+        return comes_whole(trial, trial.part(count), 10_000, 2_000_000)
+    finally:
+        stopping.join()
+
+
+def stop_twice(number, seconds=2):
+    """Stops this process for so many seconds, three seconds from now, and again as long after that."""
+    for _ in range(2):
+        time.sleep(3)
+        os.kill(number, signal.SIGSTOP)
+        time.sleep(seconds)
+        os.kill(number, signal.SIGCONT)
+
+
+def fast_enough_with_pauses(trial, count=4000):
+    """4,000 SENDs of 10,000 octets that come at once, to one that reads 2 MB a second, and from the sixth second on stands still for 0.9 s each
+    three seconds."""
+    return comes_whole(trial, trial.part(count), 10_000, 2_000_000, Pauses(6, 3, 0.9))
+
+
+class Pauses:
+    """Pauses of so many seconds, from so many seconds on, and again each so many."""
+
+    def __init__(self, first, each, length):
+        self.due, self.each, self.length = time.monotonic() + first, each, length
+
+    def rest(self):
+        """Rests, where it is time."""
+        if time.monotonic() >= self.due:
+            self.due += self.each
+            time.sleep(self.length)
+
+
+def comes_whole(trial, count, size, rate, pauses=None):
+    """So many SENDs at once, to one that reads so many octets a second, but for these pauses."""
     _, topic = trial.topic_alone()
     (reader, sender), begun = trial.open(2), time.monotonic()
     reader.ask(subscribe(topic))
     sending = threading.Thread(target=sender.send, args=(count * send_frame(topic, b"x" * size),), daemon=True)
     sender.socket.settimeout(None)
     sending.start()
-    came, number = read_frames(reader, count, rate, 120)
+    came, number = read_frames(reader, count, rate, 120, pauses)
     close_all([reader, sender])
     sending.join()
     trial.expect(number is None and came == count, f"{came:,} of {count:,} came, then {number}")
     return f"{came:,} of {count:,} SENDs came in {time.monotonic() - begun:.1f} s"
 
 
-def read_frames(client, count, rate, seconds):
-    """Reads so many octets a second until so many frames came; how many did whole, and the number of an ERROR that was the last."""
+def read_frames(client, count, rate, seconds, pauses):
+    """Reads so many octets a second, but for pauses, until so many frames came; how many did whole, and the number of an ERROR that was the
+    last."""
     begun, read, came, tail = time.monotonic(), 0, 0, b""
     while came < count and time.monotonic() < begun + seconds:
+        if pauses:
+            pauses.rest()
         due = int(rate * (time.monotonic() - begun)) - read
         piece = client.socket.recv(min(due, 1 << 16)) if due >= 1000 else None
         if piece is None:
@@ -257,6 +301,8 @@ ROWS = [
     slow_for_a_minute,
     fast_enough,
     fast_enough_for_large_sends,
+    fast_enough_with_pauses,
+    fast_enough_where_the_server_stands_still,
     read_after_the_last,
     waiting_for_receipts,
     sharing_a_slow_topic,

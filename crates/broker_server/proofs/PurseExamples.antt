@@ -8,7 +8,7 @@ use Rattle.broker_server.specs.declared.serving.pace.Pace.{Pace}
 use Rattle.broker_server.specs.declared.serving.fund.Fund.{Fund}
 use Rattle.broker_server.specs.declared.serving.purse.Purse.{Purse}
 use Rattle.broker_server.specs.declared.serving.account.Account.{Account}
-use Rattle.broker_server.specs.Purses.{tenth, later_moment, time_since, dearer, no_tenths, tenth_octets, tenths_after, lately_taken, has_rate, price_at, known_price, after_octets, after_falling_behind, after_catching_up, after_keeping_up, after_giving_up, is_proven, is_trusted_at, as_trusted, full_fund, most_lacking, fund_with, after_time, may_wait, may_trust, common_pays, trust_pays, PurseCall, Begins, GoesOn, Ends, Pays, after_call, after_calls, AreInTime, waited_cost, spared_after, spared_at, price_at_look, account_at_look, debt, is_line_due}
+use Rattle.broker_server.specs.Purses.{tenth, later_moment, time_since, dearer, no_tenths, tenth_octets, tenths_after, lately_taken, has_rate, price_at, known_price, after_octets, after_falling_behind, after_catching_up, after_keeping_up, after_giving_up, is_proven, is_trusted_at, as_trusted, full_fund, most_lacking, fund_with, after_time, paid_time, may_wait, may_trust, common_pays, trust_pays, PurseCall, Begins, GoesOn, Ends, Pays, after_call, after_calls, AreInTime, waited_cost, spared_after, spared_at, price_at_look, account_at_look, debt, is_line_due}
 
 -- this many tenths of a second from the clock's beginning
 abbrev at : ℕ → Moment
@@ -95,6 +95,17 @@ slower_costs_all = refl
 -- 4 MiB that the system's buffers took at once, and nothing since
 pub buffers_are_no_pace : price_at (after_octets (after_falling_behind newcomer (at 100)) (at 100) 4194304) (at 105) ≡ Full
 buffers_are_no_pace = refl
+
+-- one that took 9 MB while it was behind, and then nothing for eight tenths, costs a sixtieth still, and all after eleven:
+-- what its buffers hold it had taken before
+abbrev pausing : Pace
+pausing = after_octets (after_octets (after_falling_behind newcomer (at 100)) (at 100) 8800000) (at 110) 200000
+
+pub paused_for_a_while : price_at pausing (at 118) ≡ Sixtieth
+paused_for_a_while = refl
+
+pub paused_too_long : price_at pausing (at 121) ≡ Full
+paused_too_long = refl
 
 -- one that isn't behind costs nothing
 pub not_behind : price_at newcomer (at 105) ≡ Free
@@ -215,29 +226,43 @@ waiting_at price = record { common = full; trust = full; at = at 100; waiting = 
 abbrev spent_purse : Purse
 spent_purse = record { common = empty; trust = full; at = at 100; waiting = 0; price = Full }
 
+-- the same once nine tenths of a second were paid, a tenth at each look
+abbrev paid_nine : Price → Purse
+paid_nine price = record (waiting_at price) { common = record { lacks = 540000000000; spent = false }; at = at 109 }
+
 -- it pays for a second less a nanosecond at the full price, and is empty after a second
-pub pays_in_full : may_wait (after_call (waiting_at Full) (GoesOn (record { 0 = 10999999999 }) Full)) ≡ true
+pub pays_a_tenth : (after_time (waiting_at Full) (at 101) Full).common.lacks ≡ 60000000000
+pays_a_tenth = refl
+
+pub pays_in_full : may_wait (after_call (paid_nine Full) (GoesOn (record { 0 = 10999999999 }) Full)) ≡ true
 pays_in_full = refl
 
-pub is_empty : after_call (waiting_at Full) (GoesOn (at 110) Full) ≡ record (waiting_at Full) { common = empty; at = at 110 }
+pub is_empty : after_call (paid_nine Full) (GoesOn (at 110) Full) ≡ record (waiting_at Full) { common = empty; at = at 110 }
 is_empty = refl
 
-pub passes_over : may_wait (after_call (waiting_at Full) (GoesOn (at 110) Full)) ≡ false
+pub passes_over : may_wait (after_call (paid_nine Full) (GoesOn (at 110) Full)) ≡ false
 passes_over = refl
 
--- it pays for a minute at a sixtieth
-pub pays_a_minute : (after_time (waiting_at Sixtieth) (at 699) Sixtieth).common.lacks ≡ 599000000000
-pays_a_minute = refl
+-- a tenth at a sixtieth takes a six-hundredth of what it holds, so that it pays for a minute
+pub a_tenth_at_a_sixtieth : (after_time (waiting_at Sixtieth) (at 101) Sixtieth).common.lacks ≡ 1000000000
+a_tenth_at_a_sixtieth = refl
 
-pub empty_after_a_minute : (after_time (waiting_at Sixtieth) (at 700) Sixtieth).common.spent ≡ true
+pub empty_after_a_minute : (after_time (record (waiting_at Sixtieth) { common = record { lacks = 599000000000; spent = false }; at = at 699 }) (at 700) Sixtieth).common.spent ≡ true
 empty_after_a_minute = refl
 
 -- a time that costs nothing costs nothing, and a full purse isn't more than full
 pub free_for_ever : after_time (waiting_at Free) (at 100000) Free ≡ record (waiting_at Free) { at = at 100000 }
 free_for_ever = refl
 
--- who waited for two seconds before anybody looked took what it held, and a tenth that it did not
-pub a_tenth_more : (after_time (waiting_at Full) (at 120) Full).common.lacks ≡ most_lacking
+-- who waited for two seconds before anybody looked pays two tenths of that
+pub nobody_looked : (after_time (waiting_at Full) (at 120) Full).common.lacks ≡ 600 * paid_time (20 * tenth)
+nobody_looked = refl
+
+pub two_tenths_of_it : 600 * paid_time (20 * tenth) ≡ 120000000000
+two_tenths_of_it = refl
+
+-- who waited for two tenths before anybody looked, where it held one, took that, and a tenth that it did not
+pub a_tenth_more : (after_time (paid_nine Full) (at 111) Full).common.lacks ≡ most_lacking
 a_tenth_more = refl
 
 -- an empty one is full after ten minutes, and pays nothing until one minute has passed
@@ -267,7 +292,11 @@ trusted_may = refl
 pub others_may_not : may_wait (after_call (record spent_purse { waiting = 1 }) (GoesOn (at 109) Trusted)) ≡ false
 others_may_not = refl
 
-pub nor_the_trusted_after_a_second : may_trust (after_call (record spent_purse { waiting = 1 }) (GoesOn (at 110) Trusted)) ≡ false
+-- which has paid for nine tenths of a second of theirs
+abbrev trusted_for_nine : Purse
+trusted_for_nine = record spent_purse { waiting = 1; at = at 109; trust = record { lacks = 540000000000; spent = false } }
+
+pub nor_the_trusted_after_a_second : may_trust (after_call trusted_for_nine (GoesOn (at 110) Trusted)) ≡ false
 nor_the_trusted_after_a_second = refl
 
 -- what is common pays nothing meanwhile; once the other is spent it pays

@@ -6,7 +6,7 @@ use Rattle.broker_server.specs.declared.serving.price.Price.{Price}
 use Rattle.broker_server.specs.declared.serving.price.Price.TheVariants.{Free, Sixtieth, Full, Trusted}
 use Rattle.broker_server.specs.declared.serving.fund.Fund.{Fund}
 use Rattle.broker_server.specs.declared.serving.purse.Purse.{Purse}
-use Rattle.broker_server.specs.Purses.{AreInTime, Begins, Ends, GoesOn, IsBounded, Pays, PurseCall, after_call, after_calls, after_time, change_by, common_back, common_pays, full_fund, fund_after, fund_with, least_fund, moment_of, most_lacking, paid_rate, price_until, rate, tenth, trust_back, trust_pays, waited_cost}
+use Rattle.broker_server.specs.Purses.{AreInTime, Begins, Ends, GoesOn, IsBounded, Pays, PurseCall, after_call, after_calls, after_time, change_by, common_back, common_pays, full_fund, fund_after, fund_with, least_fund, moment_of, most_lacking, paid_rate, paid_time, price_until, rate, tenth, trust_back, trust_pays, waited_cost}
 
 -- ---- one fund
 
@@ -58,8 +58,8 @@ time_in_order : (purse : Purse) (now : Moment) (price : Price) → AreInOrder (a
 time_in_order purse now price =
     let time = now.0 - purse.at.0 in
     record {
-      common = after_in_order purse.common (paid_rate (common_pays purse price) price * time) (common_back * time);
-      trust = after_in_order purse.trust (paid_rate (trust_pays purse price) price * time) (trust_back * time);
+      common = after_in_order purse.common (paid_rate (common_pays purse price) price * paid_time time) (common_back * time);
+      trust = after_in_order purse.trust (paid_rate (trust_pays purse price) price * paid_time time) (trust_back * time);
     }
 
 call_in_order : (purse : Purse) (call : PurseCall) → AreInOrder (after_call purse call)
@@ -89,7 +89,7 @@ record IsFund (fund_of : Purse → Fund) (pays : Purse → Price → Bool) (back
   keeps : (purse : Purse) → AreInOrder purse → InOrder (fund_of purse)
   awaited : (purse : Purse) (price : Price) → pays purse price ≡ true → 0 < purse.waiting
   unspent : (purse : Purse) (price : Price) → pays purse price ≡ true → (fund_of purse).spent ≡ false
-  settled : (purse : Purse) (now : Moment) (price : Price) → fund_of (after_time purse now price) ≡ fund_after (fund_of purse) (paid_rate (pays purse price) price * (now.0 - purse.at.0)) (back * (now.0 - purse.at.0))
+  settled : (purse : Purse) (now : Moment) (price : Price) → fund_of (after_time purse now price) ≡ fund_after (fund_of purse) (paid_rate (pays purse price) price * paid_time (now.0 - purse.at.0)) (back * (now.0 - purse.at.0))
   no_less : (call : PurseCall) (purse : Purse) → AreInOrder purse → (fund_of purse).lacks ≤ (fund_of (change_by call purse)).lacks
 
 common_no_less : (call : PurseCall) (purse : Purse) → AreInOrder purse → purse.common.lacks ≤ (change_by call purse).common.lacks
@@ -136,6 +136,16 @@ unspent_by : (fund_of : Purse → Fund) (pays : Purse → Price → Bool) (back 
 unspent_by fund_of pays back is purse price time false same costs = absurd (omega (arith, costs))
 unspent_by fund_of pays back is purse price time true same costs = is.unspent purse price same
 
+-- where it costs something all of it is paid
+paid_by : (fund_of : Purse → Fund) (pays : Purse → Price → Bool) (back : ℕ) → IsFund fund_of pays back
+    → (purse : Purse) (now : Moment) (price : Price) → (0 < purse.waiting → now.0 ≤ purse.at.0 + tenth)
+    → (paying : Bool) → pays purse price ≡ paying
+    → paid_rate paying price * paid_time (now.0 - purse.at.0) ≡ paid_rate paying price * (now.0 - purse.at.0)
+paid_by fund_of pays back is purse now price in_time false same = omega arith
+paid_by fund_of pays back is purse now price in_time true same =
+    let all : paid_time (now.0 - purse.at.0) ≡ now.0 - purse.at.0 = omega (arith, in_time (is.awaited purse price same)) in
+    rw all refl
+
 -- the parts of a time have the parts of what comes back in it
 split : (back begun next ends : ℕ) → begun ≤ next → next ≤ ends → back * (ends - begun) ≡ back * (next - begun) + back * (ends - next)
 split back begun next ends first second =
@@ -150,7 +160,8 @@ time_step fund_of pays back is purse now price order in_time =
     let time = now.0 - purse.at.0 in
     let small = small_by fund_of pays back is purse now price in_time (pays purse price) refl in
     let unspent = unspent_by fund_of pays back is purse price time (pays purse price) refl in
-    rw (is.settled purse now price) (fund_step (fund_of purse) (paid_rate (pays purse price) price * time) (back * time) (is.keeps purse order) small unspent)
+    let paid = paid_by fund_of pays back is purse now price in_time (pays purse price) refl in
+    rw (is.settled purse now price) (rw paid (fund_step (fund_of purse) (paid_rate (pays purse price) price * time) (back * time) (is.keeps purse order) small unspent))
 
 -- the same of a call
 call_step : (fund_of : Purse → Fund) (pays : Purse → Price → Bool) (back : ℕ) → IsFund fund_of pays back

@@ -1,5 +1,5 @@
 -- How much memory a connection holds, and when it is refused more (own).
-use Rattle.std.specs.Prelude.{◌≡◌, ◌⊎◌, ℕ, ◌+◌, ◌-◌, nat_lt, nat_le, Bool, ◌&&◌, ◌||◌, List, [], length, Option, Some, None, IsSome}
+use Rattle.std.specs.Prelude.{◌≡◌, ◌⊎◌, ℕ, ◌+◌, ◌-◌, ◌*◌, nat_lt, nat_le, Bool, ◌&&◌, ◌||◌, List, [], length, Option, Some, None, IsSome}
 use Rattle.mcast_txn.specs.Transaction.{weight}
 use Rattle.stomp_session.specs.Open.{open_weight}
 use Rattle.broker_server.specs.declared.conversation.conversation_fault.ConversationFault.TheVariants as fault
@@ -38,13 +38,27 @@ MakesRoom old asked new =
 abbrev pub is_told : ℕ → ℕ → Bool
 is_told told now = nat_le 65536 (now - told) || nat_le 65536 (told - now)
 
--- Whether those who were passed over make room: where all hold 768 MiB together, and 256 MiB of that were
--- committed, which may be in their queues. So not where one holds 900 MiB in open transactions, and nothing
--- else is there.
+-- Whether memory is short, so that those who don't take what is there make room: where all hold 768 MiB together,
+-- and 256 MiB of that were committed, which may be in their queues. So not where some hold 900 MiB in open
+-- transactions, and nothing else is there.
 abbrev pub is_short : ℕ → ℕ → Bool
 is_short kept sent = nat_le 805306368 (kept + sent) && nat_le 268435456 sent
 
--- Whether who wants more is refused: where all hold over 1 GiB together, and he over 4 MiB. So who holds 4 MiB
--- or less gets what he wants, whatever others hold, and 256 connections hold 2 GiB at most.
-abbrev pub is_refused : ℕ → ℕ → Bool
-is_refused all own = nat_lt 1073741824 all && nat_lt 4194304 own
+-- How many nanoseconds the system may take nothing of what waits for a connection then: a second, and 32 for each
+-- octet that all hold less than 896 MiB. So 5.3 s at 768 MiB, 3.1 s at 832, and a second from 896 on: who has
+-- taken nothing for longest leaves first.
+abbrev pub time_to_take : ℕ → ℕ
+time_to_take all = 1000000000 + (939524096 - all) * 32
+
+-- Whether who holds so many octets that aren't committed, and so many that were, is refused more, where all hold so
+-- many: where that is over 2 GiB; or he holds over 4 MiB in all, and less is left of 1 GiB than isn't committed of
+-- it, or as much. So
+-- - beyond 2 GiB nobody gets anything, whoever committed what is there, and though he has left;
+-- - beyond 1 GiB who holds over 4 MiB gets nothing, and who holds less what he wants;
+-- - one who opens transactions alone is refused at 512 MiB, where as many are left; a second one, beside the first,
+--   at 256 MiB; a third at 128 MiB; and a transaction of 64 MiB still finds room where all hold 900 MiB;
+-- - what he committed, and others haven't taken, counts for the 4 MiB, but is no part of that share: who has
+--   committed 700 MiB, and opens 10 more, is refused nothing.
+abbrev pub is_refused : ℕ → ℕ → ℕ → Bool
+is_refused all kept sent =
+    nat_lt 2147483648 all || (nat_le (1073741824 - all) kept && nat_lt 4194304 (kept + sent))

@@ -134,15 +134,21 @@ is_proven pace = is_free pace.known && nat_le most_buffered pace.ever
 abbrev pub pace_price : Bool → Bool → Price
 pace_price is_fast is_slow = if is_fast then Free else if is_slow then Sixtieth else Full
 
+-- how much of a tenth counts for being fast, and for being slow: twice its share, since the system's buffers
+-- take much at once; where they are known to hold less than was taken all that a second has
+abbrev pub fast_tenth : Pace → ℕ
+fast_tenth pace = if is_proven pace then fast else twice_a_tenth fast
+
+abbrev pub slow_tenth : Pace → ℕ
+slow_tenth pace = if nat_le most_buffered pace.ever then slow else twice_a_tenth slow
+
 -- the price after so long a time of being behind: in the first tenth the one that is known, else by what
--- was taken since it is behind, over a second at most. Of a tenth twice its share counts, since the system's
--- buffers take much at once; where they are known to hold less than was taken all that a second has.
+-- was taken since it is behind, over a second at most
 abbrev pub price_behind : Pace → Moment → ℕ → Price
 price_behind pace now time =
-    let most = if is_proven pace then fast else twice_a_tenth fast in
     if nat_lt time tenth then pace.known else
-    pace_price (is_taking pace.tenths.tenths now (min time second) fast most)
-    (is_taking pace.tenths.tenths now (min time second) slow (twice_a_tenth slow))
+    pace_price (is_taking pace.tenths.tenths now (min time second) fast (fast_tenth pace))
+    (is_taking pace.tenths.tenths now (min time second) slow (slow_tenth pace))
 
 -- a connection's price: nothing where it isn't behind
 abbrev pub price_at : Pace → Moment → Price
@@ -247,14 +253,19 @@ common_back = 1
 abbrev pub trust_back : ℕ
 trust_back = 60
 
+-- Of a time so much is paid, two tenths at most: who waits looks each tenth, so what is more is lateness of ours.
+-- So a machine that stood still for a minute, with all that runs on it, costs nobody more.
+abbrev pub paid_time : ℕ → ℕ
+paid_time time = min time (2 * tenth)
+
 -- a purse after the time until this moment, at this price
 abbrev pub after_time : Purse → Moment → Price → Purse
 after_time purse now price =
     let time = now.0 - purse.at.0 in
     record purse {
       at = later_moment purse.at now;
-      common = fund_after purse.common (paid_rate (common_pays purse price) price * time) (common_back * time);
-      trust = fund_after purse.trust (paid_rate (trust_pays purse price) price * time) (trust_back * time);
+      common = fund_after purse.common (paid_rate (common_pays purse price) price * paid_time time) (common_back * time);
+      trust = fund_after purse.trust (paid_rate (trust_pays purse price) price * paid_time time) (trust_back * time);
     }
 
 -- Those that lack room may be waited for, where they aren't trusted.

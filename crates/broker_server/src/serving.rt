@@ -35,7 +35,6 @@ mod minute;
 mod moment;
 mod naming;
 mod outfit;
-mod overdue;
 mod pace;
 mod passage;
 mod peer;

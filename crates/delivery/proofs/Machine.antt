@@ -1,5 +1,6 @@
 -- What every run of the machine keeps, move by move.
 pub mod AnswerLemmas
+pub mod ByFound
 pub mod TopicOfMove
 pub mod ClocksGrow
 pub mod Effects

@@ -4,7 +4,6 @@ ghost use Rattle.std.specs.Prelude.{◌≡◌};
 
 use crate::serving::activity::Activity;
 use crate::serving::intake::Intake;
-use crate::serving::overdue::Overdue;
 use crate::serving::shown::Shown;
 use mio::Waker;
 use std::sync::atomic::{AtomicBool, AtomicU8, Ordering};
@@ -25,8 +24,6 @@ pub(crate) struct Bell {
     state: AtomicU8,
     /// Whether more is there for the connection than the system takes of it.
     stuck: AtomicBool,
-    /// Whether it was passed over, and is to make room.
-    overdue: Overdue,
     waker: Waker,
     intake: Intake,
     /// What the connection did, as it was shown last.
@@ -39,7 +36,6 @@ impl Bell {
         Bell {
             state: AtomicU8::new(AWAKE),
             stuck: AtomicBool::new(false),
-            overdue: Overdue::new(),
             waker,
             intake: Intake::new(),
             shown: Shown::new(),
@@ -51,20 +47,6 @@ impl Bell {
         ensures { result.now ≡ self.now.intake }
     {
         &self.intake
-    }
-
-    /// Whether the connection was passed over, and is to make room.
-    pub(crate) fn overdue(&self) -> &Overdue
-        ensures { result.now ≡ self.now.overdue }
-    {
-        &self.overdue
-    }
-
-    /// Tells the thread that memory is short, if the connection was passed over, and wasn't told.
-    pub(crate) fn ring_overdue(&self) {
-        if self.overdue.becomes_due() {
-            self.ring();
-        }
     }
 
     /// Shows what the connection did so far.

@@ -11,7 +11,7 @@ use crate::conversation::{BrokerCalls, ConversationFault};
 use crate::serving::activity::Activity;
 use crate::serving::asker::Asker;
 use crate::serving::bell::Bell;
-use crate::serving::holding::{is_refused, is_short, is_told};
+use crate::serving::holding::{is_refused, is_short, is_told, time_to_take};
 use crate::serving::hub::Hub;
 use crate::serving::moment::Moment;
 use crate::serving::peer::Peer;
@@ -206,7 +206,6 @@ impl<'a, R: Wait + Log + Clock, W: Side, T: Side> Calls<'a, R, W, T> {
     #[inline(never)]
     fn tell_held(&self, octets: u64) {
         self.meter.tell_open(octets);
-        self.note_short();
     }
 
     /// It holds nothing any more that isn't committed.
@@ -214,12 +213,16 @@ impl<'a, R: Wait + Log + Clock, W: Side, T: Side> Calls<'a, R, W, T> {
         self.meter.tell_open(0);
     }
 
-    /// Where memory is short, those who were passed over are told.
-    fn note_short(&self) {
+    /// How long the system may take nothing of what waits for it, where memory is short.
+    pub(crate) fn time_to_take(&self) -> Option<Span>
+        ensures { IfSome result (λ time. 1000000000 ≤ time.0) }
+    {
         let all = self.meter.all();
-        if is_short(all.open(), all.sent()) {
-            self.hub.ring_overdue(self.rt);
+        let (open, sent) = (all.open(), all.sent());
+        if !is_short(open, sent) {
+            return None;
         }
+        Some(time_to_take(open.saturating_add(sent)))
     }
 
     /// A transaction that isn't light is counted to this connection until it is gone, where there is memory for that.
@@ -886,8 +889,8 @@ impl<'a, R: Wait + Log + Clock, W: Side, T: Side> BrokerCalls for Calls<'a, R, W
     fn may_hold(&self, octets: u64) -> bool {
         self.note_held(octets);
         let all = self.meter.all();
-        let own = octets.saturating_add(self.meter.sent());
-        !is_refused(all.open().saturating_add(all.sent()), own)
+        let held = all.open().saturating_add(all.sent());
+        !is_refused(held, octets, self.meter.sent())
     }
 
     fn charged(&self, txn: Txn) -> Txn {

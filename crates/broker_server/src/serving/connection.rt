@@ -140,10 +140,12 @@ impl<'a, 'b, R: Wait + Log + Clock, W: Side, T: Side> Connection<'a, 'b, R, W, T
         if told || desk.talk.has_more() {
             busy = desk.deliver();
         }
-        let sent = desk.write();
-        desk.note_stuck();
-        if told && self.outfit.bell.overdue().takes_due() {
-            desk.make_room();
+        let mut sent = desk.write();
+        if desk.note_stuck()
+            && let Some(time) = desk.calls.time_to_take()
+        {
+            let is_passed_over = desk.is_passed_over();
+            sent = sent.saturating_add(desk.make_room(is_passed_over, time));
         }
         if desk.talk.is_leaving() {
             return Round::Leaving;

@@ -1,6 +1,6 @@
 //! What a connection's thread works at.
 
-ghost use Rattle.std.specs.Prelude.{◌≡◌, ◌==◌, ◌&&◌, true, false, List, [], None, is_some};
+ghost use Rattle.std.specs.Prelude.{◌≡◌, ◌<◌, ◌==◌, ◌&&◌, true, false, List, [], None, is_some};
 ghost use Rattle.broker_server.specs.BrokerRows.{BrokerRow};
 ghost use Rattle.broker_server.specs.Delivering.{DeliversRound, may_read};
 ghost use Rattle.broker_server.specs.Sockets.{SocketReads, SocketWrites};
@@ -11,6 +11,7 @@ use crate::serving::activity::Activity;
 use crate::serving::calls::Calls;
 use crate::serving::moment::Moment;
 use crate::serving::socket::{Came, Socket};
+use crate::serving::span::Span;
 use crate::serving::streak::Streak;
 use broker_locks::Side;
 use log::Log;
@@ -91,6 +92,9 @@ impl<'a, R: Wait + Log + Clock, W: Side, T: Side> Desk<'a, R, W, T> {
             self.new.socket self.new.talk.wire }
         ensures calls { self.new.calls ≡ self.old.calls }
         ensures talk { self.new.talk ≡ record self.old.talk { wire = self.new.talk.wire } }
+        ensures taken { 0 < result → self.new.untaken ≡ None }
+        ensures untaken { result ≡ 0 → self.new.untaken ≡ self.old.untaken }
+        ensures first { self.old.untaken ≡ None → self.new.untaken ≡ None }
     {
         if self.is_written() {
             return 0;
@@ -114,6 +118,9 @@ impl<'a, R: Wait + Log + Clock, W: Side, T: Side> Desk<'a, R, W, T> {
             self.new.socket self.new.talk.wire }
         ensures calls { self.new.calls ≡ self.old.calls }
         ensures talk { self.new.talk ≡ record self.old.talk { wire = self.new.talk.wire } }
+        ensures taken { 0 < result → self.new.untaken ≡ None }
+        ensures untaken { result ≡ 0 → self.new.untaken ≡ self.old.untaken }
+        ensures first { self.old.untaken ≡ None → self.new.untaken ≡ None }
     {
         let sent = self.socket.write(&mut self.talk);
         if sent > 0 {
@@ -176,22 +183,45 @@ impl<'a, R: Wait + Log + Clock, W: Side, T: Side> Desk<'a, R, W, T> {
         self.calls.note_held(self.talk.uncommitted());
     }
 
-    /// Memory is short, and it was passed over. Where that is so still, and more is in its queues than its client takes, it
-    /// makes room; where nothing is, it is told again by who finds memory short next.
+    /// Memory is short, and it is stuck. A write is tried again: how many octets went out. Where more is there still than the
+    /// system takes, and one of its subscriptions is passed over, or nothing was taken for so long, it makes room: it leaves.
     #[inline(never)]
-    pub(crate) fn make_room(&mut self) {
-        if !self.is_passed_over() {
-            return;
-        }
-        if self.talk.has_more() {
+    pub(crate) fn make_room(&mut self, is_passed_over: bool, time: Span) -> usize
+        ensures none { self.old.talk.more ≡ false → self.new.talk ≡ record self.old.talk { wire = self.new.talk.wire } }
+        ensures reads { is_passed_over ≡ false → 0 < result
+            → self.new.talk ≡ record self.old.talk { wire = self.new.talk.wire } }
+        ensures first { is_passed_over ≡ false → self.old.untaken ≡ None
+            → self.new.talk ≡ record self.old.talk { wire = self.new.talk.wire } }
+    {
+        self.socket.try_again();
+        let sent = self.write();
+        if self.is_overdue(is_passed_over, time) {
             self.talk.make_room(&mut self.calls);
-        } else {
-            self.calls.bell().overdue().set_passed_over();
         }
+        sent
+    }
+
+    /// Whether it is to make room, where one of its subscriptions is passed over, or none is, and nothing may be taken for so
+    /// long.
+    fn is_overdue(&mut self, is_passed_over: bool, time: Span) -> bool
+        ensures stuck { result ≡ true → (self.old.talk.more && self.old.socket.blocked) ≡ true }
+        ensures passed_over { is_passed_over ≡ true
+            → result ≡ (self.old.talk.more && self.old.socket.blocked) }
+        ensures first { is_passed_over ≡ false → self.old.untaken ≡ None → result ≡ false }
+        ensures same { self.new ≡ record self.old { untaken = self.new.untaken } }
+    {
+        if !self.is_stuck() {
+            return false;
+        }
+        if is_passed_over {
+            return true;
+        }
+        let now = self.now();
+        self.is_untaken(now, Duration::from_nanos(time.0))
     }
 
     /// Whether one of its subscriptions is passed over.
-    fn is_passed_over(&self) -> bool {
+    pub(crate) fn is_passed_over(&self) -> bool {
         for at in 0..usize::MAX {
             let Some(sub) = self.talk.sub_at(at) else {
                 return false;
@@ -237,11 +267,23 @@ impl<'a, R: Wait + Log + Clock, W: Side, T: Side> Desk<'a, R, W, T> {
         self.calls.bell().show(&self.activity());
     }
 
-    /// It is stuck where more is there than the system takes: it looks again once that takes some.
-    pub(crate) fn note_stuck(&self) {
-        if self.talk.has_more() && self.socket.is_blocked() {
+    /// Whether more is there than the system takes.
+    #[inline(always)]
+    fn is_stuck(&self) -> bool
+        ensures { result ≡ (self.now.talk.more && self.now.socket.blocked) }
+    {
+        self.talk.has_more() && self.socket.is_blocked()
+    }
+
+    /// It is stuck where more is there than the system takes: it looks again once that takes some. Whether it is.
+    pub(crate) fn note_stuck(&self) -> bool
+        ensures { result ≡ (self.now.talk.more && self.now.socket.blocked) }
+    {
+        let is_stuck = self.is_stuck();
+        if is_stuck {
             self.calls.bell().set_stuck(true);
         }
+        is_stuck
     }
 
     /// Does for the thread of this connection, which sleeps, what that would do once it was told: takes what is there,
@@ -270,22 +312,27 @@ impl<'a, R: Wait + Log + Clock, W: Side, T: Side> Desk<'a, R, W, T> {
     /// is woken meanwhile, it ends the subscriptions that have lagged. Whether there is one, and the system has taken
     /// nothing for a minute: the connection would be told of the lag behind that.
     pub(crate) fn is_lost(&mut self) -> bool {
-        let is_untaken = self.is_untaken();
+        let now = self.now();
+        let is_untaken = self.is_untaken(now, untaken_time());
         self.waits = self.waits.wrapping_add(1) % WAITS;
         self.waits == 0 && self.end_lagged() && is_untaken
     }
 
-    /// Whether the system has taken nothing of what waits for a minute. By a clock that can't be read it has.
-    fn is_untaken(&mut self) -> bool
+    /// Now, by a clock that can be read.
+    fn now(&self) -> Option<Instant> {
+        Instant::now(self.calls.rt()).ok()
+    }
+
+    /// Whether the system has taken nothing of what waits for so long, at this moment. By a clock that can't be read it has.
+    fn is_untaken(&mut self, now: Option<Instant>, time: Duration) -> bool
         ensures first { self.old.untaken ≡ None → result ≡ false }
+        ensures begins { self.old.untaken ≡ None → self.new.untaken ≡ now }
         ensures since { is_some self.old.untaken ≡ true → self.new ≡ self.old }
         ensures same { self.new ≡ record self.old { untaken = self.new.untaken } }
     {
-        let now = Instant::now(self.calls.rt()).ok();
-        match (self.untaken, now) {
-            (Some(since), Some(now)) => now.duration_since(since) >= untaken_time(),
-            (Some(_), None) => true,
-            (None, _) => {
+        match self.untaken {
+            Some(since) => is_over(since, now, time),
+            None => {
                 self.untaken = now;
                 false
             }
@@ -320,6 +367,14 @@ impl<'a, R: Wait + Log + Clock, W: Side, T: Side> Desk<'a, R, W, T> {
             octets_out: _,
         } = self;
         (socket, calls)
+    }
+}
+
+/// Whether this time is over since then, at that moment. By a clock that can't be read it is.
+fn is_over(since: Instant, now: Option<Instant>, time: Duration) -> bool {
+    match now {
+        Some(now) => now.duration_since(since) >= time,
+        None => true,
     }
 }
 

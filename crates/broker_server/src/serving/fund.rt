@@ -1,7 +1,7 @@
 //! What there is to pay waiting with.
 
 ghost use Rattle.std.specs.Prelude.{◌≡◌, ◌+◌, ◌*◌, false};
-ghost use Rattle.broker_server.specs.Purses.{fund_after, fund_with};
+ghost use Rattle.broker_server.specs.Purses.{fund_after, fund_with, paid_time};
 
 use crate::serving::cost::Cost;
 use crate::serving::span::Span;
@@ -14,6 +14,9 @@ const LEAST: u64 = 60_000_000_000;
 
 /// What it lacks at most: who waits looks each tenth of a second, and may then have waited for a tenth more than it held.
 const MOST_LACKING: u64 = FULL_FUND + LEAST;
+
+/// Of a time so much is paid at most (our choice): two tenths of a second, in nanoseconds. Who waits looks each tenth.
+const MOST_PAID: u64 = 200_000_000;
 
 /// What there is to pay waiting with.
 #[derive(Clone, Copy)]
@@ -57,11 +60,12 @@ impl Fund {
         self.lack(self.lacks.saturating_add(cost.0));
     }
 
-    /// It pays so much for each nanosecond of this time, or where that is nothing has so much of each back.
+    /// It pays so much for each nanosecond of this time, as far as that is paid, or where that is nothing has so much of
+    /// each back.
     pub(crate) fn settles(&mut self, rate: u64, back: u64, time: Span)
-        ensures { self.new ≡ fund_after self.old (rate * time.0) (back * time.0) }
+        ensures { self.new ≡ fund_after self.old (rate * paid_time time.0) (back * time.0) }
     {
-        let cost = rate.saturating_mul(time.0);
+        let cost = rate.saturating_mul(time.0.min(MOST_PAID));
         if cost == 0 {
             let back = back.saturating_mul(time.0);
             self.lack(self.lacks.saturating_sub(back));

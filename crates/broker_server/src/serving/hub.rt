@@ -294,14 +294,6 @@ impl<R: Wait, W: Side, T: Side> Hub<R, W, T> {
         Ok(Arc::new(alloc, Meter::new(self.holdings.clone()?))?)
     }
 
-    /// Memory is short: those who were passed over are told to make room.
-    #[inline(never)]
-    pub(crate) fn ring_overdue(&self, rt: &R) {
-        for (_, bell) in self.connections.lock(rt).iter() {
-            bell.ring_overdue();
-        }
-    }
-
     /// Who has this seat is told of what the topic releases from now on.
     pub(crate) fn listen(&self, rt: &R, topic: Topic, seat: &Arc<Seat>) -> Result<(), AllocError>
         ensures { length self.now.topics.items ≤ topic.0 → result ≡ Ok tt }

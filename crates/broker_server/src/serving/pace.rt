@@ -7,6 +7,7 @@ ghost use Rattle.broker_server.specs.Purses.{
   after_giving_up,
   after_keeping_up,
   after_octets,
+  fast_tenth,
   has_rate,
   is_taking,
   is_proven,
@@ -15,6 +16,7 @@ ghost use Rattle.broker_server.specs.Purses.{
   no_tenths,
   pace_price,
   price_at,
+  slow_tenth,
   twice_a_tenth,
 };
 
@@ -218,6 +220,28 @@ impl Pace {
         has_rate(self.tenths.lately(now, most), time, wanted)
     }
 
+    /// How much of a tenth of a second counts for being fast.
+    fn fast_tenth(&self) -> u32
+        ensures { result ≡ fast_tenth self.now }
+    {
+        if self.is_proven() {
+            FAST
+        } else {
+            twice_a_tenth(FAST)
+        }
+    }
+
+    /// How much of one counts for being slow: where more was taken than the system's buffers hold, all that a second has.
+    fn slow_tenth(&self) -> u32
+        ensures { result ≡ slow_tenth self.now }
+    {
+        if self.ever >= MOST_BUFFERED {
+            SLOW
+        } else {
+            twice_a_tenth(SLOW)
+        }
+    }
+
     /// What waiting for it costs at this moment.
     pub(crate) fn price(&self, now: Moment) -> Price
         ensures { result ≡ price_at self.now now }
@@ -230,15 +254,8 @@ impl Pace {
             return self.known;
         }
         let time = Span(time.0.min(SECOND));
-        let most = if self.is_proven() {
-            FAST
-        } else {
-            twice_a_tenth(FAST)
-        };
-        let is_fast = self.is_taking(now, time, FAST, most);
-        pace_price(
-            is_fast,
-            self.is_taking(now, time, SLOW, twice_a_tenth(SLOW)),
-        )
+        let is_fast = self.is_taking(now, time, FAST, self.fast_tenth());
+        let is_slow = self.is_taking(now, time, SLOW, self.slow_tenth());
+        pace_price(is_fast, is_slow)
     }
 }

@@ -123,7 +123,6 @@ impl Seat {
     /// Senders passed it over: once its queue is empty it is to be waited for again.
     pub(crate) fn set_passed_over(&self) {
         self.passed_over.store(true, Ordering::SeqCst);
-        self.bell.overdue().set_passed_over();
     }
 
     /// Whether senders passed it over, and its queue wasn't found empty since.

@@ -142,6 +142,13 @@ impl Socket {
         self.note(events);
     }
 
+    /// A write is to be tried again.
+    pub(crate) fn try_again(&mut self)
+        ensures { self.new ≡ record self.old { blocked = false } }
+    {
+        self.blocked = false;
+    }
+
     /// Reads once, into this room, unless nothing can be there. A failed read is the peer's end. Once a write has failed
     /// the poll isn't waited for.
     #[inline(always)]

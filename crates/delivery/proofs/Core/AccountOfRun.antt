@@ -1,14 +1,12 @@
 -- The account of a run's steps is what the machine answered to its moves, refusals and what was merely done aside.
-use Rattle.std.proofs.Common.{◌≡◌, ℕ, ◌+◌, ◌<◌, ◌==◌, Bool, true, false, cond, not, ◌&&◌, ◌⊎◌, inl, inr, List, [], ◌∷◌, ◌++◌, length, Option, Some, None, refl, sym, ap, subst, ◌∙◌, true≢false}
-use Rattle.delivery.proofs.Words.Std.{ltb-true, false≢true, not-false, slice_get, codes, is_some, option_map, option_map_or, option_or, option_to_list}
+use Rattle.delivery.proofs.Words.Std.{◌≡◌, ℕ, ◌+◌, ◌<◌, ◌==◌, Bool, true, false, cond, not, ◌&&◌, ◌⊎◌, inl, inr, List, [], ◌∷◌, ◌++◌, length, Option, Some, None, refl, sym, ap, subst, ◌∙◌, true≢false, ltb-true, false≢true, not-false, slice_get, codes, is_some, option_map, option_map_or, option_or, option_to_list}
 use Rattle.delivery.proofs.Words.Topics.{Topic, TxnId, SentMessage, greatest, first_refusal, In, Item, ProposeFault, Pending, due_part}
 use Rattle.delivery.proofs.Words.Frames.{RawFrame, Action, Command, first_of, Unread, action_by, commit, Held, held_after, is_ended, transactions_left, sends_in, is_known, has_destination, field, topic_of, id_of, transaction_of, send_of}
 use Rattle.delivery.proofs.Words.Lemmas.{NoneHolds, some_same, none_some}
-use Rattle.delivery.proofs.Words.Machine.{due, Run, answers_of, final_world, Objection, refusal_of, accepted_at, World, Leftover, topic_at, connection_at, subscription_at, speaker, start, speaker_number, Move, Answer, world_after, answer_to, move_refusal, move_effect, move_answer, needs_open, needs_idle, undecided_at, find_leftover, oldest_live, or_out_of_memory, commit_answer, proposal_fault, propose_answer, cancel_answer, release_answer, take_answer, leave_answer, next_ticket, end_now, next_txn, run, answers_from}
+use Rattle.delivery.proofs.Words.Machine.{due, Run, answers_of, final_world, Objection, refusal_of, accepted_at, World, Leftover, topic_at, connection_at, subscription_at, speaker, start, speaker_number, Move, Answer, world_after, answer_to, move_refusal, move_effect, move_answer, needs_open, needs_idle, undecided_at, find_leftover, oldest_live, or_out_of_memory, commit_answer, proposal_fault, propose_answer, cancel_answer, release_answer, take_answer, leave_answer, next_ticket, end_now, next_txn, run, answers_from, Commits, Subscribes, Unsubscribes, Disconnects, Errs, Lost, Leaves, Proposes, Decides, Withdraws, Cancels, Learns, Releases, Turns, Takes, Connects, AddsTopic}
 use Rattle.delivery.proofs.Words.Core.{TopicList, Event, Outcome, Refusal, ConnectionFault, CoreStep, Reading, frame_in, has_effect, accepted_of, names_after, number_by, account_of, account_of_step, last_of, sends_by, has_closed, replies_to, Core, core_of, moves, session_at, frame_move, topic_moves, is_faulted, is_out_of_memory, unread_at, outcome_of, move_outcome, unless, frame_no_memory, frame_fault, fault_outcomes, frame_outcome, reading_outcomes, cut_of, is_any, reply_outcomes, outcomes, IsCoreRun, accepted_outcomes, outcomes_without, wants_memory, claims_of, claimed_sender, sender_of}
 use Rattle.stomp_session.specs.declared.action.Action.TheVariants as actions
 use Rattle.stomp_frame.specs.declared.command.Command.TheVariants as commands
-use Rattle.delivery.specs.Machine.Moves.Move.{Commits, Subscribes, Unsubscribes, Disconnects, Errs, Lost, Leaves, Proposes, Decides, Withdraws, Cancels, Learns, Releases, Turns, Takes, Connects, AddsTopic}
 use Rattle.delivery.proofs.Machine.Invariant.{sender_in}
 use Rattle.delivery.proofs.Machine.SenderSteps.{leftover_found, In-append_cases}
 use Rattle.delivery.proofs.Machine.Effects.{made_answer, made_world, refused_answer}

@@ -1,9 +1,8 @@
 -- Of a played row: its steps tell what its machine answered, and its report is what they tell.
-use Rattle.delivery.proofs.Words.Std.{ℕ, ◌+◌, Bool, true, false, List, [], ◌∷◌, ◌++◌, map, length, list_all, flat_map, bytes_eq}
+use Rattle.delivery.proofs.Words.Std.{ℕ, ◌+◌, Bool, true, false, List, [], ◌∷◌, ◌++◌, map, length, list_all, flat_map, bytes_eq, ◌&&◌}
 use Rattle.delivery.proofs.Words.Topics.{Topic, TxnId, Stamp, zero_stamp, LogRow, Item, last_stamp}
 use Rattle.delivery.proofs.Words.Machine.{due, log_row, Answer, commits_of, delivered_items}
 use Rattle.delivery.proofs.Words.Core.{QueueReport, Report, account_of, released_log, Core, report_of, log_in, each_number, reported_begun}
-use Rattle.std.specs.Prelude.{◌&&◌}
 use Rattle.delivery.proofs.Core.ShownReadings.{shows_reading}
 use Rattle.delivery.specs.Core.Answered.{begun_in}
 use Rattle.delivery.proofs.Core.Acts.{Act, machine_account, played, topic}

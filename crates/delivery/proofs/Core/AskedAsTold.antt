@@ -1,10 +1,9 @@
 -- A subscription whose end was asked for has ended at its own topic's frontier then.
 use Rattle.std.proofs.Common.{◌≡◌, ℕ, List, [], ◌∷◌, Option, Some, None, refl, sym, ap, ◌∙◌}
-use Rattle.delivery.proofs.Words.Topics.{Topic, EntryEnd}
+use Rattle.delivery.proofs.Words.Topics.{Topic, EntryEnd, Asked}
 use Rattle.delivery.proofs.Words.Lemmas.{some_same, none_some}
 use Rattle.delivery.proofs.Words.Machine.{World, subscription_at, entry_at, end_at, entry_to, Move, Answer, world_after, answer_to, Run, answers_of, final_world}
 use Rattle.delivery.proofs.Words.Core.{released_frontier}
-use Rattle.mcast_group.specs.declared.cause.Cause.TheVariants.{Asked}
 use Rattle.delivery.proofs.Machine.SpanSteps.{step_tells}
 use Rattle.delivery.proofs.Theorem.AcceptedIsDue.{reached}
 use Rattle.delivery.proofs.Theorem.ClosedAsAnswered.{spans_end_at_frontier, closed_as_told, closes_are_told, closed_stays}

@@ -1,8 +1,6 @@
 -- At no moment of a run did a queue have more than its capacity that wasn't delivered: what its subscription is due up to its
 -- topic's frontier then.
-use Rattle.std.proofs.Common.{◌≡◌, ℕ, ◌+◌, ◌<◌, ◌≤◌, Bool, true, false, cond, not, ◌&&◌, ◌⊎◌, inl, inr, List, [], ◌∷◌, ◌++◌, map, length, Option, Some, None, refl, sym, ap, subst, ◌∙◌, arith, append-nil}
-use Rattle.std.specs.List.{filter}
-use Rattle.delivery.proofs.Words.Std.{true≢false, and_parts, and_from, cases_lt, filter-append}
+use Rattle.delivery.proofs.Words.Std.{◌≡◌, ℕ, ◌+◌, ◌<◌, ◌≤◌, Bool, true, false, cond, not, ◌&&◌, ◌⊎◌, inl, inr, List, [], ◌∷◌, ◌++◌, map, length, Option, Some, None, refl, sym, ap, subst, ◌∙◌, arith, append-nil, true≢false, and_parts, and_from, cases_lt, filter-append, filter}
 use Rattle.delivery.proofs.Words.Topics.{Topic, Stamp, zero_stamp, stamp_lt, CommitRow, agreed, In, Rises, LogRow, Item, Span, last_stamp, row_stamp, item_stamp, in_span, up_to, names, topics_of, IsQueueOf}
 use Rattle.delivery.proofs.Words.Lemmas.{In-append_right, filter_same, filter_none, filter_twice, lt_irrefl, le_lt, le_trans, zero_least}
 use Rattle.delivery.proofs.Words.Machine.{item_at, is_due, due, World, start, topic_at, subscription_at, accepted_at, end_at, span_at, frontier_at, Move, Answer, world_after, answer_to, commits_of, delivered_items, Run, answers_of, final_world}

@@ -1,10 +1,8 @@
 -- Worked rows of senders that outlive a connection.
-use Rattle.delivery.proofs.Words.Std.{◌≡◌, ℕ, List, [], ◌∷◌, map, codes, Some, None}
-use Rattle.delivery.proofs.Words.Core.{Event, Refusal, ConnectionFault, Claim, begun_count, claims_of, kept_count, sender_claimed, senders_of, sender_of, Core, new_core, report_of}
-use Rattle.std.proofs.Common.{false, refl}
+use Rattle.delivery.proofs.Words.Std.{false, refl, ◌≡◌, ℕ, List, [], ◌∷◌, map, codes, Some, None}
+use Rattle.delivery.proofs.Words.Core.{Event, Refusal, ConnectionFault, Claim, begun_count, claims_of, kept_count, sender_claimed, senders_of, sender_of, Core, new_core, report_of, Opened, Done, Flying, Proposed, Failed, Decided, Withdrawn, Cancelled, Turned, Faulted, Leaving, Gone, Refused}
 use Rattle.stomp_frame.specs.declared.command.Command.TheVariants as commands
 use Rattle.mcast_group.specs.declared.fault.ProposeFault.TheVariants as proposals
-use Rattle.delivery.specs.declared.outcome.Outcome.TheVariants.{Opened, Done, Flying, Proposed, Failed, Decided, Withdrawn, Cancelled, Turned, Faulted, Leaving, Gone, Refused}
 use Rattle.delivery.proofs.Core.Agreement.{agreements, all_agree}
 use Rattle.delivery.proofs.Core.Rows.{greeting}
 use Rattle.delivery.proofs.Core.Acts.{topic_list, Act, frame, topic, stamp, id, log_row, act, reads, played, shown_outcomes, begin, send, send_in, commit, opens, propose, turn, A, B}

@@ -1,14 +1,12 @@
 -- Whom each connection of a core speaks for, and how many senders there are, is as the accepted CONNECTs say.
-use Rattle.std.proofs.Common.{◌≡◌, ℕ, ◌+◌, ◌<◌, ◌==◌, Bool, true, false, cond, not, ◌&&◌, List, [], ◌∷◌, ◌++◌, length, get_or, set, Option, Some, None, inl, inr, refl, sym, ap, subst, ◌∙◌, arith, true≢false}
-use Rattle.delivery.proofs.Words.Std.{codes, list_all, position_or_len, option_map, option_map_or, option_and_then, option_to_list, option_or, unwrap_or, false≢true, and_parts, ltb-true, eqb-true, eq-eqb, not-false, length_push}
-use Rattle.delivery.proofs.Words.Topics.{Decision, first_refusal, In, Topic, TxnId, SentMessage, Item, ProposeFault, Entry}
+use Rattle.delivery.proofs.Words.Std.{◌≡◌, ℕ, ◌+◌, ◌<◌, ◌==◌, Bool, true, false, cond, not, ◌&&◌, List, [], ◌∷◌, ◌++◌, length, get_or, set, Option, Some, None, inl, inr, refl, sym, ap, subst, ◌∙◌, arith, true≢false, codes, list_all, position_or_len, option_map, option_map_or, option_and_then, option_to_list, option_or, unwrap_or, false≢true, and_parts, ltb-true, eqb-true, eq-eqb, not-false, length_push}
+use Rattle.delivery.proofs.Words.Topics.{first_refusal, In, Topic, SentMessage, Item, ProposeFault, Entry}
 use Rattle.delivery.proofs.Words.Frames.{Command, RawFrame, CaseFault, is_connect, case_fault, first_of, Unread, Action, SessionFault, is_known, field, transaction_of, send_of, client_of, has_destination, Held, action_by, commit, sends_in, session_fault}
 use Rattle.delivery.proofs.Words.Lemmas.{at_set, at_set_within, none_some, not_true}
-use Rattle.delivery.proofs.Words.Machine.{Objection, refusal_of, World, Connection, Leftover, SenderState, nobody, new_sender, connection_at, speaker, speaker_number, subscription_at, entry_at, Move, world_after, move_refusal, move_effect, needs_idle, find_leftover, find_verdict, oldest_live, claimed_senders, connect_effect, commit_effect, proposal_fault, propose_effect, cancel_effect, learn_effect, take_effect, leave_effect, close_effect_of, run}
+use Rattle.delivery.proofs.Words.Machine.{Objection, refusal_of, World, Connection, SenderState, nobody, new_sender, connection_at, speaker, speaker_number, subscription_at, entry_at, Move, world_after, move_refusal, move_effect, needs_idle, find_leftover, find_verdict, oldest_live, claimed_senders, connect_effect, commit_effect, proposal_fault, propose_effect, cancel_effect, learn_effect, take_effect, leave_effect, close_effect_of, run, AddsTopic, Opens, Connects, Commits, Unsubscribes, Disconnects, Errs, Lost, Leaves, Proposes, Decides, Withdraws, Cancels, Learns, Takes}
 use Rattle.delivery.proofs.Words.Core.{Event, Outcome, Refusal, ConnectionFault, TopicList, CoreStep, Reading, frame_in, has_effect, Claim, claim_of, claims_of, is_kept, begins, begun_count, kept_sender, claimed_sender, sender_claimed, is_one_client, senders_of, sender_of, is_cut, Core, core_for, core_of, names_at, moves, topic_moves, frame_move, session_at, is_no_memory, unless, frame_no_memory, claim_fault, frame_fault, fault_outcomes, outcomes_without, reading_outcomes, outcomes, accepted_outcomes, IsCoreRun}
 use Rattle.stomp_frame.specs.declared.command.Command.TheVariants as commands
 use Rattle.stomp_session.specs.declared.action.Action.TheVariants as actions
-use Rattle.delivery.specs.Machine.Moves.Move.{AddsTopic, Opens, Connects, Commits, Unsubscribes, Disconnects, Errs, Lost, Leaves, Proposes, Decides, Withdraws, Cancels, Learns, Takes}
 use Rattle.delivery.proofs.Machine.SubscriptionSteps.{at_push, set_length}
 use Rattle.delivery.proofs.Machine.InvariantIsKept.{by_refusal, checked}
 use Rattle.delivery.proofs.Core.SenderPlaces.{no_place, place_of}
@@ -37,21 +35,9 @@ standing : (w : World) (c : ℕ) (x : Connection) → x.sender ≡ (connection_a
 standing w c x e d =
     at_set (λ (z : Connection). z.sender ≡ (connection_at w d).sender) w.connections c d x nobody (λ k. e ∙ ap (λ n. (connection_at w n).sender) (sym k)) refl
 
-flown : (w : World) (c : ℕ) (sends : List SentMessage) → Keeps w (commit_effect w c sends)
-flown w c [] = alike w
-flown w c (first ∷ others) = record { senders = set_length w.senders (speaker_number w c) _; spoken = λ d. refl }
-
 proposed : (w : World) (c : ℕ) (t : Topic) (o : Option ProposeFault) → Keeps w (propose_effect w c t o)
 proposed w c t None = record { senders = set_length w.senders (speaker_number w c) _; spoken = λ d. refl }
 proposed w c t (Some fault) = record { senders = set_length w.senders (speaker_number w c) _; spoken = λ d. refl }
-
-cancelled : (w : World) (c : ℕ) (t : Topic) (o : Option Leftover) → Keeps w (cancel_effect w c t o)
-cancelled w c t None = alike w
-cancelled w c t (Some k) = record { senders = set_length w.senders (speaker_number w c) _; spoken = λ d. refl }
-
-learned : (w : World) (t : Topic) (id : TxnId) (o : Option Decision) → Keeps w (learn_effect w t id o)
-learned w t id None = alike w
-learned w t id (Some v) = record { senders = refl; spoken = λ d. refl }
 
 closed : (w : World) (s : ℕ) (o : Option Entry) → Keeps w (close_effect_of w s o)
 closed w s None = alike w
@@ -71,7 +57,7 @@ effect_keeps w Opens q = record {
   senders = refl;
   spoken = λ c. at_push (λ (z : Connection). z.sender ≡ (connection_at w c).sender) w.connections c _ nobody (λ k e. e) refl;
 }
-effect_keeps w (Commits c sends) q = flown w c sends
+effect_keeps w (Commits c sends) q = elim sends as (λ sends. Keeps w (commit_effect w c sends)) [ [] ↦ alike w | first ∷ others ↦ record { senders = set_length w.senders (speaker_number w c) _; spoken = λ d. refl } ]
 effect_keeps w (Unsubscribes c s) q = closed w s (entry_at w s)
 effect_keeps w (Disconnects c) q = record { senders = refl; spoken = standing w c _ refl }
 effect_keeps w (Errs c) q = record { senders = refl; spoken = standing w c _ refl }
@@ -80,8 +66,8 @@ effect_keeps w (Leaves c) q = left w c (oldest_live c 0 w.subscriptions)
 effect_keeps w (Proposes c t memory) q = proposed w c t (proposal_fault w c t memory)
 effect_keeps w (Decides c) q = record { senders = set_length w.senders (speaker_number w c) _; spoken = λ d. refl }
 effect_keeps w (Withdraws c) q = record { senders = set_length w.senders (speaker_number w c) _; spoken = standing w c _ refl }
-effect_keeps w (Cancels c t) q = cancelled w c t (find_leftover t (speaker w c).leftovers)
-effect_keeps w (Learns t id) q = learned w t id (find_verdict id w.verdicts)
+effect_keeps w (Cancels c t) q = elim (find_leftover t (speaker w c).leftovers) as (λ o. Keeps w (cancel_effect w c t o)) [ None ↦ alike w | Some k ↦ record { senders = set_length w.senders (speaker_number w c) _; spoken = λ d. refl } ]
+effect_keeps w (Learns t id) q = elim (find_verdict id w.verdicts) as (λ o. Keeps w (learn_effect w t id o)) [ None ↦ alike w | Some v ↦ record { senders = refl; spoken = λ d. refl } ]
 effect_keeps w (Takes s) q = handed w s _
 effect_keeps w _ q = record { senders = refl; spoken = λ d. refl }
 

@@ -1,15 +1,14 @@
 -- How many topics and connections there are after a run of the core.
-use Rattle.std.proofs.Common.{◌≡◌, ℕ, suc, ◌+◌, Bool, true, false, cond, not, ◌&&◌, inl, inr, true≢false, List, [], ◌∷◌, ◌++◌, length, Option, Some, None, refl, sym, ap, subst, ◌∙◌, arith}
-use Rattle.delivery.proofs.Words.Std.{codes, list_all, false≢true, and_parts, option_map_or, option_to_list, length_push}
-use Rattle.delivery.proofs.Words.Topics.{Topic, TxnId, SentMessage, Decision, Item, ProposeFault, Entry, new_topic, first_refusal, In}
+use Rattle.delivery.proofs.Words.Std.{◌≡◌, ℕ, suc, ◌+◌, Bool, true, false, cond, not, ◌&&◌, inl, inr, true≢false, List, [], ◌∷◌, ◌++◌, length, Option, Some, None, refl, sym, ap, subst, ◌∙◌, arith, codes, list_all, false≢true, and_parts, option_map_or, option_to_list, length_push}
+use Rattle.delivery.proofs.Words.Topics.{Item, Entry, new_topic, first_refusal, In}
 use Rattle.delivery.proofs.Words.Frames.{Action, action_by, is_known, field, has_destination, with_destination, RawFrame}
 use Rattle.delivery.proofs.Words.Lemmas.{some_same}
-use Rattle.delivery.proofs.Words.Machine.{World, Leftover, new_topics, speaker, subscription_at, entry_at, Move, Answer, world_after, answer_to, move_refusal, move_effect, needs_open, needs_idle, find_leftover, find_verdict, oldest_live, commit_effect, proposal_fault, propose_effect, cancel_effect, learn_effect, take_effect, leave_effect, close_effect_of, run, IsAnswer, Objection, refusal_of}
+use Rattle.delivery.proofs.Words.Machine.{World, new_topics, speaker, subscription_at, entry_at, Move, Answer, world_after, answer_to, move_refusal, move_effect, needs_open, needs_idle, find_leftover, find_verdict, oldest_live, commit_effect, proposal_fault, propose_effect, cancel_effect, learn_effect, take_effect, leave_effect, close_effect_of, run, IsAnswer, Objection, refusal_of, AddsTopic, Opens, Connects, Commits, Subscribes, Unsubscribes, Disconnects, Errs, Lost, Leaves, Proposes, Decides, Withdraws, Cancels, Learns, Releases, Turns, Takes}
 use Rattle.delivery.proofs.Words.Core.{Event, Outcome, TopicList, CoreStep, Reading, frame_in, has_effect, is_cut, Core, log_limit, core_after, core_for, core_of, moves, frame_move, names_at, session_at, topic_moves, is_faulted, is_no_memory, unread_at, Refusal, ConnectionFault, number_by, outcome_of, move_outcome, unless, frame_no_memory, frame_fault, fault_outcomes, frame_outcome, reading_outcomes, cut_of, reply_outcomes, outcomes, IsReadAt, IsCoreRun, accepted_outcomes, is_any, outcomes_without, wants_memory, claims_of, claimed_sender}
 use Rattle.stomp_session.specs.declared.action.Action.TheVariants as actions
 use Rattle.delivery.proofs.Core.ByRun.{run_append}
-use Rattle.delivery.specs.Machine.Moves.Move.{AddsTopic, Opens, Connects, Commits, Subscribes, Unsubscribes, Disconnects, Errs, Lost, Leaves, Proposes, Decides, Withdraws, Cancels, Learns, Releases, Turns, Takes}
 use Rattle.delivery.proofs.Machine.SubscriptionSteps.{set_length}
+use Rattle.delivery.proofs.Machine.ByFound.{InEachCase, by_found, by_entry}
 use Rattle.delivery.specs.Core.Delivery.{opened_by, opened_in}
 use Rattle.delivery.proofs.Machine.SenderSteps.{In-append_cases}
 use Rattle.delivery.proofs.Machine.InvariantIsKept.{by_refusal}
@@ -36,22 +35,6 @@ record Grown (w v : World) (n : ℕ) : Type 0 where
 same : (w v : World) → length v.topics ≡ length w.topics → length v.connections ≡ length w.connections → Grown w v 0
 same w v a b = record { topics = a; connections = omega arith }
 
-flown : (w : World) (c : ℕ) (sends : List SentMessage) → Grown w (commit_effect w c sends) 0
-flown w c [] = same w w refl refl
-flown w c (first ∷ others) = same w _ refl refl
-
-proposed : (w : World) (c : ℕ) (t : Topic) (o : Option ProposeFault) → Grown w (propose_effect w c t o) 0
-proposed w c t None = same w _ (set_length w.topics t.0 _) refl
-proposed w c t (Some fault) = same w _ refl refl
-
-cancelled : (w : World) (c : ℕ) (t : Topic) (o : Option Leftover) → Grown w (cancel_effect w c t o) 0
-cancelled w c t None = same w w refl refl
-cancelled w c t (Some k) = same w _ (set_length w.topics t.0 _) refl
-
-learned : (w : World) (t : Topic) (id : TxnId) (o : Option Decision) → Grown w (learn_effect w t id o) 0
-learned w t id None = same w w refl refl
-learned w t id (Some v) = same w _ (set_length w.topics t.0 _) refl
-
 closed : (w : World) (s : ℕ) (o : Option Entry) → Grown w (close_effect_of w s o) 0
 closed w s None = same w w refl refl
 closed w s (Some e) = same w _ (set_length w.topics (subscription_at w s).topic.0 _) refl
@@ -68,18 +51,18 @@ effect_grows : (w : World) (e : Move) → adds_none e ≡ true → Grown w (move
 effect_grows w (AddsTopic clock) n = absurd (false≢true n)
 effect_grows w Opens n = record { topics = refl; connections = length_push w.connections _ ∙ omega arith }
 effect_grows w (Connects c claimed) n = same w _ refl (set_length w.connections c _)
-effect_grows w (Commits c sends) n = flown w c sends
+effect_grows w (Commits c sends) n = elim sends as (λ sends. Grown w (commit_effect w c sends) 0) [ [] ↦ same w w refl refl | first ∷ others ↦ same w _ refl refl ]
 effect_grows w (Subscribes c t) n = same w _ (set_length w.topics t.0 _) refl
 effect_grows w (Unsubscribes c s) n = closed w s (entry_at w s)
 effect_grows w (Disconnects c) n = same w _ refl (set_length w.connections c _)
 effect_grows w (Errs c) n = same w _ refl (set_length w.connections c _)
 effect_grows w (Lost c) n = same w _ refl (set_length w.connections c _)
 effect_grows w (Leaves c) n = left w c (oldest_live c 0 w.subscriptions)
-effect_grows w (Proposes c t memory) n = proposed w c t (proposal_fault w c t memory)
+effect_grows w (Proposes c t memory) n = elim (proposal_fault w c t memory) as (λ o. Grown w (propose_effect w c t o) 0) [ None ↦ same w _ (set_length w.topics t.0 _) refl | Some fault ↦ same w _ refl refl ]
 effect_grows w (Decides c) n = same w _ refl refl
 effect_grows w (Withdraws c) n = same w _ refl (set_length w.connections c _)
-effect_grows w (Cancels c t) n = cancelled w c t (find_leftover t (speaker w c).leftovers)
-effect_grows w (Learns t id) n = learned w t id (find_verdict id w.verdicts)
+effect_grows w (Cancels c t) n = elim (find_leftover t (speaker w c).leftovers) as (λ o. Grown w (cancel_effect w c t o) 0) [ None ↦ same w w refl refl | Some k ↦ same w _ (set_length w.topics t.0 _) refl ]
+effect_grows w (Learns t id) n = elim (find_verdict id w.verdicts) as (λ o. Grown w (learn_effect w t id o) 0) [ None ↦ same w w refl refl | Some v ↦ same w _ (set_length w.topics t.0 _) refl ]
 effect_grows w (Releases t) n = same w _ (set_length w.topics t.0 _) refl
 effect_grows w (Turns t) n = same w _ (set_length w.topics t.0 _) refl
 effect_grows w (Takes s) n = taken w s _
@@ -159,17 +142,9 @@ cut_plain : (c : ℕ) (b : Bool) → list_all is_plain (Decides c ∷ cond b (Lo
 cut_plain c true = refl
 cut_plain c false = refl
 
-cut_none : (c : ℕ) (b : Bool) → list_all opens_none (Decides c ∷ cond b (Lost c ∷ []) []) ≡ true
-cut_none c true = refl
-cut_none c false = refl
-
 take_plain : (s : ℕ) (b : Bool) → list_all is_plain (cond b [] (Takes s ∷ [])) ≡ true
 take_plain s true = refl
 take_plain s false = refl
-
-take_none : (s : ℕ) (b : Bool) → list_all opens_none (cond b [] (Takes s ∷ [])) ≡ true
-take_none s true = refl
-take_none s false = refl
 
 -- the event opens a connection
 abbrev is_open_event : Event → Bool
@@ -179,8 +154,8 @@ is_open_event e = false
 event_none_opened : (k : Core) (e : Event) (rd : Reading) (o : Outcome) → is_open_event e ≡ false → list_all opens_none (moves k e rd o) ≡ true
 event_none_opened k Event.Open rd o p = absurd (true≢false p)
 event_none_opened k (Event.Next c) rd o p = next_none_opened k c (is_faulted o) (has_effect o) (frame_in rd)
-event_none_opened k (Event.Decide c) rd o p = cut_none c (is_cut o)
-event_none_opened k (Event.Take s) rd o p = take_none s (is_no_memory o)
+event_none_opened k (Event.Decide c) rd o p = elim (is_cut o) as (λ b. list_all opens_none (Decides c ∷ cond b (Lost c ∷ []) []) ≡ true) [ true ↦ refl | false ↦ refl ]
+event_none_opened k (Event.Take s) rd o p = elim (is_no_memory o) as (λ b. list_all opens_none (cond b [] (Takes s ∷ [])) ≡ true) [ true ↦ refl | false ↦ refl ]
 event_none_opened k _ rd o p = refl
 
 -- ---- the outcomes of an event
@@ -368,46 +343,15 @@ counted topics capacity steps same run = (topics_counted topics capacity steps s
 
 -- ---- how many rows a topic holds
 
-closed_limit : (w : World) (s : ℕ) (o : Option Entry) → (close_effect_of w s o).log_limit ≡ w.log_limit
-closed_limit w s None = refl
-closed_limit w s (Some e) = refl
-
 -- no move changes it
-effect_limit : (w : World) (e : Move) → (move_effect w e).log_limit ≡ w.log_limit
-effect_limit w (Commits c []) = refl
-effect_limit w (Commits c (first ∷ others)) = refl
-effect_limit w (Unsubscribes c s) = closed_limit w s (entry_at w s)
-effect_limit w (Leaves c) = left_limit (oldest_live c 0 w.subscriptions)
-  where
-    left_limit : (o : Option ℕ) → (leave_effect w c o).log_limit ≡ w.log_limit
-    left_limit None = refl
-    left_limit (Some s) = closed_limit w s (entry_at w s)
-effect_limit w (Proposes c t memory) = proposed_limit (proposal_fault w c t memory)
-  where
-    proposed_limit : (o : Option ProposeFault) → (propose_effect w c t o).log_limit ≡ w.log_limit
-    proposed_limit None = refl
-    proposed_limit (Some fault) = refl
-effect_limit w (Cancels c t) = cancelled_limit (find_leftover t (speaker w c).leftovers)
-  where
-    cancelled_limit : (o : Option Leftover) → (cancel_effect w c t o).log_limit ≡ w.log_limit
-    cancelled_limit None = refl
-    cancelled_limit (Some k) = refl
-effect_limit w (Learns t id) = learned_limit (find_verdict id w.verdicts)
-  where
-    learned_limit : (o : Option Decision) → (learn_effect w t id o).log_limit ≡ w.log_limit
-    learned_limit None = refl
-    learned_limit (Some v) = refl
-effect_limit w (Takes s) = taken_limit _
-  where
-    taken_limit : (o : Option Item) → (take_effect w s o).log_limit ≡ w.log_limit
-    taken_limit None = refl
-    taken_limit (Some item) = refl
-effect_limit w _ = refl
+effect_limit : (w : World) (e : Move) → InEachCase (λ v o. v.log_limit ≡ w.log_limit) w e
+effect_limit w (Leaves c) = (refl, λ s. by_entry (λ v. v.log_limit ≡ w.log_limit) w s refl (λ k. refl))
+effect_limit w _ = (refl, λ k. refl)
 
 run_limit : (ms : List Move) (w : World) → (run ms w).log_limit ≡ w.log_limit
 run_limit [] w = refl
 run_limit (e ∷ es) w =
-    run_limit es (world_after w e) ∙ by_refusal (λ v o. v.log_limit ≡ w.log_limit) w e (λ why. refl) (λ m. effect_limit w e)
+    run_limit es (world_after w e) ∙ by_refusal (λ v o. v.log_limit ≡ w.log_limit) w e (λ why. refl) (λ m. by_found (λ v o. v.log_limit ≡ w.log_limit) w e (effect_limit w e))
 
 -- so it is that of a core
 pub limit_counted : (topics : TopicList) (capacity : ℕ) (steps : List CoreStep) → (core_of topics capacity steps).world.log_limit ≡ log_limit

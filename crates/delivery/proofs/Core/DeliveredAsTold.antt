@@ -1,10 +1,8 @@
 -- What is delivered by an account in the machine's answers is delivered by what is told of them.
-use Rattle.std.proofs.Common.{◌≡◌, ℕ, ◌+◌, ◌≤◌, true, false, List, [], ◌∷◌, ◌++◌, map, length, Some, refl, sym, ap, subst, ◌∙◌}
-use Rattle.delivery.proofs.Words.Std.{true≢false, take, slice_get, enumerate_from, last_or}
-use Rattle.delivery.proofs.Words.Topics.{Topic, Stamp, zero_stamp, stamp_lt, CommitRow, committed_id, stamp_of, agreed, EachOnce, SenderOrder, In, Item, LogRow, last_stamp}
+use Rattle.delivery.proofs.Words.Std.{◌≡◌, ℕ, ◌+◌, ◌≤◌, true, false, List, [], ◌∷◌, ◌++◌, map, length, Some, refl, sym, ap, subst, ◌∙◌, true≢false, take, slice_get, enumerate_from, last_or}
+use Rattle.delivery.proofs.Words.Topics.{Topic, Stamp, zero_stamp, stamp_lt, CommitRow, committed_id, stamp_of, agreed, EachOnce, SenderOrder, In, Item, LogRow, last_stamp, Asked}
 use Rattle.delivery.proofs.Words.Machine.{Answer, commits_of, delivered_items, log_row, due, SilentAfterClose}
 use Rattle.delivery.proofs.Words.Core.{released_log, released_frontier, QueueReport, Report, log_in, Told, committed, frontier_of, handed_count, reported_begun, last_queued, LagsAsAnswered, IsAsAnswered, DeliversAnswers, Delivers}
-use Rattle.mcast_group.specs.declared.cause.Cause.TheVariants.{Asked}
 use Rattle.delivery.specs.Core.Delivery.{Lags, IsAsTold}
 use Rattle.delivery.proofs.Core.Moments.{at_moment, from_moments, always_one, always_told}
 use Rattle.delivery.proofs.Core.Tells.{tells, tell, committed_told, log_told, frontier_told, handed_told, begun_told, tell_append}

@@ -1,11 +1,9 @@
 -- What every run of the core delivers: the laws of the machine's run, said of the account and of the report.
-use Rattle.std.proofs.Common.{◌≡◌, ℕ, zero, suc, ◌+◌, ◌<◌, ◌≤◌, inl, inr, List, [], ◌∷◌, ◌++◌, map, length, get_or, Option, Some, None, refl, sym, ap, subst, ◌∙◌, arith}
-use Rattle.delivery.proofs.Words.Std.{take, slice_get}
-use Rattle.delivery.proofs.Words.Topics.{Topic, Stamp, zero_stamp, committed_id, stamp_of, agreed, EachOnce, SenderOrder, In, LogRow, last_stamp, Cause, TopicState, EntryEnd, new_topic}
+use Rattle.delivery.proofs.Words.Std.{◌≡◌, ℕ, zero, suc, ◌+◌, ◌<◌, ◌≤◌, inl, inr, List, [], ◌∷◌, ◌++◌, map, length, get_or, Option, Some, None, refl, sym, ap, subst, ◌∙◌, arith, take, slice_get}
+use Rattle.delivery.proofs.Words.Topics.{Topic, Stamp, zero_stamp, committed_id, stamp_of, agreed, EachOnce, SenderOrder, In, LogRow, last_stamp, Cause, TopicState, EntryEnd, new_topic, Asked, Lag}
 use Rattle.delivery.proofs.Words.Lemmas.{some_same, none_some}
 use Rattle.delivery.proofs.Words.Machine.{due, log_row, Run, answers_of, final_world, shared_marks, accepted_at, span_at, log_at, frontier_at, entry_to, World, Subscription, no_subscription, subscription_at, entry_at, Answer, commits_of, delivered_items, SilentAfterClose}
 use Rattle.delivery.proofs.Words.Core.{TopicList, CoreStep, beginning_of, Beginning, released_frontier, account_of, Core, core_of, IsCoreRun, QueueReport, Report, report_of, queue_report, each_number, log_in, Delivers, Told, told_of, reported_begun, IsAsAnswered, DeliversAnswers}
-use Rattle.mcast_group.specs.declared.cause.Cause.TheVariants.{Asked, Lag}
 use Rattle.delivery.proofs.Theorem.AcceptedIsDue.{reached, accepted_is_due, shared_in_one_order, agreed_once, agreed_in_sender_order}
 use Rattle.delivery.proofs.Theorem.LogIsOfAnswers.{log_is_of_outcomes}
 use Rattle.delivery.proofs.Theorem.SettledLeavesNoneOut.{settled_in_log}

@@ -1,6 +1,5 @@
 -- The world in which a frame's destination has its topic: but for that topic it is the world of before.
-use Rattle.std.proofs.Common.{◌≡◌, ℕ, Bool, true, false, cond, not, ◌&&◌, List, [], ◌∷◌, ◌++◌, length, None, refl, ap}
-use Rattle.delivery.proofs.Words.Std.{codes}
+use Rattle.delivery.proofs.Words.Std.{◌≡◌, ℕ, Bool, true, false, cond, not, ◌&&◌, List, [], ◌∷◌, ◌++◌, length, None, refl, ap, codes}
 use Rattle.delivery.proofs.Words.Topics.{first_refusal, new_topic}
 use Rattle.delivery.proofs.Words.Frames.{RawFrame, field, has_destination, is_known}
 use Rattle.delivery.proofs.Words.Machine.{World, Move, needs_idle, run}

@@ -1,15 +1,13 @@
 -- What a run read of a connection are the first frames of its octets, by the grammar.
-use Rattle.std.proofs.Common.{◌≡◌, ℕ, ◌<◌, ◌==◌, Bool, true, false, cond, ◌&&◌, ◌⊎◌, inl, inr, true≢false, List, [], ◌∷◌, ◌++◌, length, Option, Some, None, refl, sym, ap, subst, ◌∙◌, append_assoc, append-nil, arith}
-use Rattle.delivery.proofs.Words.Std.{eqb-true, ltb-true, false≢true, or_parts, not-false, option_map_or, option_to_list, option_or}
+use Rattle.delivery.proofs.Words.Std.{◌≡◌, ℕ, ◌<◌, ◌==◌, Bool, true, false, cond, ◌&&◌, ◌⊎◌, inl, inr, true≢false, List, [], ◌∷◌, ◌++◌, length, Option, Some, None, refl, sym, ap, subst, ◌∙◌, append_assoc, append-nil, arith, eqb-true, ltb-true, false≢true, or_parts, not-false, option_map_or, option_to_list, option_or}
 use Rattle.delivery.proofs.Words.Topics.{first_refusal, In}
 use Rattle.delivery.proofs.Words.Frames.{Limits, RawFrame, Check, Unread, with_piece}
 use Rattle.delivery.proofs.Words.Lemmas.{at_set_within, passes}
-use Rattle.delivery.proofs.Words.Machine.{Objection, refusal_of, World, Connection, Standing, is_reading, nobody, connection_at, Move, needs_open, needs_idle, run}
+use Rattle.delivery.proofs.Words.Machine.{Objection, refusal_of, World, Connection, Standing, is_reading, nobody, connection_at, Move, needs_open, needs_idle, run, Errs}
 use Rattle.delivery.proofs.Words.Core.{TopicList, Event, Outcome, ConnectionFault, CoreStep, Reading, frame_in, is_fed, is_next, fed_octets, frames_of, reader_limits, BeginsWithFrames, Core, core_of, moves, unread_after, unread_at, IsReadBy, unless, fault_outcomes, reading_outcomes, outcomes, IsReadAt, IsCoreRun}
 use Rattle.stomp_frame.specs.Grammar.{AreEols, BeginsWith}
 use Rattle.stomp_frame.proofs.Pieces.{eols_before}
 use Rattle.stomp_frame.proofs.Whole.{keeps_first_frame}
-use Rattle.delivery.specs.Machine.Moves.Move.{Errs}
 use Rattle.delivery.proofs.Core.ShownReadings.{shown_each}
 use Rattle.delivery.specs.Core.Steps.{fed_to, AreReadings}
 use Rattle.delivery.specs.Core.State.{left_by}

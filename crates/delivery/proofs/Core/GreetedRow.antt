@@ -1,7 +1,6 @@
 -- One run with all that is asked of it, so that neither a run of the core nor its delivery is asked in vain: a connection is
 -- opened, fed a CONNECT, and greeted.
-use Rattle.std.proofs.Common.{inl, refl, arith}
-use Rattle.delivery.proofs.Words.Std.{◌≡◌, ℕ, zero, suc, ◌==◌, ◌<◌, ◌++◌, Bool, true, false, if◌then◌else◌, List, [], ◌∷◌, codes, Ok}
+use Rattle.delivery.proofs.Words.Std.{inl, refl, arith, ◌≡◌, ℕ, zero, suc, ◌==◌, ◌<◌, ◌++◌, Bool, true, false, if◌then◌else◌, List, [], ◌∷◌, codes, Ok}
 use Rattle.delivery.proofs.Words.Topics.{CommitRow, In}
 use Rattle.delivery.proofs.Words.Frames.{unread_of}
 use Rattle.delivery.proofs.Words.Lemmas.{none_some}

@@ -1,7 +1,6 @@
 -- A client-id is in use until its connection is gone: after its DISCONNECT, an ERROR or its loss no senders among which its gate
 -- is back are those of the core. So a core that gives the gate back then makes no step that its contract allows.
-use Rattle.std.proofs.Common.{refl, sym, ap, ◌∙◌}
-use Rattle.delivery.proofs.Words.Std.{◌≡◌, [], ◌∷◌, Option, Some, None, codes}
+use Rattle.delivery.proofs.Words.Std.{refl, sym, ap, ◌∙◌, ◌≡◌, [], ◌∷◌, Option, Some, None, codes}
 use Rattle.delivery.proofs.Words.Topics.{GateState, KeptSender, SendersState, find_kept}
 use Rattle.delivery.proofs.Words.Lemmas.{some_same, none_some}
 use Rattle.delivery.proofs.Words.Core.{Event, claims_of, Core}

@@ -1,13 +1,10 @@
 -- A span that lagged ends at the last item of its queue, which was full as a row came that its topic's log has above the end.
-use Rattle.std.proofs.Common.{◌≡◌, ℕ, ◌+◌, ◌<◌, ◌⊎◌, Bool, true, false, not, inl, inr, List, [], ◌∷◌, ◌++◌, length, Option, Some, None, refl, sym, ap, subst, ◌∙◌, arith, append-nil}
-use Rattle.delivery.proofs.Words.Std.{true≢false, not-true, and_parts, and_from, cases_lt, option_map}
-use Rattle.delivery.proofs.Words.Topics.{Topic, Stamp, In, Rises, LogRow, Item, last_stamp, row_stamp, item_stamp, up_to, zero_stamp, stamp_lt, Cause, EntryEnd, IsQueueOf}
+use Rattle.delivery.proofs.Words.Std.{◌≡◌, ℕ, ◌+◌, ◌<◌, ◌⊎◌, Bool, true, false, not, inl, inr, List, [], ◌∷◌, ◌++◌, length, Option, Some, None, refl, sym, ap, subst, ◌∙◌, arith, append-nil, true≢false, not-true, and_parts, and_from, cases_lt, option_map}
+use Rattle.delivery.proofs.Words.Topics.{Topic, Stamp, In, Rises, LogRow, Item, last_stamp, row_stamp, item_stamp, up_to, zero_stamp, stamp_lt, Cause, EntryEnd, IsQueueOf, Asked, Lag}
 use Rattle.delivery.proofs.Words.Lemmas.{In-append_left, In-append_right, lt_irrefl, lt_asym, lt_le, le_trans, same_stamps, zero_least, some_same, none_some}
-use Rattle.delivery.proofs.Words.Machine.{World, subscription_at, entry_at, accepted_at, end_at, log_at, frontier_at, entry_to, Move, Answer, world_after, answer_to, delivered_items, Run, answers_of, final_world, EndsBeforeRow, cause_of}
+use Rattle.delivery.proofs.Words.Machine.{World, subscription_at, entry_at, accepted_at, end_at, log_at, frontier_at, entry_to, Move, Answer, world_after, answer_to, delivered_items, Run, answers_of, final_world, EndsBeforeRow, cause_of, Unsubscribed}
 use Rattle.delivery.proofs.Words.Core.{released_frontier, QueueReport, queue_report, last_queued, LagsAsAnswered}
 use Rattle.mcast_txn.proofs.Sorting.{Rises-back, Rises-front}
-use Rattle.mcast_group.specs.declared.cause.Cause.TheVariants.{Asked, Lag}
-use Rattle.delivery.specs.Machine.Moves.Answer.{Unsubscribed}
 use Rattle.delivery.specs.Core.Reports.{cause_at}
 use Rattle.delivery.proofs.Machine.Invariant.{topic_in}
 use Rattle.delivery.proofs.Machine.InvariantIsKept.{tickets, step_reached}

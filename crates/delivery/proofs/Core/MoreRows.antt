@@ -1,14 +1,12 @@
 -- More rows: an empty COMMIT, ids that are used again, faults of the session, a MESSAGE's headers, and each want of memory.
-use Rattle.delivery.proofs.Words.Std.{◌≡◌, ℕ, true, false, List, [], ◌∷◌, ◌++◌, map, codes, Some}
+use Rattle.delivery.proofs.Words.Std.{refl, ◌≡◌, ℕ, true, false, List, [], ◌∷◌, ◌++◌, map, codes, Some}
 use Rattle.delivery.proofs.Words.Frames.{unread_of}
-use Rattle.delivery.proofs.Words.Core.{Reading, reader_limits, outcomes, Event, Outcome, Refusal, ConnectionFault, Core, report_of}
+use Rattle.delivery.proofs.Words.Core.{Reading, reader_limits, outcomes, Event, Outcome, Refusal, ConnectionFault, Core, report_of, Opened, Fed, Done, Subscribed, Unsubscribed, Flying, Proposed, Failed, Decided, Withdrawn, Cancelled, Turned, Handed, Faulted, Leaving, Gone, Refused, NoMemory}
 use Rattle.std.specs.Fmt.{digits}
-use Rattle.std.proofs.Common.{refl}
 use Rattle.mcast_group.specs.declared.cause.Cause.TheVariants.{Asked}
 use Rattle.mcast_group.specs.declared.fault.ProposeFault.TheVariants as proposals
 use Rattle.stomp_frame.specs.declared.command.Command.TheVariants as commands
 use Rattle.stomp_session.specs.declared.fault.SessionFault.TheVariants as sessions
-use Rattle.delivery.specs.declared.outcome.Outcome.TheVariants.{Opened, Fed, Done, Subscribed, Unsubscribed, Flying, Proposed, Failed, Decided, Withdrawn, Cancelled, Turned, Handed, Faulted, Leaving, Gone, Refused, NoMemory}
 use Rattle.delivery.proofs.Core.Agreement.{agreements, all_agree}
 use Rattle.delivery.proofs.Core.Acts.{Act, frame, topic, stamp, id, act, reads, waits, without, played, shown_outcomes, seen, connect, subscribe, begin, send_in, send, commit, disconnect, asking, opens, propose, turn, A, B}
 use Rattle.delivery.proofs.Core.Rows.{one, both, greeting, sends_one, to_both}

@@ -1,13 +1,11 @@
 -- Which move of the machine a step of the core is.
-use Rattle.std.proofs.Common.{◌≡◌, ℕ, Bool, true, false, cond, not, ◌&&◌, ◌⊎◌, inl, inr, List, [], ◌∷◌, ◌++◌, length, Option, Some, None, refl, sym, ap, subst, ◌∙◌}
-use Rattle.delivery.proofs.Words.Std.{codes, option_map_or, option_and_then, option_to_list}
+use Rattle.delivery.proofs.Words.Std.{◌≡◌, ℕ, Bool, true, false, cond, not, ◌&&◌, ◌⊎◌, inl, inr, List, [], ◌∷◌, ◌++◌, length, Option, Some, None, refl, sym, ap, subst, ◌∙◌, codes, option_map_or, option_and_then, option_to_list}
 use Rattle.delivery.proofs.Words.Topics.{Topic, SentMessage, first_refusal, In}
 use Rattle.delivery.proofs.Words.Frames.{RawFrame, case_fault, Unread, Action, action_by, is_known, field, has_destination, session_fault}
 use Rattle.delivery.proofs.Words.Lemmas.{some_same}
-use Rattle.delivery.proofs.Words.Machine.{Objection, refusal_of, World, topic_at, Move, Answer, needs_open, needs_idle, move_refusal, answer_to, world_after, commit_answer, end_now, run, move_topic}
+use Rattle.delivery.proofs.Words.Machine.{Objection, refusal_of, World, topic_at, Move, Answer, needs_open, needs_idle, move_refusal, answer_to, world_after, commit_answer, end_now, run, move_topic, AddsTopic, Opens, Connects, Commits, Subscribes, Unsubscribes, Disconnects, Errs, Lost, Leaves, Proposes, Decides, Withdraws, Cancels, Learns, Releases, Turns, Takes}
 use Rattle.delivery.proofs.Words.Core.{Event, Outcome, ConnectionFault, Reading, number_by, has_effect, is_cut, Core, core_for, names_at, session_at, frame_move, is_faulted, is_no_memory, is_out_of_memory, moves, unread_at, outcome_of, move_outcome, unless, frame_no_memory, frame_fault, fault_outcomes, frame_outcome, reading_outcomes, cut_of, outcomes, accepted_outcomes, is_any, wants_memory, claim_fault, event_topic, claims_of, claimed_sender}
 use Rattle.stomp_session.specs.declared.action.Action.TheVariants as actions
-use Rattle.delivery.specs.Machine.Moves.Move.{AddsTopic, Opens, Connects, Commits, Subscribes, Unsubscribes, Disconnects, Errs, Lost, Leaves, Proposes, Decides, Withdraws, Cancels, Learns, Releases, Turns, Takes}
 use Rattle.delivery.proofs.Machine.Effects.{same_world}
 use Rattle.delivery.proofs.Machine.SenderSteps.{In-append_cases}
 use Rattle.delivery.proofs.Core.AccountOfRun.{in_option, refusal_some, replied, same_memory, was_wanted}

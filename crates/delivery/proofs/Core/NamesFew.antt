@@ -1,6 +1,5 @@
 -- There are never more topics than there may be.
-use Rattle.std.proofs.Common.{◌≡◌, ℕ, ◌<◌, ◌≤◌, Bool, true, false, cond, not, ◌&&◌, inl, inr, List, [], ◌∷◌, ◌++◌, length, Option, Some, None, refl, sym, ap, subst, ◌∙◌, arith}
-use Rattle.delivery.proofs.Words.Std.{codes, nat_lt, option_map, option_map_or, option_or, false≢true, true≢false, ltb-true, length-append}
+use Rattle.delivery.proofs.Words.Std.{◌≡◌, ℕ, ◌<◌, ◌≤◌, Bool, true, false, cond, not, ◌&&◌, inl, inr, List, [], ◌∷◌, ◌++◌, length, Option, Some, None, refl, sym, ap, subst, ◌∙◌, arith, codes, nat_lt, option_map, option_map_or, option_or, false≢true, true≢false, ltb-true, length-append}
 use Rattle.delivery.proofs.Words.Topics.{first_refusal, In}
 use Rattle.delivery.proofs.Words.Frames.{CaseFault, Command, RawFrame, case_fault, Unread, SessionFault, field, has_destination, id_of, with_destination, is_known, max_topics, Held, is_closed, is_new, is_open, open_refusals, session_fault}
 use Rattle.delivery.proofs.Words.Machine.{Objection, refusal_of, needs_idle}

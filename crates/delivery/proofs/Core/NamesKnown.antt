@@ -1,6 +1,5 @@
 -- The destination of each accepted frame is one of the names so far.
-use Rattle.std.proofs.Common.{◌≡◌, ℕ, Bool, true, false, cond, inl, inr, List, [], ◌∷◌, ◌++◌, length, Option, Some, None, sym, ap, subst, ◌∙◌, append_assoc}
-use Rattle.delivery.proofs.Words.Std.{take, take-append_seam, option_map_or, option_to_list, append-nil}
+use Rattle.delivery.proofs.Words.Std.{◌≡◌, ℕ, Bool, true, false, cond, inl, inr, List, [], ◌∷◌, ◌++◌, length, Option, Some, None, sym, ap, subst, ◌∙◌, append_assoc, take, take-append_seam, option_map_or, option_to_list, append-nil}
 use Rattle.delivery.proofs.Words.Topics.{In}
 use Rattle.delivery.proofs.Words.Frames.{RawFrame, with_destination, IsKnownTo, held_after, state_of, subscriptions_left}
 use Rattle.delivery.proofs.Words.Lemmas.{state-later, topic-with_destination, known-with_destination, with_destination-grows}

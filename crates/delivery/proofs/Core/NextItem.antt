@@ -1,11 +1,9 @@
 -- The item that is handed on is the next that is due, as the account counts.
-use Rattle.std.proofs.Common.{◌≡◌, ℕ, zero, suc, ◌<◌, Bool, true, false, cond, not, ◌&&◌, List, [], ◌∷◌, map, length, Option, Some, None, refl, sym, ap, subst, ◌∙◌}
-use Rattle.delivery.proofs.Words.Std.{take-map, get_or_from_slice_get, take, slice_get}
+use Rattle.delivery.proofs.Words.Std.{◌≡◌, ℕ, zero, suc, ◌<◌, Bool, true, false, cond, not, ◌&&◌, List, [], ◌∷◌, map, length, Option, Some, None, refl, sym, ap, subst, ◌∙◌, take-map, get_or_from_slice_get, take, slice_get, filter}
 use Rattle.delivery.proofs.Words.Topics.{Topic, Stamp, stamp_lt, CommitRow, agreed, stamp_of, Rises, Item, topics_of}
 use Rattle.delivery.proofs.Words.Lemmas.{Rises-sorted, none_some}
 use Rattle.delivery.proofs.Words.Machine.{due, is_due, item_at, Run, answers_of, final_world, accepted_at, end_at, frontier_at, subscription_at, commits_of, delivered_items}
 use Rattle.delivery.proofs.Words.Core.{Beginning, no_item, beginning_of, next_item, released_frontier}
-use Rattle.std.specs.List.{filter}
 use Rattle.mcast_txn.specs.TopicSet.{names as names_topic}
 use Rattle.delivery.specs.Core.Account.{due_to}
 use Rattle.delivery.proofs.Theorem.AcceptedIsDue.{reached, accepted_is_due}

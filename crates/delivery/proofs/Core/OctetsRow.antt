@@ -1,17 +1,15 @@
 -- A worked row from its octets: what is read is computed, and is by the grammar the first frames of the octets.
-use Rattle.delivery.proofs.Words.Std.{◌≡◌, ℕ, true, false, List, [], ◌∷◌, map, codes, Ok, list_all}
+use Rattle.delivery.proofs.Words.Std.{refl, ◌≡◌, ℕ, true, false, List, [], ◌∷◌, map, codes, Ok, list_all}
 use Rattle.delivery.proofs.Words.Frames.{RawFrame}
-use Rattle.delivery.proofs.Words.Core.{Event, kept_of, BeginsWithFrames, fed_octets, frames_of, reader_limits, Core, new_core, report_of}
+use Rattle.delivery.proofs.Words.Core.{Event, kept_of, BeginsWithFrames, fed_octets, frames_of, reader_limits, Core, new_core, report_of, Opened, Fed, Done, Subscribed, Flying, Proposed, Decided, Turned, Handed}
 use Rattle.delivery.proofs.Words.Views.{steps_of}
 use Rattle.std.specs.Fmt.{digits}
 use Rattle.std.specs.Str.{is_utf8, chars}
 use Rattle.std.specs.Char.{encode_utf8}
-use Rattle.std.proofs.Common.{refl}
 use Rattle.stomp_escape.specs.Inner.Unescaping.{unescaped_from}
 use Rattle.stomp_frame.specs.declared.command.Command.TheVariants as commands
 use Rattle.stomp_frame.specs.Inner.Parser.{checked, line_at, after_eols, command_of, field_of, header_of, headers_at, counted_at, uncounted_at, body_at, frame_at}
 use Rattle.stomp_frame.proofs.Whole.{begins}
-use Rattle.delivery.specs.declared.outcome.Outcome.TheVariants.{Opened, Fed, Done, Subscribed, Flying, Proposed, Decided, Turned, Handed}
 use Rattle.delivery.proofs.Core.ShownReadings.{shows_reading}
 use Rattle.delivery.proofs.Core.Acts.{topic_list, played, act, reads, frame, connect, subscribe, propose, turn, stamp, id, shown_outcomes, A}
 

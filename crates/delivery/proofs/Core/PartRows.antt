@@ -1,10 +1,9 @@
 -- Worked rows, computed: MESSAGEs that say which of their transaction's they are, to who asked for it and to who didn't, and
 -- ERRORs that say our version.
-use Rattle.delivery.proofs.Words.Std.{◌≡◌, ℕ, true, false, List, [], ◌∷◌, ◌++◌, codes, Some}
+use Rattle.delivery.proofs.Words.Std.{refl, ◌≡◌, ℕ, true, false, List, [], ◌∷◌, ◌++◌, codes, Some}
 use Rattle.delivery.proofs.Words.Frames.{RawFrame}
 use Rattle.delivery.proofs.Words.Core.{ConnectionFault, Event, says_version, sub_parts, Core, new_core, report_of}
 use Rattle.std.specs.Fmt.{digits}
-use Rattle.std.proofs.Common.{refl}
 use Rattle.stomp_frame.specs.declared.case_fault.CaseFault.TheVariants as cases
 use Rattle.stomp_frame.specs.declared.case_fault.RequiredHeader.{RequiredHeader}
 use Rattle.stomp_frame.specs.declared.command.Command.TheVariants as commands

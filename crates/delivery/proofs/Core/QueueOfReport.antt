@@ -1,6 +1,5 @@
 -- The subscription of a number in a report.
-use Rattle.std.proofs.Common.{◌≡◌, ℕ, ◌<◌, [], length, get_or, Some, None}
-use Rattle.delivery.proofs.Words.Std.{slice_get, slice_get-get_or}
+use Rattle.delivery.proofs.Words.Std.{◌≡◌, ℕ, ◌<◌, [], length, get_or, Some, None, slice_get, slice_get-get_or}
 use Rattle.delivery.proofs.Words.Topics.{zero_stamp}
 use Rattle.delivery.proofs.Words.Core.{QueueReport, Report}
 

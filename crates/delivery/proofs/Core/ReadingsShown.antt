@@ -1,13 +1,11 @@
 -- A step shows whether it read a frame: its outcome says so.
-use Rattle.std.proofs.Common.{◌≡◌, ℕ, Bool, true, false, cond, not, ◌&&◌, inl, inr, List, [], ◌∷◌, length, Option, Some, None, refl, sym, ap, subst, ◌∙◌}
-use Rattle.delivery.proofs.Words.Std.{list_all, is_some, option_map, option_map_or, option_and_then, option_or, option_to_list}
+use Rattle.delivery.proofs.Words.Std.{◌≡◌, ℕ, Bool, true, false, cond, not, ◌&&◌, inl, inr, List, [], ◌∷◌, length, Option, Some, None, refl, sym, ap, subst, ◌∙◌, list_all, is_some, option_map, option_map_or, option_and_then, option_or, option_to_list}
 use Rattle.delivery.proofs.Words.Topics.{SentMessage, first_refusal, In}
 use Rattle.delivery.proofs.Words.Frames.{RawFrame, CaseFault, case_fault, Unread, Action, SessionFault, action_by, session_fault}
 use Rattle.delivery.proofs.Words.Lemmas.{some_same, none_some}
-use Rattle.delivery.proofs.Words.Machine.{Objection, refusal_of, World, topic_at, is_in_use, Move, needs_idle, move_refusal, move_answer, answer_to, commit_answer, end_now}
+use Rattle.delivery.proofs.Words.Machine.{Objection, refusal_of, World, topic_at, is_in_use, Move, needs_idle, move_refusal, move_answer, answer_to, commit_answer, end_now, Connects, Commits, Subscribes, Unsubscribes, Disconnects}
 use Rattle.delivery.proofs.Words.Core.{TopicList, Event, Outcome, ConnectionFault, CoreStep, Reading, frame_in, reads_frame, number_by, Core, core_of, IsReadBy, unread_at, session_at, frame_move, core_for, outcome_of, move_outcome, unless, frame_no_memory, frame_fault, fault_outcomes, frame_outcome, reading_outcomes, outcomes, IsReadAt, IsCoreRun, accepted_outcomes, is_any, wants_memory, claim_fault, claims_of, claimed_sender, is_one_too_many}
 use Rattle.stomp_session.specs.declared.action.Action.TheVariants as actions
-use Rattle.delivery.specs.Machine.Moves.Move.{Connects, Commits, Subscribes, Unsubscribes, Disconnects}
 use Rattle.delivery.proofs.Core.ShownReadings.{has_frame, says_frame, reads_as_said, shows_reading}
 use Rattle.delivery.proofs.Machine.Effects.{made_answer}
 use Rattle.delivery.proofs.Machine.SenderSteps.{In-append_cases}

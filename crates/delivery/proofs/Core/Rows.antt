@@ -1,16 +1,14 @@
 -- Worked rows, computed: the outcomes, what is reported, and the text out of each connection.
-use Rattle.delivery.proofs.Words.Std.{◌≡◌, ℕ, true, false, List, [], ◌∷◌, ◌++◌, map, codes, Some, None}
+use Rattle.delivery.proofs.Words.Std.{refl, ◌≡◌, ℕ, true, false, List, [], ◌∷◌, ◌++◌, map, codes, Some, None}
 use Rattle.delivery.proofs.Words.Frames.{unread_of}
 use Rattle.delivery.proofs.Words.Machine.{Answer}
-use Rattle.delivery.proofs.Words.Core.{Reading, reader_limits, outcomes, Event, Refusal, ConnectionFault, account_of, Core, names_at, new_core, report_of}
-use Rattle.std.proofs.Common.{refl}
+use Rattle.delivery.proofs.Words.Core.{Reading, reader_limits, outcomes, Event, Refusal, ConnectionFault, account_of, Core, names_at, new_core, report_of, Opened, Done, Subscribed, Unsubscribed, Flying, Proposed, Failed, Decided, Withdrawn, Cancelled, Turned, Handed, Faulted, Leaving, Gone, Refused, Fed}
 use Rattle.std.specs.Fmt.{digits}
 use Rattle.mcast_group.specs.declared.cause.Cause.TheVariants.{Asked, Lag}
 use Rattle.mcast_group.specs.declared.fault.ProposeFault.TheVariants as proposals
 use Rattle.stomp_frame.specs.declared.command.Command.TheVariants as commands
 use Rattle.stomp_frame.specs.declared.case_fault.CaseFault.TheVariants as cases
 use Rattle.stomp_session.specs.declared.fault.SessionFault.TheVariants as sessions
-use Rattle.delivery.specs.declared.outcome.Outcome.TheVariants.{Opened, Done, Subscribed, Unsubscribed, Flying, Proposed, Failed, Decided, Withdrawn, Cancelled, Turned, Handed, Faulted, Leaving, Gone, Refused, Fed}
 use Rattle.delivery.proofs.Core.Agreement.{agreements, all_agree}
 use Rattle.delivery.proofs.Core.Acts.{topic_list, Act, frame, part, made, x_to, y_to, machine_account, seen, topic, stamp, id, log_row, act, reads, waits, without, played, shown_outcomes, subscribe, begin, send_in, send, commit, disconnect, asking, opens, propose, turn, A, B}
 

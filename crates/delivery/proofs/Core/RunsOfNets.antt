@@ -1,14 +1,10 @@
 -- A net is a run of the machine, so that the laws of the machine's runs are laws of nets.
-use Rattle.std.proofs.Common.{◌≡◌, ℕ, Bool, true, false, List, [], ◌∷◌, ◌++◌, Option, Some, None, refl, sym, ap, subst, ◌∙◌, zero, suc, not, ◌&&◌}
-use Rattle.std.specs.List.{filter}
-use Rattle.delivery.proofs.Words.Std.{codes, if◌then◌else◌, option_to_list, option_map_or}
+use Rattle.delivery.proofs.Words.Std.{◌≡◌, ℕ, Bool, true, false, List, [], ◌∷◌, ◌++◌, Option, Some, None, refl, sym, ap, subst, ◌∙◌, zero, suc, not, ◌&&◌, codes, if◌then◌else◌, option_to_list, option_map_or, filter, get_or}
 use Rattle.delivery.proofs.Words.Topics.{In, ProposeFault, IsSound}
 use Rattle.delivery.proofs.Words.Frames.{RawFrame, Action, action_by, is_known, field, has_destination}
-use Rattle.delivery.proofs.Words.Machine.{World, topic_at, Move, Answer, answers_of, final_world, added_clocks}
+use Rattle.delivery.proofs.Words.Machine.{World, topic_at, Move, Answer, answers_of, final_world, added_clocks, Errs, Lost}
 use Rattle.delivery.proofs.Words.Core.{Event, Outcome, TopicList, account_of, CoreStep, Reading, frame_in, has_effect, Core, core_of, moves, names_at, session_at, frame_move, topic_moves, is_faulted, is_no_memory, is_cut, KeptRun}
-use Rattle.std.specs.Prelude.{get_or}
 use Rattle.stomp_session.specs.declared.action.Action.TheVariants as actions
-use Rattle.delivery.specs.Machine.Moves.Move.{Errs, Lost}
 use Rattle.delivery.specs.NetLaws.{moves_of, run_of_net, is_told, NetsAreRuns, NetsAreTied, NetsAreSound, NothingOddComes, NoneFailsTwice}
 use Rattle.delivery.proofs.Theorem.NeverRefused.{none_is_pending_twice}
 use Rattle.delivery.proofs.Theorem.StepLaws.{odd_never_comes}

@@ -1,7 +1,6 @@
 -- The readers of an account take nothing from refusals, nor from what was merely done: they read the same of
 -- all that a machine answered and of what of it an account says.
-use Rattle.std.proofs.Common.{◌≡◌, ℕ, ◌+◌, ◌==◌, Bool, true, false, cond, ◌||◌, List, [], ◌∷◌, ◌++◌, refl, ap, subst, ◌∙◌, inl, inr}
-use Rattle.delivery.proofs.Words.Std.{false≢true, take}
+use Rattle.delivery.proofs.Words.Std.{◌≡◌, ℕ, ◌+◌, ◌==◌, Bool, true, false, cond, ◌||◌, List, [], ◌∷◌, ◌++◌, refl, ap, subst, ◌∙◌, inl, inr, false≢true, take}
 use Rattle.delivery.proofs.Words.Topics.{Topic, TxnId, Stamp, zero_stamp, CommitRow, Transaction, same_id, In, Item, LogRow, last_stamp, topics_of, names}
 use Rattle.delivery.proofs.Words.Machine.{Answer, txn_of_id, commits_of, txn_count, delivered_items, released_at, agreed_rows, IsResolved, AllResolved, IsSettled, IsSilent, SilentAfterClose, closes}
 use Rattle.delivery.proofs.Words.Core.{Beginning, beginning_of, released_log, released_frontier, has_closed}

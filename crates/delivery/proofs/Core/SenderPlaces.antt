@@ -1,6 +1,5 @@
 -- The senders that claims have begun, listed: a client-id is among them where it is kept, at its sender's number.
-use Rattle.std.proofs.Common.{◌≡◌, ℕ, suc, ◌+◌, Bool, true, false, cond, not, ◌&&◌, ◌||◌, List, [], ◌∷◌, ◌++◌, length, Option, Some, None, refl, sym, ap, subst, ◌∙◌, arith, length-append, true≢false}
-use Rattle.delivery.proofs.Words.Std.{list_any, position_or_len, bytes_eq}
+use Rattle.delivery.proofs.Words.Std.{◌≡◌, ℕ, suc, ◌+◌, Bool, true, false, cond, not, ◌&&◌, ◌||◌, List, [], ◌∷◌, ◌++◌, length, Option, Some, None, refl, sym, ap, subst, ◌∙◌, arith, length-append, true≢false, list_any, position_or_len, bytes_eq}
 use Rattle.delivery.proofs.Words.Lemmas.{same_octets}
 use Rattle.delivery.proofs.Words.Core.{Claim, is_kept, begun_count, kept_sender, is_one_client, senders_of}
 
@@ -12,15 +11,7 @@ or_nothing false = refl
 
 any_push : {X : Type 0} (p : X → Bool) (xs : List X) (x : X) → list_any p (xs ++ x ∷ []) ≡ (list_any p xs || p x)
 any_push p [] x = or_nothing (p x)
-any_push p (y ∷ ys) x = by (p y) (any_push p ys x)
-  where
-    by : (b : Bool) → list_any p (ys ++ x ∷ []) ≡ (list_any p ys || p x) → (b || list_any p (ys ++ x ∷ [])) ≡ ((b || list_any p ys) || p x)
-    by true h = refl
-    by false h = h
-
-first_place : (b : Bool) → cond (not b) (1 + 0) 0 ≡ cond b 0 (0 + 1)
-first_place true = refl
-first_place false = refl
+any_push p (y ∷ ys) x = elim (p y) as (λ b. (b || list_any p (ys ++ x ∷ [])) ≡ ((b || list_any p ys) || p x)) [ true ↦ refl | false ↦ (any_push p ys x) ]
 
 one_later : (a b : Bool) (i n : ℕ) → 1 + cond a i (cond b n (n + 1)) ≡ cond a (1 + i) (cond b (suc n) (suc n + 1))
 one_later true b i n = refl
@@ -29,7 +20,7 @@ one_later false false i n = omega arith
 
 place_push : {X : Type 0} (p : X → Bool) (xs : List X) (x : X)
     → position_or_len p (xs ++ x ∷ []) ≡ cond (list_any p xs) (position_or_len p xs) (cond (p x) (length xs) (length xs + 1))
-place_push p [] x = first_place (p x)
+place_push p [] x = elim (p x) as (λ b. cond (not b) (1 + 0) 0 ≡ cond b 0 (0 + 1)) [ true ↦ refl | false ↦ refl ]
 place_push p (y ∷ ys) x = by (p y) (place_push p ys x)
   where
     by : (b : Bool) → position_or_len p (ys ++ x ∷ []) ≡ cond (list_any p ys) (position_or_len p ys) (cond (p x) (length ys) (length ys + 1))

@@ -1,10 +1,8 @@
 -- The SENDs of a transaction that frames left open are those that its session holds of it.
-use Rattle.std.proofs.Common.{◌≡◌, ℕ, Bool, true, false, cond, not, ◌&&◌, ◌||◌, List, [], ◌∷◌, ◌++◌, map, codes, Option, Some, None, refl, sym, ap, subst, ◌∙◌, true≢false, append_assoc, append-nil}
-use Rattle.delivery.proofs.Words.Std.{list_any, lookup, unwrap_or, option_map, option_map_or, bytes_eq}
+use Rattle.delivery.proofs.Words.Std.{◌≡◌, ℕ, Bool, true, false, cond, not, ◌&&◌, ◌||◌, List, [], ◌∷◌, ◌++◌, map, codes, Option, Some, None, refl, sym, ap, subst, ◌∙◌, true≢false, append_assoc, append-nil, list_any, lookup, unwrap_or, option_map, option_map_or, bytes_eq, filter, fold}
 use Rattle.delivery.proofs.Words.Topics.{SentMessage}
 use Rattle.delivery.proofs.Words.Frames.{RawFrame, Command, first_of, is_send, is_begin, is_send_in, names_transaction, transaction_of, send_of, transactions_left, sends_in}
 use Rattle.delivery.proofs.Words.Lemmas.{same_octets, octets_pass}
-use Rattle.std.specs.List.{filter, fold}
 use Rattle.stomp_frame.specs.declared.command.Command.TheVariants as commands
 use Rattle.stomp_session.specs.Frames.{is_end}
 use Rattle.delivery.specs.Core.Told.{left_by, sends_left}
@@ -78,10 +76,6 @@ after_frame x names sends f =
 abbrev with_sends : Option (List SentMessage) → List SentMessage → List SentMessage
 with_sends sends more = unwrap_or (option_map (λ held. held ++ more) sends) []
 
-nothing_more : (sends : Option (List SentMessage)) → unwrap_or sends [] ≡ with_sends sends []
-nothing_more None = refl
-nothing_more (Some held) = sym (append-nil held)
-
 one_more : (m : SentMessage) (more : List SentMessage) (sends : Option (List SentMessage))
     → with_sends (option_map (λ held. held ++ m ∷ []) sends) more ≡ with_sends sends (m ∷ more)
 one_more m more None = refl
@@ -102,7 +96,7 @@ none_since x names (f ∷ fs) e = by (is_begin f.command) (names_transaction x f
 fold_since : (x : List ℕ) (names : List (List ℕ)) (fs : List RawFrame) (sends : Option (List SentMessage))
     → unwrap_or (fold (after_frame x names) sends fs) []
     ≡ cond (list_any (names_transaction x) fs) (sends_since x names fs) (with_sends sends (map (send_of names) (filter (is_send_in x) fs)))
-fold_since x names [] sends = nothing_more sends
+fold_since x names [] sends = elim sends as (λ sends. unwrap_or sends [] ≡ with_sends sends []) [ None ↦ refl | Some held ↦ sym (append-nil held) ]
 fold_since x names (f ∷ fs) sends =
     by f.command (option_map_or (λ y. bytes_eq y x) (first_of (codes "transaction") f.headers) false) (bytes_eq (transaction_of f) x)
     (list_any (names_transaction x) fs) (fold_since x names fs) (none_since x names fs)

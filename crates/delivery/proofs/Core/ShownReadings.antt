@@ -1,6 +1,5 @@
 -- Whether steps read frames exactly where their outcomes say so, as tests.
-use Rattle.std.proofs.Common.{◌≡◌, Bool, true, false, cond, not, ◌&&◌, inl, inr, List, [], ◌∷◌, refl, sym, subst, true≢false}
-use Rattle.delivery.proofs.Words.Std.{list_all, is_some}
+use Rattle.delivery.proofs.Words.Std.{◌≡◌, Bool, true, false, cond, not, ◌&&◌, inl, inr, List, [], ◌∷◌, refl, sym, subst, true≢false, list_all, is_some}
 use Rattle.delivery.proofs.Words.Topics.{In}
 use Rattle.delivery.proofs.Words.Core.{Event, Outcome, ConnectionFault, CoreStep, frame_in, reads_frame}
 

@@ -1,17 +1,16 @@
 -- What every run keeps of connections and their senders: a sender's number of transactions, whose its undecided
 -- transaction and its leftover tickets are, and that a connection which isn't open was closed.
-use Rattle.std.proofs.Common.{◌≡◌, ℕ, ◌+◌, ◌<◌, ◌==◌, Bool, true, false, cond, ◌||◌, inl, inr, List, [], ◌∷◌, ◌++◌, map, length, get_or, set, Option, Some, None, refl, sym, ap, subst, ◌∙◌, true≢false, arith}
-use Rattle.delivery.proofs.Words.Std.{eqb-true, eq-eqb, or_parts, or_right, not-false, length_push}
-use Rattle.delivery.proofs.Words.Topics.{Topic, TxnId, SentMessage, Transaction, Decision, In, Item, ProposeFault, Pending, Entry, due_part}
+use Rattle.delivery.proofs.Words.Std.{◌≡◌, ℕ, ◌+◌, ◌<◌, ◌==◌, Bool, true, false, cond, ◌||◌, inl, inr, List, [], ◌∷◌, ◌++◌, map, length, get_or, set, Option, Some, None, refl, sym, ap, subst, ◌∙◌, true≢false, arith, eqb-true, eq-eqb, or_parts, or_right, not-false, length_push}
+use Rattle.delivery.proofs.Words.Topics.{Topic, TxnId, SentMessage, Transaction, In}
 use Rattle.delivery.proofs.Words.Lemmas.{at_set, at_set_within, In-map_cases, some_same, none_some, not_true}
-use Rattle.delivery.proofs.Words.Machine.{World, Connection, Undecided, Leftover, SenderState, Standing, is_reading, nobody, new_sender, topic_at, connection_at, subscription_at, speaker, entry_at, start, speaker_number, speaks_for, is_in_use, Move, Answer, world_after, answer_to, move_refusal, move_effect, move_answer, undecided_at, find_leftover, leftover, find_verdict, oldest_live, next_txn, connect_effect, commit_effect, commit_answer, proposal_fault, propose_effect, propose_answer, cancel_effect, cancel_answer, learn_effect, release_answer, take_effect, take_answer, leave_effect, leave_answer, close_effect_of, run, answers_from, txn_count, closes}
+use Rattle.delivery.proofs.Words.Machine.{World, Connection, Undecided, Leftover, SenderState, Standing, is_reading, nobody, new_sender, connection_at, subscription_at, speaker, start, speaker_number, speaks_for, is_in_use, Move, Answer, world_after, answer_to, move_refusal, move_effect, move_answer, undecided_at, leftover, next_txn, connect_effect, commit_effect, commit_answer, cancel_effect, cancel_answer, leave_answer, run, answers_from, txn_count, closes, Refused, Opened}
 use Rattle.delivery.proofs.Words.Core.{has_closed}
-use Rattle.delivery.specs.Machine.Moves.Move.{AddsTopic, Opens, Connects, Commits, Subscribes, Unsubscribes, Disconnects, Errs, Lost, Leaves, Proposes, Decides, Withdraws, Cancels, Learns, Releases, Turns, Takes}
-use Rattle.delivery.specs.Machine.Moves.Answer.{Refused, Done, Opened}
+use Rattle.delivery.specs.Machine.Moves.Move.{Opens, Connects, Commits, Disconnects, Errs, Lost, Leaves, Proposes, Decides, Withdraws, Cancels, Takes}
 use Rattle.delivery.proofs.Machine.Invariant.{sender_in}
 use Rattle.delivery.proofs.Machine.SenderSteps.{In-append_cases, In-drop}
 use Rattle.delivery.proofs.Machine.SubscriptionSteps.{at_push, at_end, at_push_two, set_length}
 use Rattle.delivery.proofs.Machine.InvariantIsKept.{by_refusal, checked, in_flight}
+use Rattle.delivery.proofs.Machine.ByFound.{InEachCase, by_found, by_entry}
 use Rattle.delivery.proofs.Theorem.SendersAreOwn.{Speaks, effect_speaks, start_speaks, flying_speaks, speaks, reading_there}
 use Rattle.delivery.proofs.Machine.Speakers.{has_speaker, claim_free}
 use Rattle.delivery.proofs.Core.Tests.{connection_there}
@@ -95,11 +94,10 @@ leaving past w c o a t h = stood (o ∷ past) w.senders w.connections c _ refl t
 
 -- ---- each move
 
-flown : (past : List Answer) (w : World) (c : ℕ) (sends : List SentMessage) → speaker_number w c < length w.senders → (connection_at w c).sender ≡ Some (speaker_number w c)
-    → open_in w.connections c ≡ true
-    → Speaking past w.senders w.connections → Speaking (commit_answer w c sends ∷ past) (commit_effect w c sends).senders (commit_effect w c sends).connections
-flown past w c [] l own o h = noted past w.senders w.connections Done (λ s. refl) h
-flown past w c (first ∷ others) l own o h =
+flown : (past : List Answer) (w : World) (c : ℕ) (first : SentMessage) (others : List SentMessage) → speaker_number w c < length w.senders
+    → (connection_at w c).sender ≡ Some (speaker_number w c) → open_in w.connections c ≡ true
+    → Speaking past w.senders w.connections → Speaking (commit_answer w c (first ∷ others) ∷ past) (commit_effect w c (first ∷ others)).senders w.connections
+flown past w c first others l own o h =
     let t = speaker_number w c in let x = sender_in w.senders t in
     let y : SenderState = record x { seq = x.seq + 1; flight = Some (record { txn = next_txn w c (first ∷ others); given = []; mark = None }) } in
     record {
@@ -113,48 +111,12 @@ flown past w c (first ∷ others) l own o h =
       shut = h.shut;
     }
 
-proposed : (past : List Answer) (w : World) (c : ℕ) (t : Topic) (o : Option ProposeFault) → (speaker w c).flight ≡ Some (undecided_at w c)
-    → Speaking past w.senders w.connections → Speaking (propose_answer w c t o ∷ past) (propose_effect w c t o).senders (propose_effect w c t o).connections
-proposed past w c t None e h =
-    noted past _ w.connections (propose_answer w c t None) (λ s. refl)
-    (same_id_flies past w.senders w.connections (speaker_number w c) (undecided_at w c) _ e refl h)
-proposed past w c t (Some fault) e h =
-    noted past _ w.connections (propose_answer w c t (Some fault)) (λ s. refl)
-    (same_id_flies past w.senders w.connections (speaker_number w c) (undecided_at w c) _ e refl h)
-
-cancelled : (past : List Answer) (w : World) (c : ℕ) (t : Topic) (o : Option Leftover) → Speaking past w.senders w.connections
-    → Speaking (cancel_answer t o ∷ past) (cancel_effect w c t o).senders (cancel_effect w c t o).connections
-cancelled past w c t None h = noted past w.senders w.connections Done (λ s. refl) h
-cancelled past w c t (Some k) h =
+cancelled : (past : List Answer) (w : World) (c : ℕ) (t : Topic) (k : Leftover) → Speaking past w.senders w.connections
+    → Speaking (cancel_answer t (Some k) ∷ past) (cancel_effect w c t (Some k)).senders w.connections
+cancelled past w c t k h =
     let s = speaker_number w c in
     noted past _ w.connections (cancel_answer t (Some k)) (λ s. refl)
     (written past w.senders w.connections s _ refl (h.flying s) (λ l i. h.left s l (In-drop t l (sender_in w.senders s).leftovers i)) h)
-
-learned : (past : List Answer) (w : World) (t : Topic) (id : TxnId) (o : Option Decision) → Speaking past w.senders w.connections
-    → Speaking past (learn_effect w t id o).senders (learn_effect w t id o).connections
-learned past w t id None h = h
-learned past w t id (Some v) h = h
-
-closed : (past : List Answer) (w : World) (s : ℕ) (o : Option Entry) → Speaking past w.senders w.connections
-    → Speaking past (close_effect_of w s o).senders (close_effect_of w s o).connections
-closed past w s None h = h
-closed past w s (Some e) h = h
-
-gone : (past : List Answer) (w : World) (c : ℕ) (o : Option ℕ) → has_closed c past ≡ true → Speaking past w.senders w.connections
-    → Speaking (leave_answer w c o ∷ past) (leave_effect w c o).senders (leave_effect w c o).connections
-gone past w c None t h = noted past w.senders _ (leave_answer w c None) (λ s. refl) (stood past w.senders w.connections c _ refl t h)
-gone past w c (Some s) t h = noted past _ _ (leave_answer w c (Some s)) (λ s. refl) (closed past w s (entry_at w s) h)
-
-released : (past : List Answer) (w : World) (t : Topic) (o : Option Pending) → Speaking past w.senders w.connections
-    → Speaking (release_answer t o ∷ past) w.senders w.connections
-released past w t None h = noted past w.senders w.connections Done (λ s. refl) h
-released past w t (Some p) h = noted past w.senders w.connections _ (λ s. refl) h
-
-taken : (past : List Answer) (w : World) (s : ℕ) (o : Option Item) → Speaking past w.senders w.connections
-    → Speaking (take_answer w s o ∷ past) (take_effect w s o).senders (take_effect w s o).connections
-taken past w s None h =
-    leaving past w (subscription_at w s).connection (take_answer w s None) (λ s. refl) (closed_now (subscription_at w s).connection past) h
-taken past w s (Some item) h = noted past w.senders w.connections (take_answer w s (Some item)) (λ s. refl) h
 
 opened : (past : List Answer) (w : World) → Speaking past w.senders w.connections → Speaking (move_answer w Opens ∷ past) w.senders (move_effect w Opens).connections
 opened past w h =
@@ -230,35 +192,38 @@ withdrawn past w c l p own e h =
     shut_there d = at_set_within (λ (z : Connection). z.sender ≡ Some (speaker_number w c) → is_reading z.standing ≡ false) w.connections c d _ nobody l (λ k m. refl) (λ ne m. others d ne m)
 
 happens : (past : List Answer) (w : World) (e : Move) → Speaks w → Speaking past w.senders w.connections → move_refusal w e ≡ None
-    → Speaking (move_answer w e ∷ past) (move_effect w e).senders (move_effect w e).connections
-happens past w (AddsTopic clock) p h e = noted past w.senders w.connections Done (λ s. refl) h
-happens past w Opens p h e = opened past w h
-happens past w (Connects c claimed) p h e = noted past _ _ Done (λ s. refl) (connected past w c claimed (claim_free w c claimed e) p h)
+    → InEachCase (λ v o. Speaking (o ∷ past) v.senders v.connections) w e
+happens past w Opens p h e = let new = opened past w h in (new, λ k. new)
+happens past w (Connects c claimed) p h e =
+    let g = connected past w c claimed (claim_free w c claimed e) p h in (noted past _ _ _ (λ s. refl) g, λ k. noted past _ _ _ (λ s. refl) g)
 happens past w (Commits c sends) p h e =
     let k = checked w (Commits c sends) e in let own = has_speaker w c (not-false _ k.1.1.1.0) in
-    flown past w c sends (p.there c (speaker_number w c) own) own (not-false _ (or_parts _ _ k.1.1.0).0) h
-happens past w (Subscribes c t) p h e = noted past w.senders w.connections _ (λ s. refl) h
-happens past w (Unsubscribes c s) p h e = noted past _ _ (move_answer w (Unsubscribes c s)) (λ s. refl) (closed past w s (entry_at w s) h)
-happens past w (Disconnects c) p h e = leaving past w c _ (λ s. refl) (closed_now c past) h
-happens past w (Errs c) p h e = leaving past w c _ (λ s. refl) (closed_now c past) h
-happens past w (Lost c) p h e = leaving past w c _ (λ s. refl) (closed_now c past) h
+    (noted past _ _ _ (λ s. refl) h, λ m. flown past w c m.0 m.1 (p.there c (speaker_number w c) own) own (not-false _ (or_parts _ _ k.1.1.0).0) h)
+happens past w (Disconnects c) p h e = (leaving past w c _ (λ s. refl) (closed_now c past) h, λ k. leaving past w c _ (λ s. refl) (closed_now c past) h)
+happens past w (Errs c) p h e = (leaving past w c _ (λ s. refl) (closed_now c past) h, λ k. leaving past w c _ (λ s. refl) (closed_now c past) h)
+happens past w (Lost c) p h e = (leaving past w c _ (λ s. refl) (closed_now c past) h, λ k. leaving past w c _ (λ s. refl) (closed_now c past) h)
 happens past w (Leaves c) p h e =
-    let k = checked w (Leaves c) e in
-    gone past w c (oldest_live c 0 w.subscriptions) (h.shut c (connection_there w c k.0) k.1.1.0) h
+    let k = checked w (Leaves c) e in (
+      noted past _ _ _ (λ s. refl) (stood past w.senders w.connections c _ refl (h.shut c (connection_there w c k.0) k.1.1.0) h),
+      λ s. by_entry (λ v. Speaking (leave_answer w c (Some s) ∷ past) v.senders v.connections) w s (noted past _ _ _ (λ n. refl) h) (λ m. noted past _ _ _ (λ n. refl) h),
+    )
 happens past w (Proposes c t memory) p h e =
-    let k = checked w (Proposes c t memory) e in let fl = in_flight w c k.1.1.0 in
-    proposed past w c t (proposal_fault w c t memory) (fl.is ∙ ap Some (sym fl.at)) h
+    let k = checked w (Proposes c t memory) e in let fl = in_flight w c k.1.1.0 in let is = fl.is ∙ ap Some (sym fl.at) in (
+      noted past _ _ _ (λ s. refl) (same_id_flies past w.senders w.connections (speaker_number w c) (undecided_at w c) _ is refl h),
+      λ fault. noted past _ _ _ (λ s. refl) (same_id_flies past w.senders w.connections (speaker_number w c) (undecided_at w c) _ is refl h),
+    )
 happens past w (Decides c) p h e =
     let s = speaker_number w c in
-    noted past _ w.connections (move_answer w (Decides c)) (λ s. refl) (written past w.senders w.connections s _ refl (λ f d. none_some f d) (h.left s) h)
+    let g : Speaking (move_answer w (Decides c) ∷ past) (move_effect w (Decides c)).senders w.connections =
+    noted past _ w.connections (move_answer w (Decides c)) (λ s. refl) (written past w.senders w.connections s _ refl (λ f d. none_some f d) (h.left s) h) in
+    (g, λ k. g)
 happens past w (Withdraws c) p h e =
     let k = checked w (Withdraws c) e in let fl = in_flight w c k.1.1.0 in
-    withdrawn past w c (connection_there w c k.0) p (flying_speaks w c k.1.0 k.1.1.0) (fl.is ∙ ap Some (sym fl.at)) h
-happens past w (Cancels c t) p h e = cancelled past w c t (find_leftover t (speaker w c).leftovers) h
-happens past w (Learns t id) p h e = noted past _ _ (move_answer w (Learns t id)) (λ s. refl) (learned past w t id (find_verdict id w.verdicts) h)
-happens past w (Releases t) p h e = released past w t (due_part (topic_at w t)) h
-happens past w (Turns t) p h e = noted past w.senders w.connections _ (λ s. refl) h
-happens past w (Takes s) p h e = taken past w s _ h
+    let g = withdrawn past w c (connection_there w c k.0) p (flying_speaks w c k.1.0 k.1.1.0) (fl.is ∙ ap Some (sym fl.at)) h in (g, λ k. g)
+happens past w (Cancels c t) p h e = (noted past _ _ _ (λ s. refl) h, λ k. cancelled past w c t k h)
+happens past w (Takes s) p h e =
+    let c = (subscription_at w s).connection in (leaving past w c _ (λ n. refl) (closed_now c past) h, λ k. noted past _ _ _ (λ n. refl) h)
+happens past w _ p h e = (noted past _ _ _ (λ s. refl) h, λ k. noted past _ _ _ (λ s. refl) h)
 
 -- a world that answers led to
 pub record Spoken (past : List Answer) (w : World) : Type 0 where
@@ -270,7 +235,7 @@ pub step_spoken : (past : List Answer) (w : World) (e : Move) → Spoken past w 
 step_spoken past w e h =
     by_refusal (λ v o. Spoken (o ∷ past) v) w e
     (λ why. record { speaks = h.speaks; speaking = noted past w.senders w.connections (Refused why) (λ s. refl) h.speaking })
-    (λ n. record { speaks = effect_speaks w e n h.speaks; speaking = happens past w e h.speaks h.speaking n })
+    (λ n. record { speaks = effect_speaks w e n h.speaks; speaking = by_found (λ v o. Speaking (o ∷ past) v.senders v.connections) w e (happens past w e h.speaks h.speaking n) })
 
 -- each run does
 pub run_spoken : (es : List Move) (past : List Answer) (w : World) → Spoken past w → Spoken (answers_from es w past) (run es w)

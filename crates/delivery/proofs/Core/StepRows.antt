@@ -1,10 +1,9 @@
 -- Worked rows of single rules: whom octets are fed to, faults of a stream, learns and releases, the order of a frame's checks,
 -- and a lag of another connection than that of the same number.
-use Rattle.delivery.proofs.Words.Std.{◌≡◌, false, true, List, [], ◌∷◌, ◌++◌, map, codes, Some, None}
+use Rattle.delivery.proofs.Words.Std.{refl, ◌≡◌, false, true, List, [], ◌∷◌, ◌++◌, map, codes, Some, None}
 use Rattle.delivery.proofs.Words.Frames.{Unread, unread_of}
 use Rattle.delivery.proofs.Words.Machine.{shared_marks, Answer, new_sender}
-use Rattle.delivery.proofs.Words.Core.{Event, Refusal, ConnectionFault, CoreStep, Reading, reader_limits, fed_octets, frames_of, account_of, released_frontier, outcomes, Core, new_core, unread_at, report_of}
-use Rattle.std.proofs.Common.{refl}
+use Rattle.delivery.proofs.Words.Core.{Event, Refusal, ConnectionFault, CoreStep, Reading, reader_limits, fed_octets, frames_of, account_of, released_frontier, outcomes, Core, new_core, unread_at, report_of, Opened, Failed, Withdrawn, Fed, Done, Subscribed, Unsubscribed, Flying, Proposed, Decided, Learnt, Released, Turned, Handed, Faulted, Leaving, Gone, Refused}
 use Rattle.std.specs.Fmt.{digits}
 use Rattle.mcast_group.specs.declared.cause.Cause.TheVariants.{Asked, Lag}
 use Rattle.mcast_group.specs.declared.fault.ProposeFault.TheVariants as proposals
@@ -12,7 +11,6 @@ use Rattle.stomp_frame.specs.declared.command.Command.TheVariants as commands
 use Rattle.stomp_frame.specs.declared.case_fault.CaseFault.TheVariants as cases
 use Rattle.stomp_frame.specs.declared.fault.Check.TheVariants as checks
 use Rattle.stomp_session.specs.declared.fault.SessionFault.TheVariants as sessions
-use Rattle.delivery.specs.declared.outcome.Outcome.TheVariants.{Opened, Failed, Withdrawn, Fed, Done, Subscribed, Unsubscribed, Flying, Proposed, Decided, Learnt, Released, Turned, Handed, Faulted, Leaving, Gone, Refused}
 use Rattle.delivery.proofs.Core.ShownReadings.{shows_reading}
 use Rattle.delivery.proofs.Core.QueueOfReport.{queue_in}
 use Rattle.delivery.proofs.Core.Agreement.{agreements, all_agree}

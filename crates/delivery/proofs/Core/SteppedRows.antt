@@ -1,15 +1,12 @@
 -- Rows of what one event makes of a core (`HasStepped`), computed in cores of two topics that are written out. Beside each
 -- field stands a step that meets its premise, as the core makes it, and what a wrong machine makes instead: that field alone
 -- refuses it.
-use Rattle.delivery.proofs.Words.Std.{◌≡◌, ℕ, zero, suc, ◌+◌, ◌≤◌, false, List, [], ◌∷◌, ◌++◌, codes, map, length, Option, Some, None, false≢true}
+use Rattle.delivery.proofs.Words.Std.{refl, sym, ap, ◌∙◌, subst, inl, inr, arith, ◌≡◌, ℕ, zero, suc, ◌+◌, ◌≤◌, false, List, [], ◌∷◌, ◌++◌, codes, map, length, Option, Some, None, false≢true, ◌⊎◌}
 use Rattle.delivery.proofs.Words.Topics.{Topic, Stamp, LogRow, Item, last_stamp, zero_stamp, TopicState, Pending}
 use Rattle.delivery.proofs.Words.Lemmas.{some_same, none_some}
 use Rattle.delivery.proofs.Words.Machine.{connection_at, World, SenderState, Subscription, Standing, topic_at, log_at, accepted_at, end_at}
-use Rattle.delivery.proofs.Words.Core.{Event, Outcome, Refusal, claims_of, sender_claimed, CoreStep, Reading, Core, core_after, names_at, new_core, outcomes, GivesTicket, GivesStamp, DeliversNext, IsNewTopic, LagsFull}
-use Rattle.std.specs.Prelude.{◌⊎◌}
-use Rattle.std.proofs.Common.{refl, sym, ap, ◌∙◌, subst, inl, inr, arith}
+use Rattle.delivery.proofs.Words.Core.{Event, Outcome, Refusal, claims_of, sender_claimed, CoreStep, Reading, Core, core_after, names_at, new_core, outcomes, GivesTicket, GivesStamp, DeliversNext, IsNewTopic, LagsFull, Opened, Done, Unsubscribed, Proposed, Failed, Decided, Released, Turned, Handed, Refused, NoMemory}
 use Rattle.mcast_group.specs.declared.fault.ProposeFault.TheVariants as proposals
-use Rattle.delivery.specs.declared.outcome.Outcome.TheVariants.{Opened, Done, Unsubscribed, Proposed, Failed, Decided, Released, Turned, Handed, Refused, NoMemory}
 use Rattle.delivery.specs.Core.Stepped.{HasStepped}
 use Rattle.delivery.proofs.Core.Acts.{topic_list, topic, stamp, id, log_row, made, opens, part, played, reads, subscribe, A, B}
 

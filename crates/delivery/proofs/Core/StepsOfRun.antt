@@ -1,6 +1,5 @@
 -- The steps of a run are a function of its events and outcomes.
-use Rattle.std.proofs.Common.{◌≡◌, ℕ, Bool, true, false, cond, inl, inr, List, [], ◌∷◌, map, Option, Some, None, Result, Ok, Err, refl, sym, ap, ◌∙◌}
-use Rattle.delivery.proofs.Words.Std.{false≢true, reverse, option_map}
+use Rattle.delivery.proofs.Words.Std.{◌≡◌, ℕ, Bool, true, false, cond, inl, inr, List, [], ◌∷◌, map, Option, Some, None, Result, Ok, Err, refl, sym, ap, ◌∙◌, false≢true, reverse, option_map}
 use Rattle.delivery.proofs.Words.Topics.{first_refusal, In}
 use Rattle.delivery.proofs.Words.Frames.{RawFrame, Check, fault_of, Unread, ReadsNext, Halt}
 use Rattle.delivery.proofs.Words.Lemmas.{answers_none, one_answer, some_same, none_some}
@@ -14,10 +13,9 @@ use Rattle.stomp_frame.proofs.Whole.{answers_frame, answers_fault}
 use Rattle.delivery.proofs.Core.ShownReadings.{says_frame}
 use Rattle.delivery.specs.Inner.Readings.{reading_of, reads_nothing}
 use Rattle.delivery.specs.Core.Delivery.{StepsAreKept}
-use Rattle.delivery.proofs.Core.AccountOfRun.{in_option, core_is}
+use Rattle.delivery.proofs.Core.AccountOfRun.{in_option, core_is, was_wanted}
 use Rattle.delivery.proofs.Core.FramesRead.{limits_are}
 use Rattle.delivery.proofs.Core.ReadingsShown.{ReadsUnless, idle}
-use Rattle.delivery.proofs.Core.AccountOfRun.{was_wanted}
 
 -- a refusal of the machine's isn't that there is no frame
 reported : (why : Objection) (r : Refusal) → refusal_of why ≡ Some r → reads_nothing (Outcome.Refused r) ≡ true

@@ -1,13 +1,12 @@
 -- What each step of the core makes of it: a refusal nothing, a ticket, a stamp, an item, the end of a span.
-use Rattle.std.proofs.Common.{◌≡◌, ◌≢◌, ℕ, zero, suc, ◌+◌, ◌<◌, ◌≤◌, ◌==◌, ◌||◌, Bool, true, false, cond, ◌⊎◌, inl, inr, List, [], ◌∷◌, ◌++◌, map, length, get_or, set, Option, Some, None, refl, sym, ap, subst, ◌∙◌, arith}
-use Rattle.delivery.proofs.Words.Std.{slice_get, list_all, option_map, option_to_list, unwrap_or, true≢false, false≢true, and_parts, ltb-true, not-false, cases_lt, get_or_past, length_push}
+use Rattle.delivery.proofs.Words.Std.{◌≡◌, ◌≢◌, ℕ, zero, suc, ◌+◌, ◌<◌, ◌≤◌, ◌==◌, ◌||◌, Bool, true, false, cond, ◌⊎◌, inl, inr, List, [], ◌∷◌, ◌++◌, map, length, get_or, set, Option, Some, None, refl, sym, ap, subst, ◌∙◌, arith, slice_get, list_all, option_map, option_to_list, unwrap_or, true≢false, false≢true, and_parts, ltb-true, not-false, cases_lt, get_or_past, length_push}
 use Rattle.delivery.proofs.Words.Topics.{Topic, TxnId, SentMessage, Stamp, greatest, part_at, row_at, ticket_rows, In, Item, topics_of, names, ProposeFault, Entry, TopicState, new_topic, after_propose}
 use Rattle.delivery.proofs.Words.Lemmas.{at_set, at_set_within, some_same, none_some}
 use Rattle.delivery.proofs.Words.Machine.{Objection, refusal_of, World, Undecided, SenderState, Connection, Subscription, nobody, no_subscription, new_sender, topic_at, sender_at, connection_at, speaker, subscription_at, entry_at, start, speaker_number, accepted_at, end_at, log_at, Move, Answer, world_after, answer_to, move_refusal, undecided_or_none, undecided_at, has_ticket, insert_ticket, is_complete, next_ticket, proposal_fault, propose_effect, propose_answer, decide_effect, take_effect, commit_effect, close_effect_of, IsAnswer, Run, final_world, answers_of, move_topic, EndsBeforeRow, delivered_items}
 use Rattle.delivery.proofs.Words.Core.{Event, Outcome, Refusal, Reading, has_effect, is_cut, Core, core_of, core_after, is_faulted, is_no_memory, outcome_of, cut_of, event_topic, GivesTicket, GivesStamp, DeliversNext, LagsFull, IsNewTopic}
 use Rattle.delivery.proofs.Words.Views.{IsReached}
 use Rattle.std.specs.List.{find}
-use Rattle.delivery.specs.Machine.Moves.Move.{AddsTopic, Connects, Commits, Subscribes, Unsubscribes, Disconnects, Errs, Lost, Proposes, Decides, Releases, Turns, Takes}
+use Rattle.delivery.specs.Machine.Moves.Move.{AddsTopic, Opens, Connects, Commits, Subscribes, Unsubscribes, Disconnects, Errs, Lost, Leaves, Proposes, Decides, Withdraws, Cancels, Learns, Releases, Turns, Takes}
 use Rattle.delivery.specs.Core.Stepped
 use Rattle.delivery.proofs.Machine.Invariant.{topic_in}
 use Rattle.delivery.proofs.Machine.InvariantIsKept.{by_refusal, checked, in_flight, asks_of, Asks}
@@ -30,34 +29,13 @@ use Rattle.delivery.proofs.Views.Senders.TicketsOfTopics.{given, tickets_are}
 
 -- ---- outcomes and answers
 
--- what is cut is a refusal or a ticket only if it was one
-uncut_refusal : (b : Outcome) (why : Refusal) → (b ≡ Outcome.Refused why) ⊎ (cut_of b ≡ Outcome.Refused why) → b ≡ Outcome.Refused why
-uncut_refusal b why (inl e) = e
-uncut_refusal (Outcome.Decided stamp cut) why (inr e) = cc
-uncut_refusal (Outcome.Withdrawn cut) why (inr e) = cc
-uncut_refusal (Outcome.Gone cut) why (inr e) = cc
-uncut_refusal b why (inr e) = e
-
-uncut_ticket : (b : Outcome) (n : ℕ) → (b ≡ Outcome.Proposed n) ⊎ (cut_of b ≡ Outcome.Proposed n) → b ≡ Outcome.Proposed n
-uncut_ticket b n (inl e) = e
-uncut_ticket (Outcome.Decided stamp cut) n (inr e) = cc
-uncut_ticket (Outcome.Withdrawn cut) n (inr e) = cc
-uncut_ticket (Outcome.Gone cut) n (inr e) = cc
-uncut_ticket b n (inr e) = e
-
-uncut_item : (b : Outcome) (n : ℕ) → (b ≡ Outcome.Handed n) ⊎ (cut_of b ≡ Outcome.Handed n) → b ≡ Outcome.Handed n
-uncut_item b n (inl e) = e
-uncut_item (Outcome.Decided stamp cut) n (inr e) = cc
-uncut_item (Outcome.Withdrawn cut) n (inr e) = cc
-uncut_item (Outcome.Gone cut) n (inr e) = cc
-uncut_item b n (inr e) = e
-
-uncut_memory : (b : Outcome) → (b ≡ Outcome.NoMemory) ⊎ (cut_of b ≡ Outcome.NoMemory) → b ≡ Outcome.NoMemory
-uncut_memory b (inl e) = e
-uncut_memory (Outcome.Decided stamp cut) (inr e) = cc
-uncut_memory (Outcome.Withdrawn cut) (inr e) = cc
-uncut_memory (Outcome.Gone cut) (inr e) = cc
-uncut_memory b (inr e) = e
+-- what isn't cut was so before a cut
+uncut : (b o : Outcome) → is_cut o ≡ false → (b ≡ o) ⊎ (cut_of b ≡ o) → b ≡ o
+uncut b o whole (inl e) = e
+uncut (Outcome.Decided stamp cut) o whole (inr e) = absurd (true≢false (ap is_cut e ∙ whole))
+uncut (Outcome.Withdrawn cut) o whole (inr e) = absurd (true≢false (ap is_cut e ∙ whole))
+uncut (Outcome.Gone cut) o whole (inr e) = absurd (true≢false (ap is_cut e ∙ whole))
+uncut b o whole (inr e) = e
 
 -- an end of a span is the same when it is cut
 end_cut : (o : Outcome) (b : Outcome) (s : ℕ) (to : Stamp) → b ≡ Outcome.Unsubscribed s to → (b ≡ o) ⊎ (cut_of b ≡ o) → o ≡ Outcome.Unsubscribed s to
@@ -97,44 +75,53 @@ outcome_item a count e = cc
 
 -- ---- events of moves
 
-proposal_event : (e : Event) (mv : Move) (c : ℕ) (t : Topic) (m : Bool) → IsMoveOf e mv → mv ≡ Proposes c t m → e ≡ Event.Propose c t
-proposal_event (Event.Propose d u) mv c t m (memory, own) is = let one : d ≡ c = cc in let other : u ≡ t = cc in λ i. Event.Propose (one i) (other i)
-proposal_event (Event.Next d) mv c t m own is = absurd (false≢true (sym (ap is_of_frame is) ∙ own))
-proposal_event (Event.Piece d octets) mv c t m own is = absurd own
-proposal_event Event.Open mv c t m own is = cc
-proposal_event e mv c t m own is = cc
+-- the event of a move that is no frame's
+abbrev event_of : Move → Option Event
+event_of Opens = Some Event.Open
+event_of (Proposes c t memory) = Some (Event.Propose c t)
+event_of (Decides c) = Some (Event.Decide c)
+event_of (Withdraws c) = Some (Event.Withdraw c)
+event_of (Cancels c t) = Some (Event.Cancel c t)
+event_of (Learns t id) = Some (Event.Learn t id)
+event_of (Releases t) = Some (Event.Release t)
+event_of (Turns t) = Some (Event.Turn t)
+event_of (Takes s) = Some (Event.Take s)
+event_of (Leaves c) = Some (Event.Leave c)
+event_of (Lost c) = Some (Event.Lost c)
+event_of mv = None
 
-decision_event : (e : Event) (mv : Move) (c : ℕ) → IsMoveOf e mv → mv ≡ Decides c → e ≡ Event.Decide c
-decision_event (Event.Decide d) mv c own is = let one : d ≡ c = cc in ap Event.Decide one
-decision_event (Event.Next d) mv c own is = absurd (false≢true (sym (ap is_of_frame is) ∙ own))
-decision_event (Event.Piece d octets) mv c own is = absurd own
-decision_event Event.Open mv c own is = cc
-decision_event (Event.Propose d u) mv c (memory, own) is = cc
-decision_event e mv c own is = cc
+event_is : (e x : Event) (mv m : Move) → is_of_frame m ≡ false → event_of m ≡ Some x → IsMoveOf e mv → mv ≡ m → e ≡ x
+event_is (Event.Next c) x mv m rests of own is = absurd (false≢true (sym rests ∙ (sym (ap is_of_frame is) ∙ own)))
+event_is (Event.Piece c octets) x mv m rests of own is = absurd own
+event_is (Event.Propose c t) x mv m rests of (memory, own) is = some_same _ x (ap event_of (sym own ∙ is) ∙ of)
+event_is e x mv m rests of own is = some_same _ x (ap event_of (sym own ∙ is) ∙ of)
 
-take_event : (e : Event) (mv : Move) (s : ℕ) → IsMoveOf e mv → mv ≡ Takes s → e ≡ Event.Take s
-take_event (Event.Take q) mv s own is = let one : q ≡ s = cc in ap Event.Take one
-take_event (Event.Next d) mv s own is = absurd (false≢true (sym (ap is_of_frame is) ∙ own))
-take_event (Event.Piece d octets) mv s own is = absurd own
-take_event Event.Open mv s own is = cc
-take_event (Event.Propose d u) mv s (memory, own) is = cc
-take_event e mv s own is = cc
+-- ---- an answer's outcome
 
-release_event : (e : Event) (mv : Move) (t : Topic) → IsMoveOf e mv → mv ≡ Releases t → e ≡ Event.Release t
-release_event (Event.Release u) mv t own is = let one : u ≡ t = cc in ap Event.Release one
-release_event (Event.Next d) mv t own is = absurd (false≢true (sym (ap is_of_frame is) ∙ own))
-release_event (Event.Piece d octets) mv t own is = absurd own
-release_event Event.Open mv t own is = cc
-release_event (Event.Propose d u) mv t (memory, own) is = cc
-release_event e mv t own is = cc
+-- the step is a move, and its outcome that of the answer
+record IsAnswered (k : Core) (e : Event) (rd : Reading) (o : Outcome) : Type 0 where
+  move : Move
+  own : IsMoveOf e move
+  world : world_then k e rd o ≡ world_after k.world move
+  is : outcome_of (answer_to k.world move) ≡ Some o
 
-turn_event : (e : Event) (mv : Move) (t : Topic) → IsMoveOf e mv → mv ≡ Turns t → e ≡ Event.Turn t
-turn_event (Event.Turn u) mv t own is = let one : u ≡ t = cc in ap Event.Turn one
-turn_event (Event.Next d) mv t own is = absurd (false≢true (sym (ap is_of_frame is) ∙ own))
-turn_event (Event.Piece d octets) mv t own is = absurd own
-turn_event Event.Open mv t own is = cc
-turn_event (Event.Propose d u) mv t (memory, own) is = cc
-turn_event e mv t own is = cc
+-- the outcome is no ERROR, isn't cut, and isn't what a frame does
+abbrev IsWhole : Outcome → Type 0
+IsWhole o = (is_faulted o ≡ false) × (is_cut o ≡ false) × (has_effect o ≡ false)
+
+-- such an outcome is of nothing done, or an answer's
+answered : (k : Core) (e : Event) (rd : Reading) (o : Outcome) → IsWhole o → Comes k e rd o → ((world_then k e rd o ≡ k.world) × (is_plain o ≡ true)) ⊎ IsAnswered k e rd o
+answered k e rd o whole (inl h) = inl h
+answered k e rd o whole (inr (inl h)) = absurd (false≢true (sym whole.0 ∙ h.faulted))
+answered k e rd o whole (inr (inr (inl h))) =
+    inr (record { move = h.move; own = h.own; world = h.world; is = h.is ∙ ap (λ (z : Outcome). Some z) (uncut h.base o whole.1 h.cut) })
+answered k e rd o whole (inr (inr (inr (inl h)))) = absurd (false≢true (sym whole.1 ∙ h.was_cut))
+answered k e rd o whole (inr (inr (inr (inr h)))) = absurd (false≢true (sym whole.2 ∙ h.effect))
+
+-- and an answer's where it is none of those of nothing done
+by_answer_alone : (k : Core) (e : Event) (rd : Reading) (o : Outcome) → is_plain o ≡ false → IsWhole o → Comes k e rd o → IsAnswered k e rd o
+by_answer_alone k e rd o full whole came =
+    elim (answered k e rd o whole came) [ inl h ↦ absurd (false≢true (sym full ∙ h.1)) | inr h ↦ h ]
 
 -- ---- what is refused
 
@@ -142,22 +129,16 @@ still : (w : World) (mv : Move) (why : Refusal) → outcome_of (answer_to w mv) 
 still w mv why e = let a = outcome_refused (answer_to w mv) why e in refusals_change_nothing w mv a.0 a.1
 
 refused_stays : (k : Core) (e : Event) (rd : Reading) (o : Outcome) (why : Refusal) → Comes k e rd o → o ≡ Outcome.Refused why → world_then k e rd o ≡ k.world
-refused_stays k e rd o why (inl h) is = h.0
-refused_stays k e rd o why (inr (inl h)) is = absurd (false≢true (sym (ap is_faulted is) ∙ h.faulted))
-refused_stays k e rd o why (inr (inr (inl h))) is =
-    let base : h.base ≡ Outcome.Refused why = uncut_refusal h.base why (subst (λ z. (h.base ≡ z) ⊎ (cut_of h.base ≡ z)) is h.cut) in
-    h.world ∙ still k.world h.move why (h.is ∙ ap (λ (z : Outcome). Some z) base)
-refused_stays k e rd o why (inr (inr (inr (inl h)))) is = absurd (false≢true (sym (ap is_cut is) ∙ h.was_cut))
-refused_stays k e rd o why (inr (inr (inr (inr h)))) is = absurd (false≢true (sym (ap has_effect is) ∙ h.effect))
+refused_stays k e rd o why came is = elim (answered k e rd o (subst IsWhole (sym is) (refl, refl, refl)) came) [
+  | inl h ↦ h.0
+  | inr h ↦ h.world ∙ still k.world h.move why (h.is ∙ ap (λ (z : Outcome). Some z) is)
+]
 
 unremembered_stays : (k : Core) (e : Event) (rd : Reading) (o : Outcome) → Comes k e rd o → o ≡ Outcome.NoMemory → world_then k e rd o ≡ k.world
-unremembered_stays k e rd o (inl h) is = h.0
-unremembered_stays k e rd o (inr (inl h)) is = absurd (false≢true (sym (ap is_faulted is) ∙ h.faulted))
-unremembered_stays k e rd o (inr (inr (inl h))) is =
-    let base : h.base ≡ Outcome.NoMemory = uncut_memory h.base (subst (λ z. (h.base ≡ z) ⊎ (cut_of h.base ≡ z)) is h.cut) in
-    absurd (true≢false (sym (ap is_no_memory base) ∙ remembered (answer_to k.world h.move) h.base h.is))
-unremembered_stays k e rd o (inr (inr (inr (inl h)))) is = absurd (false≢true (sym (ap is_cut is) ∙ h.was_cut))
-unremembered_stays k e rd o (inr (inr (inr (inr h)))) is = absurd (false≢true (sym (ap has_effect is) ∙ h.effect))
+unremembered_stays k e rd o came is = elim (answered k e rd o (subst IsWhole (sym is) (refl, refl, refl)) came) [
+  | inl h ↦ h.0
+  | inr h ↦ absurd (true≢false (sym (ap is_no_memory is) ∙ remembered (answer_to k.world h.move) o h.is))
+]
 
 -- ---- other topics
 
@@ -230,19 +211,14 @@ abbrev Ticketed : Core → Event → World → ℕ → Type 0
 Ticketed k e v n = (c : ℕ) × (t : Topic) × (e ≡ Event.Propose c t) × GivesTicket k.world v c t n
 
 ticket_comes : (k : Core) (e : Event) (rd : Reading) (o : Outcome) (n : ℕ) → Comes k e rd o → o ≡ Outcome.Proposed n → Ticketed k e (world_then k e rd o) n
-ticket_comes k e rd o n (inl h) is = absurd (false≢true (sym (ap is_plain is) ∙ h.1))
-ticket_comes k e rd o n (inr (inl h)) is = absurd (false≢true (sym (ap is_faulted is) ∙ h.faulted))
-ticket_comes k e rd o n (inr (inr (inr (inl h)))) is = absurd (false≢true (sym (ap is_cut is) ∙ h.was_cut))
-ticket_comes k e rd o n (inr (inr (inr (inr h)))) is = absurd (false≢true (sym (ap has_effect is) ∙ h.effect))
-ticket_comes k e rd o n (inr (inr (inl h))) is =
-    let w = k.world in
-    let base : h.base ≡ Outcome.Proposed n = uncut_ticket h.base n (subst (λ z. (h.base ≡ z) ⊎ (cut_of h.base ≡ z)) is h.cut) in
-    let a = outcome_ticket (answer_to w h.move) n (h.is ∙ ap (λ (z : Outcome). Some z) base) in
+ticket_comes k e rd o n came is =
+    let w = k.world in let h = by_answer_alone k e rd o (ap is_plain is) (subst IsWhole (sym is) (refl, refl, refl)) came in
+    let a = outcome_ticket (answer_to w h.move) n (h.is ∙ ap (λ (z : Outcome). Some z) is) in
     let own = ticket_is_own w h.move a.0 a.1 a.2 in
     let c = own.0 in let t = own.1 in let m = own.2 in (
       c,
       t,
-      proposal_event e h.move c t m h.own own.3,
+      event_is e (Event.Propose c t) h.move (Proposes c t m) refl refl h.own own.3,
       subst (λ v. GivesTicket w v c t n) (sym (h.world ∙ ap (world_after w) own.3))
           (ticket_after w c t m a.0 a.1 n a.3 (ap (answer_to w) (sym own.3) ∙ a.2)),
     )
@@ -318,7 +294,7 @@ stamp_comes k e rd o stamp cut reached (inr (inr (inl h))) is =
     let a = outcome_stamp (answer_to w h.move) stamp base.0 (h.is ∙ ap (λ (z : Outcome). Some z) base.1) in
     let own = subst (IsAnswer w h.move) a.1 (events_are_answered w h.move) in (
       own.0,
-      decision_event e h.move own.0 h.own own.1,
+      event_is e (Event.Decide own.0) h.move (Decides own.0) refl refl h.own own.1,
       subst (λ v. GivesStamp w v own.0 stamp) (sym (h.world ∙ ap (world_after w) own.1))
           (stamp_after k own.0 a.0 stamp reached (ap (answer_to w) (sym own.1) ∙ a.1) own.3),
     )
@@ -355,18 +331,13 @@ abbrev Delivered : Core → Event → World → ℕ → Type 0
 Delivered k e v count = (s : ℕ) × (e ≡ Event.Take s) × DeliversNext k.world v s count
 
 item_comes : (k : Core) (e : Event) (rd : Reading) (o : Outcome) (count : ℕ) → Comes k e rd o → o ≡ Outcome.Handed count → Delivered k e (world_then k e rd o) count
-item_comes k e rd o count (inl h) is = absurd (false≢true (sym (ap is_plain is) ∙ h.1))
-item_comes k e rd o count (inr (inl h)) is = absurd (false≢true (sym (ap is_faulted is) ∙ h.faulted))
-item_comes k e rd o count (inr (inr (inr (inl h)))) is = absurd (false≢true (sym (ap is_cut is) ∙ h.was_cut))
-item_comes k e rd o count (inr (inr (inr (inr h)))) is = absurd (false≢true (sym (ap has_effect is) ∙ h.effect))
-item_comes k e rd o count (inr (inr (inl h))) is =
-    let w = k.world in
-    let base : h.base ≡ Outcome.Handed count = uncut_item h.base count (subst (λ z. (h.base ≡ z) ⊎ (cut_of h.base ≡ z)) is h.cut) in
-    let a = outcome_item (answer_to w h.move) count (h.is ∙ ap (λ (z : Outcome). Some z) base) in
+item_comes k e rd o count came is =
+    let w = k.world in let h = by_answer_alone k e rd o (ap is_plain is) (subst IsWhole (sym is) (refl, refl, refl)) came in
+    let a = outcome_item (answer_to w h.move) count (h.is ∙ ap (λ (z : Outcome). Some z) is) in
     let own = subst (IsAnswer w h.move) a.2 (events_are_answered w h.move) in
     let s = a.0 in (
       s,
-      take_event e h.move s h.own own.0,
+      event_is e (Event.Take s) h.move (Takes s) refl refl h.own own.0,
       subst (λ v. DeliversNext w v s count) (sym (h.world ∙ ap (world_after w) own.0))
           (item_after w s a.1 count own.1 a.3 (ap (answer_to w) (sym own.0) ∙ a.2)),
     )
@@ -457,8 +428,8 @@ EndsOf k e o s end v = (o ≡ Outcome.Unsubscribed s end) ⊎ LagsFull k.world v
 
 lag_event : (k : Core) (e : Event) (mv : Move) (s : ℕ) → IsMoveOf e mv → let t = (subscription_at k.world s).topic in (mv ≡ Releases t) ⊎ (mv ≡ Turns t)
     → (e ≡ Event.Release t) ⊎ (e ≡ Event.Turn t)
-lag_event k e mv s own (inl d) = inl (release_event e mv (subscription_at k.world s).topic own d)
-lag_event k e mv s own (inr d) = inr (turn_event e mv (subscription_at k.world s).topic own d)
+lag_event k e mv s own (inl d) = inl (event_is e _ mv (Releases (subscription_at k.world s).topic) refl refl own d)
+lag_event k e mv s own (inr d) = inr (event_is e _ mv (Turns (subscription_at k.world s).topic) refl refl own d)
 
 ends_come : (k : Core) (e : Event) (rd : Reading) (o : Outcome) (s : ℕ) (end : Stamp) → IsReached k → Comes k e rd o → end_at k.world s ≡ None
     → end_at (world_then k e rd o) s ≡ Some end → EndsOf k e o s end (world_then k e rd o)
@@ -493,13 +464,6 @@ outcome_end (Answer.Unsubscribed q to) s end e = let a : q ≡ s = cc in let b :
 outcome_end (Answer.Refused x) s end e = let r = refusal_some (refusal_of x) (Outcome.Unsubscribed s end) e in let d = r.is in cc
 outcome_end a s end e = cc
 
-uncut_end : (b : Outcome) (s : ℕ) (end : Stamp) → (b ≡ Outcome.Unsubscribed s end) ⊎ (cut_of b ≡ Outcome.Unsubscribed s end) → b ≡ Outcome.Unsubscribed s end
-uncut_end b s end (inl e) = e
-uncut_end (Outcome.Decided stamp cut) s end (inr e) = cc
-uncut_end (Outcome.Withdrawn cut) s end (inr e) = cc
-uncut_end (Outcome.Gone cut) s end (inr e) = cc
-uncut_end b s end (inr e) = e
-
 -- the span of a subscription has the end that is answered
 move_closes : (w : World) → IsRun w → (mv : Move) (s : ℕ) (end : Stamp) → answer_to w mv ≡ Answer.Unsubscribed s end → end_at (world_after w mv) s ≡ Some end
 move_closes w ran =
@@ -511,7 +475,7 @@ closed_comes : (k : Core) (e : Event) (rd : Reading) (o : Outcome) (s : ℕ) (en
 closed_comes k e rd o s end reached (inl h) is = absurd (false≢true (sym (ap is_plain is) ∙ h.1))
 closed_comes k e rd o s end reached (inr (inl h)) is = absurd (false≢true (sym (ap is_faulted is) ∙ h.faulted))
 closed_comes k e rd o s end reached (inr (inr (inl h))) is =
-    let base : h.base ≡ Outcome.Unsubscribed s end = uncut_end h.base s end (subst (λ z. (h.base ≡ z) ⊎ (cut_of h.base ≡ z)) is h.cut) in
+    let base : h.base ≡ Outcome.Unsubscribed s end = uncut h.base o (ap is_cut is) h.cut ∙ is in
     ap (λ (w : World). end_at w s) h.world
     ∙ move_closes k.world (ran_to k reached) h.move s end (outcome_end (answer_to k.world h.move) s end (h.is ∙ ap (λ (z : Outcome). Some z) base))
 closed_comes k e rd o s end reached (inr (inr (inr (inl h)))) is = absurd (false≢true (sym (ap is_cut is) ∙ h.was_cut))

@@ -1,7 +1,6 @@
 -- What is told of the machine's answers, in the account's fewer words, and what a reader takes from it: the same as from the
 -- answers.
-use Rattle.std.proofs.Common.{◌≡◌, ℕ, ◌+◌, ◌==◌, Bool, true, false, cond, inl, inr, List, [], ◌∷◌, ◌++◌, length, refl, sym, ap, subst, ◌∙◌, append_assoc, arith}
-use Rattle.delivery.proofs.Words.Std.{length-append, take}
+use Rattle.delivery.proofs.Words.Std.{◌≡◌, ℕ, ◌+◌, ◌==◌, Bool, true, false, cond, inl, inr, List, [], ◌∷◌, ◌++◌, length, refl, sym, ap, subst, ◌∙◌, append_assoc, arith, length-append, take}
 use Rattle.delivery.proofs.Words.Topics.{Topic, Stamp, zero_stamp, CommitRow, In, Item, LogRow, last_stamp}
 use Rattle.delivery.proofs.Words.Lemmas.{In-append_left}
 use Rattle.delivery.proofs.Words.Machine.{Answer, txn_of_id, commits_of, delivered_items, released_at, agreed_rows}

@@ -1,6 +1,5 @@
 -- What the refusals of a move say, where none of them holds.
-use Rattle.std.proofs.Common.{◌≡◌, ℕ, ◌<◌, not, false, length, ltb}
-use Rattle.delivery.proofs.Words.Std.{ltb-true, not-false}
+use Rattle.delivery.proofs.Words.Std.{◌≡◌, ℕ, ◌<◌, not, false, length, ltb, ltb-true, not-false}
 use Rattle.delivery.proofs.Words.Machine.{World}
 
 -- its connection is there

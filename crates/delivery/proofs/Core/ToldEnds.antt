@@ -1,7 +1,6 @@
 -- The ends of spans that an account tells, listed: so that a row's account has no other. And that nothing is delivered after a
 -- close, said of each delivery.
-use Rattle.std.proofs.Common.{◌≡◌, ℕ, ◌==◌, Bool, true, false, cond, inl, inr, List, [], ◌∷◌, ◌++◌, refl, sym, subst, ◌∙◌}
-use Rattle.delivery.proofs.Words.Std.{eq-eqb, eqb-true, true≢false, if◌then◌else◌}
+use Rattle.delivery.proofs.Words.Std.{◌≡◌, ℕ, ◌==◌, Bool, true, false, cond, inl, inr, List, [], ◌∷◌, ◌++◌, refl, sym, subst, ◌∙◌, eq-eqb, eqb-true, true≢false, if◌then◌else◌}
 use Rattle.delivery.proofs.Words.Topics.{Stamp, In, Item}
 use Rattle.delivery.proofs.Words.Lemmas.{not_true, any_from}
 use Rattle.delivery.proofs.Words.Machine.{Answer, IsSilent, SilentAfterClose, closes}

@@ -1,6 +1,5 @@
 -- What a run's steps tell is what is told of its account.
-use Rattle.std.proofs.Common.{◌≡◌, ℕ, ◌+◌, ◌==◌, Bool, true, false, cond, ◌&&◌, List, [], ◌∷◌, ◌++◌, Option, Some, refl, sym, ap, ◌∙◌}
-use Rattle.delivery.proofs.Words.Std.{eqb-true}
+use Rattle.delivery.proofs.Words.Std.{◌≡◌, ℕ, ◌+◌, ◌==◌, Bool, true, false, cond, ◌&&◌, List, [], ◌∷◌, ◌++◌, Option, Some, refl, sym, ap, ◌∙◌, eqb-true}
 use Rattle.delivery.proofs.Words.Topics.{TxnId, SentMessage, Transaction, same_id}
 use Rattle.delivery.proofs.Words.Frames.{RawFrame}
 use Rattle.delivery.proofs.Words.Lemmas.{id_same}

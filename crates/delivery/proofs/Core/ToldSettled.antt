@@ -1,7 +1,6 @@
 -- What is told of the machine's answers comes of one of them. So a topic that is settled, and a subscription that is silent, by what
 -- is told of the answers is so by the answers.
-use Rattle.std.proofs.Common.{◌≡◌, ◌⊎◌, ℕ, true, inl, inr, List, [], ◌∷◌, ◌++◌, refl, sym, ap, subst, ◌∙◌}
-use Rattle.delivery.proofs.Words.Std.{eq-eqb}
+use Rattle.delivery.proofs.Words.Std.{AllByRecursion, ◌≡◌, ◌⊎◌, ℕ, true, inl, inr, List, [], ◌∷◌, ◌++◌, refl, sym, ap, subst, ◌∙◌, eq-eqb}
 use Rattle.delivery.proofs.Words.Topics.{Topic, TxnId, Stamp, Transaction, In}
 use Rattle.delivery.proofs.Words.Machine.{Answer, txn_of_id}
 use Rattle.delivery.proofs.Words.Core.{Told}
@@ -9,6 +8,7 @@ use Rattle.delivery.specs.Theorem.Settled.{closes, SilentAfterClose, IsResolved 
 use Rattle.delivery.specs.Core.Told.{AllResolved, IsSettled, IsSilent}
 use Rattle.delivery.proofs.Machine.AnswerLemmas.{made_id}
 use Rattle.delivery.proofs.Core.Tells.{tells, tell, source, told_in}
+use Rattle.delivery.proofs.Views.Senders.TicketsOfTopics.{all_in}
 
 -- ---- which answer tells what
 
@@ -23,33 +23,24 @@ Means (Told.Unsubscribed s to) o past = o ≡ Answer.Unsubscribed s to
 Means (Told.Closed c) o past = closes c o ≡ true
 Means x o past = Unit {0}
 
+-- an answer is all that it tells
+each_means : (o : Answer) (past : List Answer) → AllByRecursion (λ (x : Told). Means x o past) (tells o past)
+each_means (Answer.Begun txn) past = (refl, tt)
+each_means (Answer.Subscribed s c t from) past = ((from, refl), tt)
+each_means (Answer.Unsubscribed s to) past = (refl, tt)
+each_means (Answer.Leaving c) past = (eq-eqb c c refl, tt)
+each_means (Answer.Error c) past = (eq-eqb c c refl, tt)
+each_means (Answer.Decided id stamp) past = ((id, refl, refl), tt)
+each_means (Answer.Withdrawn id c) past = (eq-eqb c c refl, ((id, c, refl, refl), tt))
+each_means (Answer.Cancelled id t) past = (refl, tt)
+each_means (Answer.Ticket id ticket) past = (tt, tt)
+each_means (Answer.Released t id) past = (tt, tt)
+each_means (Answer.Turned t count) past = (tt, tt)
+each_means (Answer.Handed s item) past = (tt, tt)
+each_means o past = tt
+
 means : (x : Told) (o : Answer) (past : List Answer) → In x (tells o past) → Means x o past
-means x (Answer.Begun txn) past (inl e) = subst (λ (z : Told). Means z (Answer.Begun txn) past) e refl
-means x (Answer.Begun txn) past (inr none) = absurd none
-means x (Answer.Subscribed s c t from) past (inl e) = subst (λ (z : Told). Means z (Answer.Subscribed s c t from) past) e (from, refl)
-means x (Answer.Subscribed s c t from) past (inr none) = absurd none
-means x (Answer.Unsubscribed s to) past (inl e) = subst (λ (z : Told). Means z (Answer.Unsubscribed s to) past) e refl
-means x (Answer.Unsubscribed s to) past (inr none) = absurd none
-means x (Answer.Leaving c) past (inl e) = subst (λ (z : Told). Means z (Answer.Leaving c) past) e (eq-eqb c c refl)
-means x (Answer.Leaving c) past (inr none) = absurd none
-means x (Answer.Error c) past (inl e) = subst (λ (z : Told). Means z (Answer.Error c) past) e (eq-eqb c c refl)
-means x (Answer.Error c) past (inr none) = absurd none
-means x (Answer.Ticket id ticket) past (inl e) = subst (λ (z : Told). Means z (Answer.Ticket id ticket) past) e tt
-means x (Answer.Ticket id ticket) past (inr none) = absurd none
-means x (Answer.Decided id stamp) past (inl e) = subst (λ (z : Told). Means z (Answer.Decided id stamp) past) e (id, refl, refl)
-means x (Answer.Decided id stamp) past (inr none) = absurd none
-means x (Answer.Withdrawn id c) past (inl e) = subst (λ (z : Told). Means z (Answer.Withdrawn id c) past) e (eq-eqb c c refl)
-means x (Answer.Withdrawn id c) past (inr (inl e)) = subst (λ (z : Told). Means z (Answer.Withdrawn id c) past) e (id, c, refl, refl)
-means x (Answer.Withdrawn id c) past (inr (inr none)) = absurd none
-means x (Answer.Cancelled id t) past (inl e) = subst (λ (z : Told). Means z (Answer.Cancelled id t) past) e refl
-means x (Answer.Cancelled id t) past (inr none) = absurd none
-means x (Answer.Released t id) past (inl e) = subst (λ (z : Told). Means z (Answer.Released t id) past) e tt
-means x (Answer.Released t id) past (inr none) = absurd none
-means x (Answer.Turned t count) past (inl e) = subst (λ (z : Told). Means z (Answer.Turned t count) past) e tt
-means x (Answer.Turned t count) past (inr none) = absurd none
-means x (Answer.Handed s item) past (inl e) = subst (λ (z : Told). Means z (Answer.Handed s item) past) e tt
-means x (Answer.Handed s item) past (inr none) = absurd none
-means x o past i = absurd i
+means x o past i = all_in (λ (z : Told). Means z o past) (tells o past) (each_means o past) x i
 
 -- an end that is told was answered
 pub end_from : (s : ℕ) (to : Stamp) (past : List Answer) → In (Told.Unsubscribed s to) (tell past) → In (Answer.Unsubscribed s to) past

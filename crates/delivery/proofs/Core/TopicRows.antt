@@ -1,10 +1,8 @@
 -- Worked rows of topics that are made on first use.
-use Rattle.delivery.proofs.Words.Std.{◌≡◌, List, [], ◌∷◌, ◌++◌, map, codes, range_with_len}
-use Rattle.delivery.proofs.Words.Core.{Event, Refusal, ConnectionFault, Core, new_core, names_at, report_of}
-use Rattle.std.proofs.Common.{false, refl}
+use Rattle.delivery.proofs.Words.Std.{false, refl, ◌≡◌, List, [], ◌∷◌, ◌++◌, map, codes, range_with_len}
+use Rattle.delivery.proofs.Words.Core.{Event, Refusal, ConnectionFault, Core, new_core, names_at, report_of, Opened, Done, Subscribed, Flying, Proposed, Decided, Turned, Handed, Faulted, Refused}
 use Rattle.stomp_frame.specs.declared.command.Command.TheVariants as commands
 use Rattle.stomp_session.specs.declared.fault.SessionFault.TheVariants as sessions
-use Rattle.delivery.specs.declared.outcome.Outcome.TheVariants.{Opened, Done, Subscribed, Flying, Proposed, Decided, Turned, Handed, Faulted, Refused}
 use Rattle.delivery.proofs.Core.Agreement.{agreements, all_agree}
 use Rattle.delivery.proofs.Core.Rows.{greeting, one}
 use Rattle.delivery.proofs.Core.Acts.{topic_list, Act, frame, topic, stamp, id, log_row, act, reads, without, played, shown_outcomes, subscribe, begin, send, send_in, commit, opens, propose, turn, A, B}

@@ -1,12 +1,11 @@
 -- One whole delivery: a connection subscribes to two topics, commits a transaction to both, is delivered an item of the first,
 -- and unsubscribes from it; its queue of the second, which takes one item, lags as a second transaction comes.
-use Rattle.std.proofs.Common.{inl, inr, refl, sym, ap, subst, ◌∙◌, arith, cond}
-use Rattle.delivery.proofs.Words.Std.{◌≡◌, ℕ, zero, suc, nat_lt, ◌==◌, ◌<◌, ◌≤◌, ◌+◌, ◌++◌, ◌||◌, length, map, take, Bool, true, false, if◌then◌else◌, slice_get, List, [], ◌∷◌, codes, Ok, Some, option_to_list, false≢true, true≢false}
-use Rattle.delivery.proofs.Words.Topics.{Topic, TxnId, Stamp, CommitRow, Transaction, committed_id, stamp_of, agreed, EachOnce, SenderOrder, In, Item, LogRow, names, topics_of}
+use Rattle.delivery.proofs.Words.Std.{inl, inr, refl, sym, ap, subst, ◌∙◌, arith, cond, ◌≡◌, ℕ, zero, suc, nat_lt, ◌==◌, ◌<◌, ◌≤◌, ◌+◌, ◌++◌, ◌||◌, length, map, take, Bool, true, false, if◌then◌else◌, slice_get, List, [], ◌∷◌, codes, Ok, Some, option_to_list, false≢true, true≢false}
+use Rattle.delivery.proofs.Words.Topics.{Topic, TxnId, Stamp, CommitRow, Transaction, committed_id, stamp_of, agreed, EachOnce, SenderOrder, In, Item, LogRow, names, topics_of, Asked, Lag}
 use Rattle.delivery.proofs.Words.Frames.{RawFrame}
 use Rattle.delivery.proofs.Words.Lemmas.{some_same, none_some}
 use Rattle.delivery.proofs.Words.Machine.{log_row, item_at, is_due, shared_marks, SilentAfterClose, Answer, commits_of, delivered_items}
-use Rattle.delivery.proofs.Words.Core.{Event, Outcome, TopicList, CoreStep, BeginsWithFrames, fed_octets, frames_of, frame_in, reader_limits, account_of, released_log, released_frontier, text_out, new_core, QueueReport, Report, report_of, log_in, out_in, Told, told_of, Delivery, IsAsAnswered, DeliversAnswers}
+use Rattle.delivery.proofs.Words.Core.{Event, Outcome, TopicList, CoreStep, BeginsWithFrames, fed_octets, frames_of, frame_in, reader_limits, account_of, released_log, released_frontier, text_out, new_core, QueueReport, Report, report_of, log_in, out_in, Told, told_of, Delivery, IsAsAnswered, DeliversAnswers, Opened, Fed, Done, Subscribed, Unsubscribed, Flying, Proposed, Decided, Turned, Handed}
 use Rattle.std.specs.Fmt.{digits}
 use Rattle.std.specs.Str.{is_utf8, chars}
 use Rattle.std.specs.Char.{encode_utf8}
@@ -14,8 +13,6 @@ use Rattle.stomp_escape.specs.Inner.Unescaping.{unescaped_from}
 use Rattle.stomp_frame.specs.declared.command.Command.TheVariants as commands
 use Rattle.stomp_frame.specs.Inner.Parser.{checked, line_at, after_eols, command_of, field_of, header_of, headers_at, counted_at, uncounted_at, body_at, frame_at}
 use Rattle.stomp_frame.proofs.Whole.{begins}
-use Rattle.mcast_group.specs.declared.cause.Cause.TheVariants.{Asked, Lag}
-use Rattle.delivery.specs.declared.outcome.Outcome.TheVariants.{Opened, Fed, Done, Subscribed, Unsubscribed, Flying, Proposed, Decided, Turned, Handed}
 use Rattle.delivery.proofs.Core.ShownReadings.{shown_each}
 use Rattle.delivery.proofs.Core.Acts.{Act, topic_list, played, act, reads, frame, connect, subscribe, begin, send_in, send, commit, propose, turn, topic, stamp, id, made, part, x_to, shown_outcomes, log_row as row, A, B}
 use Rattle.delivery.proofs.Core.ToldEnds.{no_match, in_ends, not_silent, silent_at}

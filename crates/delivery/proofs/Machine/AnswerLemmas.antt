@@ -1,11 +1,9 @@
 -- What stands in the list of outcomes.
-use Rattle.std.proofs.Common.{◌≡◌, Bool, true, false, cond, inl, inr, List, [], ◌∷◌, ◌++◌, refl, sym, ap, subst, ◌∙◌}
-use Rattle.delivery.proofs.Words.Std.{true≢false}
+use Rattle.delivery.proofs.Words.Std.{◌≡◌, Bool, true, false, cond, inl, inr, List, [], ◌∷◌, ◌++◌, refl, sym, ap, subst, ◌∙◌, true≢false}
 use Rattle.delivery.proofs.Words.Topics.{stamp_lt, greatest, Transaction, CommitRow, same_id, In, TxnId, Stamp}
 use Rattle.delivery.proofs.Words.Lemmas.{id_equal, id_same, In-append_left, In-push, not_head}
-use Rattle.delivery.proofs.Words.Machine.{Answer, txn_of_id, commits_of, answers_of, final_world}
+use Rattle.delivery.proofs.Words.Machine.{Answer, txn_of_id, commits_of, answers_of, final_world, Begun, Ticket, Decided}
 use Rattle.mcast_txn.proofs.Greatest.{is_greatest}
-use Rattle.delivery.specs.Machine.Moves.Answer.{Begun, Ticket, Decided}
 use Rattle.delivery.specs.Machine.Runs.{tickets_of}
 use Rattle.delivery.specs.Theorem.Laws
 use Rattle.delivery.proofs.Machine.Invariant.{row}

@@ -1,17 +1,17 @@
 -- Every event keeps the invariant, and the commit list of the past is the core's.
-use Rattle.delivery.proofs.Words.Std.{option_or, option_map, is_some, true≢false, and_parts, ltb-true, not-false}
-use Rattle.delivery.proofs.Words.Topics.{greatest, part_at, topics_of, Transaction, CommitRow, same_id, In, names, Decision, Topic, TxnId, SentMessage, ProposeFault, LearnFault, first_refusal, Item, Pending, Entry, propose_fault, is_pending, after_learn, due_part, after_release, after_turn, decided_stamp}
+use Rattle.delivery.proofs.Words.Std.{◌≡◌, ℕ, ◌+◌, ◌<◌, ◌≤◌, Bool, true, false, cond, not, inl, inr, List, [], ◌∷◌, ◌++◌, length, set, Option, Some, None, refl, sym, ap, subst, ◌∙◌, arith, option_or, option_map, is_some, true≢false, and_parts, ltb-true, not-false}
+use Rattle.delivery.proofs.Words.Topics.{greatest, part_at, topics_of, Transaction, CommitRow, same_id, In, names, Decision, Topic, TxnId, SentMessage, ProposeFault, LearnFault, first_refusal, Pending, Entry, propose_fault, is_pending, after_learn, due_part, after_release, after_turn, decided_stamp}
 use Rattle.delivery.proofs.Words.Lemmas.{id_equal, id_itself, at_set, NoneHolds, passes, some_same, none_some, not_true}
-use Rattle.delivery.proofs.Words.Machine.{Objection, World, Undecided, Leftover, SenderState, topic_at, new_sender, speaker, entry_at, speaker_number, Move, Answer, world_after, answer_to, move_refusal, move_effect, move_answer, undecided_at, undecided_or_none, find_leftover, find_verdict, verdict_in, oldest_live, has_ticket, next_txn, next_ticket, connect_effect, commit_effect, commit_answer, proposal_fault, propose_effect, propose_answer, decide_effect, withdraw_effect, cancel_effect, cancel_answer, learn_effect, learn_objection, release_answer, queue_has_room, take_effect, take_answer, leave_effect, leave_answer, close_effect, close_effect_of, or_out_of_memory, learn_objection_of, is_topic, move_refusals, topic_objection, txn_of_id, commits_of}
-use Rattle.std.proofs.Common.{◌≡◌, ℕ, ◌+◌, ◌<◌, ◌≤◌, Bool, true, false, cond, not, inl, inr, List, [], ◌∷◌, ◌++◌, length, set, Option, Some, None, refl, sym, ap, subst, ◌∙◌, arith}
+use Rattle.delivery.proofs.Words.Machine.{Objection, World, Undecided, Leftover, SenderState, topic_at, new_sender, speaker, entry_at, speaker_number, Move, Answer, world_after, answer_to, move_refusal, move_effect, move_answer, undecided_at, undecided_or_none, find_leftover, find_verdict, verdict_in, has_ticket, next_txn, next_ticket, connect_effect, commit_effect, commit_answer, proposal_fault, propose_effect, propose_answer, decide_effect, withdraw_effect, cancel_effect, cancel_answer, learn_effect, learn_objection, release_answer, queue_has_room, close_effect, close_effect_of, or_out_of_memory, learn_objection_of, is_topic, move_refusals, topic_objection, txn_of_id, commits_of}
 use Rattle.mcast_group.specs.Machine.{propose_refusals}
-use Rattle.delivery.specs.Machine.Moves.Move.{AddsTopic, Opens, Connects, Commits, Subscribes, Unsubscribes, Disconnects, Errs, Lost, Leaves, Proposes, Decides, Withdraws, Cancels, Learns, Releases, Turns, Takes}
+use Rattle.delivery.specs.Machine.Moves.Move.{AddsTopic, Connects, Commits, Subscribes, Unsubscribes, Leaves, Proposes, Decides, Withdraws, Cancels, Learns, Releases, Turns, Takes}
 use Rattle.delivery.specs.Machine.Moves.Answer.{Refused, Done, Begun, Ticket}
 use Rattle.delivery.proofs.Machine.Invariant.{row, sender_in, Inv, Holds}
 use Rattle.delivery.proofs.Machine.TopicSteps.{topic_step, Keeps-learned, Keeps-release, Keeps-turned, Finds}
 use Rattle.delivery.proofs.Machine.ProposeStep.{New, enter_step}
 use Rattle.delivery.proofs.Machine.SenderSteps.{flown_step, marked_step, decide_step, withdrawn_step, cancel_step}
 use Rattle.delivery.proofs.Machine.SubscriptionSteps.{subscribe_step, end_step, take_step, added_step, opened_step, at_push}
+use Rattle.delivery.proofs.Machine.ByFound.{by_found}
 
 -- ---- refusals
 
@@ -289,17 +289,9 @@ unspoken past w o a b c h = record {
   commits = c ∙ h.commits;
 }
 
-left_reached : (past : List Answer) (w : World) (c : ℕ) (o : Option ℕ) → Reached past w → Reached (leave_answer w c o ∷ past) (leave_effect w c o)
-left_reached past w c None h = record { inv = h.inv; flights = h.flights; commits = h.commits }
-left_reached past w c (Some s) h = unspoken past (close_effect w s) _ refl (λ id. refl) refl (closed_reached past w s h)
-
 released_unspoken : (past : List Answer) (w : World) (t : Topic) (o : Option Pending) → Reached past w → Reached (release_answer t o ∷ past) w
 released_unspoken past w t None h = record { inv = h.inv; flights = h.flights; commits = h.commits }
 released_unspoken past w t (Some p) h = record { inv = h.inv; flights = h.flights; commits = h.commits }
-
-handed_reached : (past : List Answer) (w : World) (s : ℕ) (o : Option Item) → Reached past w → Reached (take_answer w s o ∷ past) (take_effect w s o)
-handed_reached past w s None h = record { inv = h.inv; flights = h.flights; commits = h.commits }
-handed_reached past w s (Some item) h = record { inv = take_step (tickets past) w s h.inv; flights = h.flights; commits = h.commits }
 
 connected_reached : (past : List Answer) (w : World) (c : ℕ) (claimed : Option ℕ) → Reached past w → Reached (Done ∷ past) (connect_effect w c claimed)
 connected_reached past w c None h = record {
@@ -312,7 +304,6 @@ connected_reached past w c (Some s) h = record { inv = h.inv; flights = h.flight
 -- an event that isn't refused keeps Reached
 pub happens_reached : (past : List Answer) (w : World) (e : Move) → Reached past w → move_refusal w e ≡ None → Reached (move_answer w e ∷ past) (move_effect w e)
 happens_reached past w (AddsTopic clock) h e = record { inv = added_step (tickets past) w clock h.inv; flights = h.flights; commits = h.commits }
-happens_reached past w Opens h e = record { inv = h.inv; flights = h.flights; commits = h.commits }
 happens_reached past w (Connects c claimed) h e = connected_reached past w c claimed h
 happens_reached past w (Commits c sends) h e = flown_reached past w c sends h
 happens_reached past w (Subscribes c t) h e =
@@ -323,10 +314,9 @@ happens_reached past w (Subscribes c t) h e =
       commits = h.commits;
     }
 happens_reached past w (Unsubscribes c s) h e = unspoken past (close_effect w s) _ refl (λ id. refl) refl (closed_reached past w s h)
-happens_reached past w (Disconnects c) h e = record { inv = h.inv; flights = h.flights; commits = h.commits }
-happens_reached past w (Errs c) h e = record { inv = h.inv; flights = h.flights; commits = h.commits }
-happens_reached past w (Lost c) h e = record { inv = h.inv; flights = h.flights; commits = h.commits }
-happens_reached past w (Leaves c) h e = left_reached past w c (oldest_live c 0 w.subscriptions) h
+happens_reached past w (Leaves c) h e =
+    by_found (λ v o. Reached (o ∷ past) v) w (Leaves c)
+    (record { inv = h.inv; flights = h.flights; commits = h.commits }, λ s. unspoken past (close_effect w s) _ refl (λ id. refl) refl (closed_reached past w s h))
 happens_reached past w (Proposes c t memory) h e = proposed_case past w c t memory h (asks_of w c t memory e) (proposal_fault w c t memory) refl
 happens_reached past w (Decides c) h e = decided_reached past w c h e
 happens_reached past w (Withdraws c) h e = withdrawn_reached past w c h e
@@ -344,7 +334,10 @@ happens_reached past w (Turns t) h e = record {
   flights = h.flights;
   commits = h.commits;
 }
-happens_reached past w (Takes s) h e = handed_reached past w s _ h
+happens_reached past w (Takes s) h e =
+    by_found (λ v o. Reached (o ∷ past) v) w (Takes s)
+    (record { inv = h.inv; flights = h.flights; commits = h.commits }, λ item. record { inv = take_step (tickets past) w s h.inv; flights = h.flights; commits = h.commits })
+happens_reached past w _ h e = record { inv = h.inv; flights = h.flights; commits = h.commits }
 
 -- each event keeps Reached
 pub step_reached : (past : List Answer) (w : World) (e : Move) → Reached past w → Reached (answer_to w e ∷ past) (world_after w e)

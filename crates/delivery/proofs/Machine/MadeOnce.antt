@@ -1,10 +1,8 @@
 -- A run makes each transaction once: what is looked up by its id is the transaction itself.
-use Rattle.std.proofs.Common.{◌≡◌, ℕ, ◌+◌, ◌≤◌, ◌==◌, Bool, true, false, cond, inl, inr, List, [], ◌∷◌, refl, ap, subst, ◌∙◌, arith}
-use Rattle.delivery.proofs.Words.Std.{eq-eqb}
+use Rattle.delivery.proofs.Words.Std.{◌≡◌, ℕ, ◌+◌, ◌≤◌, ◌==◌, Bool, true, false, cond, inl, inr, List, [], ◌∷◌, refl, ap, subst, ◌∙◌, arith, eq-eqb}
 use Rattle.delivery.proofs.Words.Topics.{Transaction, same_id, In, TxnId}
 use Rattle.delivery.proofs.Words.Lemmas.{not_head, id_equal, id_itself, not_true}
-use Rattle.delivery.proofs.Words.Machine.{Answer, txn_of_id, txn_count, Numbered}
-use Rattle.delivery.specs.Machine.Moves.Answer.{Begun}
+use Rattle.delivery.proofs.Words.Machine.{Answer, txn_of_id, txn_count, Numbered, Begun}
 
 more_made : (n : ℕ) (b : Bool) → n ≤ cond b (n + 1) n
 more_made n true = omega arith

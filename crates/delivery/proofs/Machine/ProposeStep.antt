@@ -1,6 +1,5 @@
 -- A ticket is given.
-use Rattle.std.proofs.Common.{◌≡◌, ◌≢◌, ℕ, ◌+◌, ◌<◌, ◌≤◌, ◌==◌, Bool, true, false, cond, inl, inr, List, [], ◌∷◌, length, set, Some, None, refl, sym, ap, subst, ◌∙◌, arith, ltb}
-use Rattle.delivery.proofs.Words.Std.{true≢false, eq-eqb, cases_lt, get_or_past}
+use Rattle.delivery.proofs.Words.Std.{◌≡◌, ◌≢◌, ℕ, ◌+◌, ◌<◌, ◌≤◌, ◌==◌, Bool, true, false, cond, inl, inr, List, [], ◌∷◌, length, set, Some, None, refl, sym, ap, subst, ◌∙◌, arith, ltb, true≢false, eq-eqb, cases_lt, get_or_past}
 use Rattle.delivery.proofs.Words.Topics.{stamp_lt, part_at, TopicPart, topics_of, Transaction, CommitRow, same_id, In, names, Decision, Topic, TxnId, Stamp, TopicState, Pending, new_topic, is_pending, next_number, after_propose}
 use Rattle.delivery.proofs.Words.Lemmas.{id_equal, id_same, same_topics, In-insert, In-insert_cases, insert_one, any_from, at_set_within, Waits, some_same, none_some}
 use Rattle.delivery.proofs.Words.Machine.{World, Undecided, Leftover, SenderState, new_sender, has_ticket, insert_ticket}

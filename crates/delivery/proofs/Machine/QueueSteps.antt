@@ -1,6 +1,5 @@
 -- How a topic's step moves the end and the queue of its subscriptions.
-use Rattle.std.proofs.Common.{◌≡◌, ℕ, zero, suc, ◌+◌, ◌-◌, ◌<◌, ◌≤◌, ◌==◌, Bool, true, false, cond, List, [], ◌∷◌, ◌++◌, map, length, Option, Some, None, refl, sym, ap, subst, ◌∙◌, arith}
-use Rattle.delivery.proofs.Words.Std.{eqb-true, ltb-true, true≢false, lt-ltb, length_push}
+use Rattle.delivery.proofs.Words.Std.{◌≡◌, ℕ, zero, suc, ◌+◌, ◌-◌, ◌<◌, ◌≤◌, ◌==◌, Bool, true, false, cond, List, [], ◌∷◌, ◌++◌, map, length, Option, Some, None, refl, sym, ap, subst, ◌∙◌, arith, eqb-true, ltb-true, true≢false, lt-ltb, length_push}
 use Rattle.delivery.proofs.Words.Topics.{Stamp, Item, TopicState, Pending, Entry, find_entry, entry_after, due_part, after_release, after_tries, after_releases, after_turn, item_of}
 use Rattle.delivery.proofs.Words.Lemmas.{none_some, after_release_if, tried_all_subs}
 use Rattle.delivery.proofs.Words.Machine.{World, subscription_at, entry_items, entry_to, queue_has_room, verdict_in}

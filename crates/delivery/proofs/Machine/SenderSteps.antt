@@ -1,6 +1,5 @@
 -- A transaction is made, is decided, is withdrawn, and its tickets are cancelled.
-use Rattle.std.proofs.Common.{◌≡◌, ◌≢◌, ℕ, zero, suc, ◌+◌, ◌<◌, ◌≤◌, ◌==◌, Bool, true, false, cond, ◌⊎◌, inl, inr, List, [], ◌∷◌, ◌++◌, map, length, set, Some, None, refl, sym, ap, subst, ◌∙◌, arith, ltb}
-use Rattle.delivery.proofs.Words.Std.{true≢false, eqb-true, eq-eqb}
+use Rattle.delivery.proofs.Words.Std.{◌≡◌, ◌≢◌, ℕ, zero, suc, ◌+◌, ◌<◌, ◌≤◌, ◌==◌, Bool, true, false, cond, ◌⊎◌, inl, inr, List, [], ◌∷◌, ◌++◌, map, length, set, Some, None, refl, sym, ap, subst, ◌∙◌, arith, ltb, true≢false, eqb-true, eq-eqb}
 use Rattle.delivery.proofs.Words.Topics.{stamp_lt, greatest, topics_of, insert_topic, Transaction, CommitRow, stamp_of, same_id, In, names, Decision, Topic, TxnId, SentMessage, Stamp, Item, TopicState, new_topic, after_cancel}
 use Rattle.delivery.proofs.Words.Lemmas.{lt_irrefl, lt_asym, le_lt, id_equal, id_same, same_topics, In-append_left, In-push, In-map_cases, any_found, at_set, at_set_within, push_one, Waits, Waits-without, others, some_same, none_some}
 use Rattle.delivery.proofs.Words.Machine.{log_row, World, Undecided, Leftover, SenderState, Subscription, new_sender, has_ticket, is_complete, leftover, find_leftover, drop_leftover}

@@ -1,10 +1,8 @@
 -- What each event makes of subscriptions: where they begin and end, and how much their queues hold.
-use Rattle.std.proofs.Common.{◌≡◌, ℕ, ◌+◌, ◌<◌, ◌≤◌, ◌==◌, nat_lt, Bool, true, false, cond, List, [], ◌∷◌, length, set, get_or, Option, Some, None, refl, sym, ap, subst, ◌∙◌, arith}
-use Rattle.delivery.proofs.Words.Std.{length_push}
-use Rattle.delivery.proofs.Words.Topics.{part_at, Decision, Topic, TxnId, SentMessage, Stamp, ProposeFault, Item, TopicState, Entry, EntryEnd, find_entry, insert_entry, end_of, after_propose, after_cancel, after_learn, after_unsubscribe, decided_stamp}
+use Rattle.delivery.proofs.Words.Std.{◌≡◌, ℕ, ◌+◌, ◌<◌, ◌≤◌, ◌==◌, nat_lt, Bool, true, false, cond, List, [], ◌∷◌, length, set, get_or, Option, Some, None, refl, sym, ap, subst, ◌∙◌, arith, length_push}
+use Rattle.delivery.proofs.Words.Topics.{part_at, Decision, Topic, TxnId, Stamp, ProposeFault, Item, TopicState, Entry, EntryEnd, find_entry, insert_entry, end_of, after_propose, after_cancel, after_learn, after_unsubscribe, decided_stamp}
 use Rattle.delivery.proofs.Words.Lemmas.{at_set, at_set_within, none_some}
-use Rattle.delivery.proofs.Words.Machine.{World, Leftover, Subscription, no_subscription, topic_at, speaker, subscription_at, entry_at, with_topic, entry_items, entry_to, accepted_at, end_at, Move, Answer, world_after, move_effect, find_leftover, find_verdict, oldest_live, commit_effect, proposal_fault, propose_effect, cancel_effect, learn_effect, take_effect, undecided_at, leave_effect, close_effect_of}
-use Rattle.delivery.specs.Machine.Moves.Move.{AddsTopic, Commits, Subscribes, Unsubscribes, Leaves, Proposes, Cancels, Learns, Releases, Turns, Takes}
+use Rattle.delivery.proofs.Words.Machine.{World, Leftover, Subscription, no_subscription, topic_at, speaker, subscription_at, entry_at, with_topic, entry_items, entry_to, accepted_at, end_at, Move, Answer, world_after, move_effect, find_leftover, find_verdict, oldest_live, commit_effect, proposal_fault, propose_effect, cancel_effect, learn_effect, take_effect, undecided_at, leave_effect, close_effect_of, AddsTopic, Commits, Subscribes, Unsubscribes, Leaves, Proposes, Cancels, Learns, Releases, Turns, Takes}
 use Rattle.delivery.proofs.Machine.Invariant.{topic_in, Owned}
 use Rattle.delivery.proofs.Machine.TopicSteps.{at_topic_from}
 use Rattle.delivery.proofs.Machine.SubscriptionSteps.{at_push_two, at_added, set_length, found_entry, new_subscription, new_entry, topic_with, taken_more}
@@ -189,10 +187,6 @@ Tells-closed past w s r (Some entry) e =
 
 -- ---- each event
 
-Tells-flown : (w : World) (c : ℕ) (sends : List SentMessage) → TellsOf w (commit_effect w c sends)
-Tells-flown w c [] = Tells-same w
-Tells-flown w c (first ∷ others) = Tells-same w
-
 Tells-proposed : (w : World) (c : ℕ) (t : Topic) (o : Option ProposeFault) → TellsOf w (propose_effect w c t o)
 Tells-proposed w c t None =
     let y = after_propose (speaker w c).floor (part_at (undecided_at w c).txn.id (undecided_at w c).txn.sends t) (topic_at w t) in Tells-topic w t y (Goes-same w (topic_at w t) y refl)
@@ -205,10 +199,6 @@ Tells-cancelled w c t (Some k) = Tells-topic w t (after_cancel k.id (topic_at w 
 Tells-learned : (w : World) (t : Topic) (id : TxnId) (o : Option Decision) → TellsOf w (learn_effect w t id o)
 Tells-learned w t id None = Tells-same w
 Tells-learned w t id (Some v) = Tells-topic w t (after_learn id (decided_stamp v) (topic_at w t)) (Goes-same w (topic_at w t) (after_learn id (decided_stamp v) (topic_at w t)) refl)
-
-Tells-left : (past : List Answer) (w : World) (c : ℕ) (o : Option ℕ) → Reached past w → TellsOf w (leave_effect w c o)
-Tells-left past w c None r = Tells-same w
-Tells-left past w c (Some s) r = Tells-closed past w s r (entry_at w s) refl
 
 Tells-handed : (w : World) (s : ℕ) (o : Option Item) → TellsOf w (take_effect w s o)
 Tells-handed w s None = Tells-same w
@@ -225,10 +215,10 @@ Tells-handed w s (Some item) =
 
 effect_tells : (past : List Answer) (w : World) (e : Move) → Reached past w → TellsOf w (move_effect w e)
 effect_tells past w (AddsTopic clock) r = Tells-added w clock
-effect_tells past w (Commits c sends) r = Tells-flown w c sends
+effect_tells past w (Commits c sends) r = elim sends as (λ sends. TellsOf w (commit_effect w c sends)) [ [] ↦ Tells-same w | first ∷ others ↦ Tells-same w ]
 effect_tells past w (Subscribes c t) r = Tells-begun past w c t r
 effect_tells past w (Unsubscribes c s) r = Tells-closed past w s r (entry_at w s) refl
-effect_tells past w (Leaves c) r = Tells-left past w c (oldest_live c 0 w.subscriptions) r
+effect_tells past w (Leaves c) r = elim (oldest_live c 0 w.subscriptions) as (λ o. TellsOf w (leave_effect w c o)) [ None ↦ Tells-same w | Some s ↦ Tells-closed past w s r (entry_at w s) refl ]
 effect_tells past w (Proposes c t memory) r = Tells-proposed w c t (proposal_fault w c t memory)
 effect_tells past w (Cancels c t) r = Tells-cancelled w c t (find_leftover t (speaker w c).leftovers)
 effect_tells past w (Learns t id) r = Tells-learned w t id (find_verdict id w.verdicts)

@@ -1,10 +1,8 @@
 -- Whom a connection speaks for, where a test says that it speaks for somebody, and whom it claims.
-use Rattle.std.proofs.Common.{◌≡◌, ℕ, ◌<◌, true, false, length, get_or, Option, Some, None, refl, sym, ap, ◌∙◌, arith, set, subst}
-use Rattle.delivery.proofs.Words.Std.{is_some, unwrap_or, true≢false, ltb-true, not-false}
+use Rattle.delivery.proofs.Words.Std.{◌≡◌, ℕ, ◌<◌, true, false, length, get_or, Option, Some, None, refl, sym, ap, ◌∙◌, arith, set, subst, is_some, unwrap_or, true≢false, ltb-true, not-false}
 use Rattle.delivery.proofs.Words.Topics.{In}
 use Rattle.delivery.proofs.Words.Lemmas.{some_same, none_some}
-use Rattle.delivery.proofs.Words.Machine.{World, SenderState, new_sender, connection_at, sender_at, speaker, speaker_number, is_in_use, with_sender, Leftover, move_refusal}
-use Rattle.delivery.specs.Machine.Moves.Move.{Connects}
+use Rattle.delivery.proofs.Words.Machine.{World, SenderState, new_sender, connection_at, sender_at, speaker, speaker_number, is_in_use, with_sender, Leftover, move_refusal, Connects}
 use Rattle.delivery.proofs.Machine.InvariantIsKept.{checked}
 use Rattle.delivery.proofs.Machine.SubscriptionSteps.{beyond, set_length}
 

@@ -1,7 +1,5 @@
 -- Subscriptions begin, end and are handed items; topics are added.
-use Rattle.std.proofs.Common.{◌≡◌, ◌≢◌, ℕ, zero, suc, ◌+◌, ◌<◌, ◌≤◌, ◌==◌, Bool, true, false, cond, not, inl, inr, List, [], ◌∷◌, ◌++◌, length, get_or, set, Option, Some, None, refl, sym, ap, subst, ◌∙◌, arith}
-use Rattle.std.specs.List.{filter}
-use Rattle.delivery.proofs.Words.Std.{true≢false, not-true, eqb-true, eq-eqb, length_push}
+use Rattle.delivery.proofs.Words.Std.{◌≡◌, ◌≢◌, ℕ, zero, suc, ◌+◌, ◌<◌, ◌≤◌, ◌==◌, Bool, true, false, cond, not, inl, inr, List, [], ◌∷◌, ◌++◌, length, get_or, set, Option, Some, None, refl, sym, ap, subst, ◌∙◌, arith, true≢false, not-true, eqb-true, eq-eqb, length_push, filter}
 use Rattle.delivery.proofs.Words.Topics.{CommitRow, In, Topic, Stamp, Item, IsSound, IsQueueOf, TopicState, Entry, EntryEnd, new_topic, find_entry, insert_entry, after_subscribe, end_of, after_unsubscribe}
 use Rattle.delivery.proofs.Words.Lemmas.{same_topics, In-insert, In-insert_cases, insert_one, In-filter, In-filter_cases, at_set, at_set_within, Waits, some_same, none_some, not_true, Sound-new}
 use Rattle.delivery.proofs.Words.Machine.{World, Subscription, SenderState, new_sender, no_subscription}

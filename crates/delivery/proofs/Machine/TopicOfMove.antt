@@ -1,9 +1,8 @@
 -- What an event makes of a topic: nothing, or one of a topic's own steps. So what holds from a topic to itself and to what each of these
 -- makes of it holds over each event.
 use Rattle.std.proofs.Common.{ℕ, Bool, List, [], ◌∷◌, set, length, Option, Some, None}
-use Rattle.delivery.proofs.Words.Topics.{new_topic, part_at, Decision, Topic, TxnId, Stamp, SentMessage, ProposeFault, Item, TopicPart, TopicState, Entry, after_subscribe, after_propose, after_cancel, after_learn, after_release, after_turn, after_unsubscribe, decided_stamp}
-use Rattle.delivery.proofs.Words.Machine.{World, Leftover, topic_at, speaker, subscription_at, entry_at, Move, world_after, move_effect, find_leftover, find_verdict, verdict_in, oldest_live, commit_effect, proposal_fault, propose_effect, cancel_effect, learn_effect, take_effect, undecided_at, leave_effect, close_effect_of, queue_has_room}
-use Rattle.delivery.specs.Machine.Moves.Move.{AddsTopic, Commits, Subscribes, Unsubscribes, Leaves, Proposes, Cancels, Learns, Releases, Turns, Takes}
+use Rattle.delivery.proofs.Words.Topics.{new_topic, part_at, Decision, Topic, TxnId, Stamp, ProposeFault, Item, TopicPart, TopicState, Entry, after_subscribe, after_propose, after_cancel, after_learn, after_release, after_turn, after_unsubscribe, decided_stamp}
+use Rattle.delivery.proofs.Words.Machine.{World, Leftover, topic_at, speaker, subscription_at, entry_at, Move, world_after, move_effect, find_leftover, find_verdict, verdict_in, oldest_live, commit_effect, proposal_fault, propose_effect, cancel_effect, learn_effect, take_effect, undecided_at, leave_effect, close_effect_of, queue_has_room, AddsTopic, Commits, Subscribes, Unsubscribes, Leaves, Proposes, Cancels, Learns, Releases, Turns, Takes}
 use Rattle.delivery.proofs.Machine.Invariant.{topic_in}
 use Rattle.delivery.proofs.Machine.TopicSteps.{at_topic_from}
 use Rattle.delivery.proofs.Machine.SubscriptionSteps.{at_added}
@@ -48,25 +47,17 @@ module _ (R : TopicState → TopicState → Type 0) (steps : Steps R) where
   closed w s None = still w.topics
   closed w s (Some e) = stepped w.topics (subscription_at w s).topic _ (steps.unsubscribed s (topic_at w (subscription_at w s).topic))
 
-  left : (w : World) (c : ℕ) (o : Option ℕ) → Each R w.topics (leave_effect w c o).topics
-  left w c None = still w.topics
-  left w c (Some s) = closed w s (entry_at w s)
-
   handed : (w : World) (s : ℕ) (o : Option Item) → Each R w.topics (take_effect w s o).topics
   handed w s None = still w.topics
   handed w s (Some item) = still w.topics
 
-  flown : (w : World) (c : ℕ) (sends : List SentMessage) → Each R w.topics (commit_effect w c sends).topics
-  flown w c [] = still w.topics
-  flown w c (first ∷ others) = still w.topics
-
   effect : (w : World) (e : Move) → Each R w.topics (move_effect w e).topics
   effect w (AddsTopic clock) u =
       at_added (λ v z. R (topic_in w.topics u) z) w.topics w.log_limit clock u (steps.added (topic_in w.topics u) u w.log_limit clock) (still w.topics u)
-  effect w (Commits c sends) u = flown w c sends u
+  effect w (Commits c sends) u = (elim sends as (λ sends. Each R w.topics (commit_effect w c sends).topics) [ [] ↦ still w.topics | first ∷ others ↦ still w.topics ]) u
   effect w (Subscribes c t) u = stepped w.topics t _ (steps.subscribed (length w.subscriptions) (topic_at w t)) u
   effect w (Unsubscribes c s) u = closed w s (entry_at w s) u
-  effect w (Leaves c) u = left w c (oldest_live c 0 w.subscriptions) u
+  effect w (Leaves c) u = (elim (oldest_live c 0 w.subscriptions) as (λ o. Each R w.topics (leave_effect w c o).topics) [ None ↦ still w.topics | Some s ↦ closed w s (entry_at w s) ]) u
   effect w (Proposes c t memory) u = proposed w c t (proposal_fault w c t memory) u
   effect w (Cancels c t) u = cancelled w c t (find_leftover t (speaker w c).leftovers) u
   effect w (Learns t id) u = learned w t id (find_verdict id w.verdicts) u

@@ -1,6 +1,5 @@
 -- The verdict of a pending part is its own, and clashes with none.
-use Rattle.std.proofs.Common.{◌≡◌, Bool, true, false, not, ◌&&◌, ◌⊎◌, inl, inr, List, [], ◌∷◌, Option, Some, None, refl, sym, ap, ◌∙◌}
-use Rattle.delivery.proofs.Words.Std.{list_any, true≢false, not-true, and_parts, and_from, or_from}
+use Rattle.delivery.proofs.Words.Std.{◌≡◌, Bool, true, false, not, ◌&&◌, ◌⊎◌, inl, inr, List, [], ◌∷◌, Option, Some, None, refl, sym, ap, ◌∙◌, list_any, true≢false, not-true, and_parts, and_from, or_from}
 use Rattle.delivery.proofs.Words.Topics.{TopicPart, Transaction, CommitRow, same_id, In, Decision, Topic, TxnId, Stamp, LearnFault, TopicState, Pending, HasOneRowEach, key, find_pending, learn_fault, decided_stamp}
 use Rattle.delivery.proofs.Words.Lemmas.{id_same, any_found, any_from, found_part, not_true}
 use Rattle.delivery.proofs.Words.Machine.{World, verdict_in, find_verdict}

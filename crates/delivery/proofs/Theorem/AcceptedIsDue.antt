@@ -1,10 +1,8 @@
 -- What follows of queues, the agreed sequence and stamps.
-use Rattle.std.proofs.Common.{◌≡◌, ℕ, zero, suc, ◌+◌, ◌<◌, Bool, true, false, not, ◌&&◌, ◌⊎◌, inl, inr, List, [], ◌∷◌, map, length, get_or, Option, Some, None, refl, sym, ap, subst, ◌∙◌, arith}
-use Rattle.delivery.proofs.Words.Std.{list_any, true≢false, not-true, and_parts, and_from, lt-ltb, cases_order}
+use Rattle.delivery.proofs.Words.Std.{◌≡◌, ℕ, zero, suc, ◌+◌, ◌<◌, Bool, true, false, not, ◌&&◌, ◌⊎◌, inl, inr, List, [], ◌∷◌, map, length, get_or, Option, Some, None, refl, sym, ap, subst, ◌∙◌, arith, list_any, true≢false, not-true, and_parts, and_from, lt-ltb, cases_order, filter}
 use Rattle.delivery.proofs.Words.Topics.{stamp_lt, TopicPart, topics_of, CommitRow, committed_id, stamp_of, agreed, EachOnce, SenderOrder, same_id, In, Rises, names, Topic, TxnId, Stamp, Item, Span, in_span, last_stamp, item_stamp, IsQueueOf, TopicState, Entry, EntryEnd, new_topic, find_entry, key}
 use Rattle.delivery.proofs.Words.Lemmas.{lt_irrefl, lt_asym, lt_le, id_equal, id_same, In-map, In-map_cases, In-filter, In-filter_cases, any_found, any_from, In-sorted, In-sorted_cases, Rises-sorted, Rises-filter, Rises-map, same_rising, Waits, none_some, Sound-new}
 use Rattle.delivery.proofs.Words.Machine.{log_row, item_at, is_due, due, World, start, new_topics, subscription_at, entry_at, entry_items, entry_to, accepted_at, end_at, span_at, frontier_at, Move, Answer, world_after, answer_to, run, answers_from, Run, answers_of, final_world, shared_marks}
-use Rattle.std.specs.List.{filter}
 use Rattle.mcast_txn.specs.declared.id.Sender.{Sender}
 use Rattle.mcast_txn.specs.Span.{item_mark}
 use Rattle.delivery.specs.Theorem.Laws

@@ -1,10 +1,7 @@
 -- A transaction in flight is its frame's, and its sender is that for which its connection speaks.
-use Rattle.std.proofs.Common.{◌≡◌, ℕ, List, [], ◌∷◌, Option, Some, None, refl, sym, ap, ◌∙◌}
-use Rattle.delivery.proofs.Words.Std.{not-false}
+use Rattle.delivery.proofs.Words.Std.{◌≡◌, ℕ, List, [], ◌∷◌, Option, Some, None, refl, sym, ap, ◌∙◌, not-false}
 use Rattle.delivery.proofs.Words.Topics.{Transaction, Topic, SentMessage, ProposeFault, Item, Pending, due_part}
-use Rattle.delivery.proofs.Words.Machine.{Objection, World, Leftover, topic_at, connection_at, speaker, speaker_number, Move, move_refusal, move_answer, find_leftover, oldest_live, next_txn, commit_answer, proposal_fault, propose_answer, cancel_answer, release_answer, take_answer, leave_answer}
-use Rattle.delivery.specs.Machine.Moves.Move.{Commits, Leaves, Proposes, Cancels, Releases, Takes}
-use Rattle.delivery.specs.Machine.Moves.Answer.{Refused, Begun}
+use Rattle.delivery.proofs.Words.Machine.{Objection, World, Leftover, topic_at, connection_at, speaker, speaker_number, Move, move_refusal, move_answer, find_leftover, oldest_live, next_txn, commit_answer, proposal_fault, propose_answer, cancel_answer, release_answer, take_answer, leave_answer, Commits, Leaves, Proposes, Cancels, Releases, Takes, Refused, Begun}
 use Rattle.delivery.specs.Theorem.Reported
 use Rattle.delivery.proofs.Machine.InvariantIsKept.{by_refusal, checked}
 use Rattle.delivery.proofs.Machine.Speakers.{has_speaker}

@@ -1,14 +1,12 @@
 -- A subscription is closed as its event is answered, and what it left stays; an open span ends with its topic's frontier.
-use Rattle.std.proofs.Common.{◌≡◌, ◌≢◌, ℕ, ◌+◌, ◌<◌, ◌==◌, true, not, ◌⊎◌, inl, inr, List, [], ◌∷◌, length, get_or, Option, Some, None, refl, sym, ap, subst, ◌∙◌, arith, ltb}
-use Rattle.delivery.proofs.Words.Std.{is_some, ltb-true, and_parts, cases_order, not-false, not-true, get_or_past}
-use Rattle.delivery.proofs.Words.Topics.{zero_stamp, Decision, Topic, TxnId, SentMessage, Stamp, ProposeFault, Item, Pending, Entry, EntryEnd, due_part, end_of}
+use Rattle.delivery.proofs.Words.Std.{◌≡◌, ◌≢◌, ℕ, ◌+◌, ◌<◌, ◌==◌, true, not, ◌⊎◌, inl, inr, List, length, get_or, Option, Some, None, refl, sym, ap, subst, ◌∙◌, arith, ltb, is_some, ltb-true, and_parts, cases_order, not-false, not-true, get_or_past}
+use Rattle.delivery.proofs.Words.Topics.{zero_stamp, Topic, Stamp, Item, Entry, EntryEnd, end_of}
 use Rattle.delivery.proofs.Words.Lemmas.{at_set, at_set_within, some_same, none_some}
-use Rattle.delivery.proofs.Words.Machine.{World, Leftover, Subscription, no_subscription, topic_at, speaker, subscription_at, entry_at, entry_items, entry_to, accepted_at, end_at, Move, Answer, world_after, answer_to, move_refusal, move_effect, move_answer, is_live, find_leftover, find_verdict, oldest_live, commit_effect, commit_answer, proposal_fault, propose_effect, propose_answer, cancel_effect, cancel_answer, learn_effect, release_answer, take_effect, take_answer, leave_effect, leave_answer, close_effect_of, Run, answers_of, final_world, cause_of}
-use Rattle.delivery.specs.Machine.Moves.Move.{AddsTopic, Commits, Subscribes, Unsubscribes, Leaves, Proposes, Cancels, Learns, Releases, Takes}
-use Rattle.delivery.specs.Machine.Moves.Answer.{Learnt, Unsubscribed}
+use Rattle.delivery.proofs.Words.Machine.{World, Subscription, no_subscription, topic_at, subscription_at, entry_at, entry_items, entry_to, accepted_at, end_at, Move, Answer, world_after, answer_to, move_refusal, move_effect, move_answer, is_live, oldest_live, take_effect, take_answer, leave_effect, leave_answer, close_effect_of, Run, answers_of, final_world, cause_of, Subscribes, Unsubscribes, Leaves, Takes, Unsubscribed}
 use Rattle.delivery.specs.Theorem.Spans
 use Rattle.delivery.proofs.Machine.SubscriptionSteps.{at_push_two, new_subscription, taken_more}
 use Rattle.delivery.proofs.Machine.InvariantIsKept.{Reached, by_refusal, checked}
+use Rattle.delivery.proofs.Machine.ByFound.{by_found}
 use Rattle.delivery.proofs.Theorem.AcceptedIsDue.{reached}
 use Rattle.delivery.proofs.Theorem.ClosedIsSilent.{oldest_found, none_of, no_entry}
 use Rattle.delivery.proofs.Machine.SpanSteps.{open_end}
@@ -91,26 +89,6 @@ begun_case w c s t = inl (
   λ to d. subst IsEnd (sym d) tt,
 )
 
-flown_case : (w : World) (c s : ℕ) (sends : List SentMessage) → StaysOrCloses w (commit_effect w c sends) (commit_answer w c sends) s
-flown_case w c s [] = same w (commit_effect w c []) (commit_answer w c []) s refl (λ i. i)
-flown_case w c s (first ∷ others) = same w (commit_effect w c (first ∷ others)) (commit_answer w c (first ∷ others)) s refl (λ i. i)
-
-proposed_case : (w : World) (c s : ℕ) (t : Topic) (o : Option ProposeFault) → StaysOrCloses w (propose_effect w c t o) (propose_answer w c t o) s
-proposed_case w c s t None = same w (propose_effect w c t None) (propose_answer w c t None) s refl (λ i. i)
-proposed_case w c s t (Some fault) = same w (propose_effect w c t (Some fault)) (propose_answer w c t (Some fault)) s refl (λ i. i)
-
-cancelled_case : (w : World) (c s : ℕ) (t : Topic) (o : Option Leftover) → StaysOrCloses w (cancel_effect w c t o) (cancel_answer t o) s
-cancelled_case w c s t None = same w (cancel_effect w c t None) (cancel_answer t None) s refl (λ i. i)
-cancelled_case w c s t (Some k) = same w (cancel_effect w c t (Some k)) (cancel_answer t (Some k)) s refl (λ i. i)
-
-learned_case : (w : World) (t : Topic) (id : TxnId) (s : ℕ) (o : Option Decision) → StaysOrCloses w (learn_effect w t id o) (Learnt id t) s
-learned_case w t id s None = same w (learn_effect w t id None) (Learnt id t) s refl (λ i. i)
-learned_case w t id s (Some v) = same w (learn_effect w t id (Some v)) (Learnt id t) s refl (λ i. i)
-
-no_release_end : (t : Topic) (o : Option Pending) → IsEnd (release_answer t o) → Prim.⊥
-no_release_end t None i = i
-no_release_end t (Some p) i = i
-
 taken_case : (w : World) (q s : ℕ) (o : Option Item) → StaysOrCloses w (take_effect w q o) (take_answer w q o) s
 taken_case w q s None = same w (take_effect w q None) (take_answer w q None) s refl (λ i. i)
 taken_case w q s (Some item) = inl (
@@ -120,19 +98,15 @@ taken_case w q s (Some item) = inl (
 )
 
 effect_closes : (past : List Answer) (w : World) (e : Move) (s : ℕ) → Reached past w → move_refusal w e ≡ None → StaysOrCloses w (move_effect w e) (move_answer w e) s
-effect_closes past w (AddsTopic clock) s r n = same w _ (move_answer w (AddsTopic clock)) s refl (λ i. i)
-effect_closes past w (Commits c sends) s r n = flown_case w c s sends
 effect_closes past w (Subscribes c t) s r n = begun_case w c s t
 effect_closes past w (Unsubscribes c q) s r n =
     let k = and_parts (ltb q (length w.subscriptions)) (is_live c (subscription_at w q)) (not-false _ (checked w (Unsubscribes c q) n).1.1.1.0) in
     closed_case past w q s r (ltb-true q (length w.subscriptions) k.0) (live_unclosed c (subscription_at w q) k.1) (entry_at w q) refl
 effect_closes past w (Leaves c) s r n = left_case past w c s r (oldest_live c 0 w.subscriptions) refl
-effect_closes past w (Proposes c t memory) s r n = proposed_case w c s t (proposal_fault w c t memory)
-effect_closes past w (Cancels c t) s r n = cancelled_case w c s t (find_leftover t (speaker w c).leftovers)
-effect_closes past w (Learns t id) s r n = learned_case w t id s (find_verdict id w.verdicts)
-effect_closes past w (Releases t) s r n = same w (move_effect w (Releases t)) (move_answer w (Releases t)) s refl (no_release_end t (due_part (topic_at w t)))
 effect_closes past w (Takes q) s r n = taken_case w q s _
-effect_closes past w other s r n = same w (move_effect w other) (move_answer w other) s refl (λ i. i)
+effect_closes past w e s r n =
+    let h = by_found (λ v o. (v.subscriptions ≡ w.subscriptions) × (IsEnd o → Prim.⊥)) w e ((refl, λ i. i), λ k. (refl, λ i. i)) in
+    same w (move_effect w e) (move_answer w e) s h.0 h.1
 
 closing : (r : Run) (e : Move) (s : ℕ) → StaysOrCloses (final_world r) (world_after (final_world r) e) (answer_to (final_world r) e) s
 closing r e s =

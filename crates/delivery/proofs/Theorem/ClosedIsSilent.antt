@@ -1,15 +1,15 @@
 -- Nothing is handed on of a closed subscription.
-use Rattle.std.proofs.Common.{◌≡◌, ℕ, zero, suc, ◌+◌, ◌<◌, ◌≤◌, ◌==◌, Bool, true, false, cond, not, inl, inr, List, [], ◌∷◌, length, get_or, Option, Some, None, refl, sym, ap, subst, ◌∙◌, arith, ltb}
-use Rattle.delivery.proofs.Words.Std.{is_some, true≢false, false≢true, eqb-true, ltb-true, and_parts, or_parts, not-false, not-true, length_push}
-use Rattle.delivery.proofs.Words.Topics.{In, Decision, Topic, TxnId, SentMessage, Stamp, ProposeFault, Item, Pending, Entry, EntryEnd, due_part}
+use Rattle.delivery.proofs.Words.Std.{◌≡◌, ℕ, zero, suc, ◌+◌, ◌<◌, ◌≤◌, ◌==◌, Bool, true, false, cond, not, inl, inr, List, [], ◌∷◌, length, get_or, Option, Some, None, refl, sym, ap, subst, ◌∙◌, arith, ltb, is_some, true≢false, false≢true, eqb-true, ltb-true, and_parts, or_parts, not-false, not-true, length_push}
+use Rattle.delivery.proofs.Words.Topics.{In, Topic, Stamp, Item, Entry, EntryEnd}
 use Rattle.delivery.proofs.Words.Lemmas.{at_set, at_set_within, some_same, none_some}
-use Rattle.delivery.proofs.Words.Machine.{World, Leftover, Connection, Subscription, Standing, is_reading, nobody, no_subscription, topic_at, connection_at, speaker, subscription_at, entry_at, with_standing, start, Move, Answer, world_after, answer_to, move_refusal, move_effect, move_answer, is_live, find_leftover, find_verdict, oldest_live, commit_effect, commit_answer, proposal_fault, propose_effect, propose_answer, cancel_effect, cancel_answer, learn_effect, with_leaving, release_answer, take_effect, take_answer, leave_effect, leave_answer, close_effect, close_effect_of, connect_effect, run, answers_from, closes, IsSilent, SilentAfterClose}
-use Rattle.delivery.specs.Machine.Moves.Move.{AddsTopic, Opens, Connects, Commits, Subscribes, Unsubscribes, Disconnects, Errs, Lost, Leaves, Proposes, Decides, Withdraws, Cancels, Learns, Releases, Turns, Takes}
-use Rattle.delivery.specs.Machine.Moves.Answer.{Refused, Done, Opened, Subscribed, Unsubscribed, Leaving, Error, Gone, Learnt, Handed}
+use Rattle.delivery.proofs.Words.Machine.{World, Connection, Subscription, Standing, is_reading, nobody, no_subscription, topic_at, connection_at, subscription_at, entry_at, with_standing, start, Move, Answer, world_after, answer_to, move_refusal, move_effect, move_answer, is_live, oldest_live, with_leaving, take_effect, take_answer, leave_effect, leave_answer, close_effect, close_effect_of, connect_effect, run, answers_from, closes, IsSilent, SilentAfterClose}
+use Rattle.delivery.specs.Machine.Moves.Move.{Opens, Connects, Subscribes, Unsubscribes, Disconnects, Errs, Lost, Leaves, Withdraws, Takes}
+use Rattle.delivery.specs.Machine.Moves.Answer.{Refused, Done, Opened, Subscribed, Unsubscribed, Leaving, Error, Gone, Handed}
 use Rattle.delivery.specs.Theorem.Laws
 use Rattle.delivery.proofs.Machine.Invariant.{topic_in, sub_in}
 use Rattle.delivery.proofs.Machine.SubscriptionSteps.{at_push, at_old, at_end, set_length, finds_entry}
 use Rattle.delivery.proofs.Machine.InvariantIsKept.{Reached, by_refusal, checked, step_reached}
+use Rattle.delivery.proofs.Machine.ByFound.{InEachCase, by_found}
 use Rattle.delivery.proofs.Theorem.AcceptedIsDue.{start_reached}
 use Rattle.delivery.proofs.Core.Tests.{connection_there}
 
@@ -192,26 +192,6 @@ closeless_done = record { ended = λ s to e. cc; shut = λ c k. k; owner = λ s 
 closeless_opened : (c : ℕ) → Closeless (Opened c)
 closeless_opened c = record { ended = λ s to e. cc; shut = λ d k. k; owner = λ s d t from e. cc }
 
-closeless_released : (t : Topic) (o : Option Pending) → Closeless (release_answer t o)
-closeless_released t None = closeless_done
-closeless_released t (Some p) = record { ended = λ s to e. cc; shut = λ c k. k; owner = λ s c u from e. cc }
-
-flown_shut : (past : List Answer) (w : World) (c : ℕ) (sends : List SentMessage) → Shutting past w.connections w.subscriptions → Shutting (commit_answer w c sends ∷ past) (commit_effect w c sends).connections (commit_effect w c sends).subscriptions
-flown_shut past w c [] h = note past w.connections w.subscriptions Done closeless_done h
-flown_shut past w c (first ∷ others) h = note past w.connections w.subscriptions _ (record { ended = λ s to e. cc; shut = λ d k. k; owner = λ s d t from e. cc }) h
-
-proposed_shut : (past : List Answer) (w : World) (c : ℕ) (t : Topic) (o : Option ProposeFault) → Shutting past w.connections w.subscriptions → Shutting (propose_answer w c t o ∷ past) (propose_effect w c t o).connections (propose_effect w c t o).subscriptions
-proposed_shut past w c t None h = note past w.connections w.subscriptions _ (record { ended = λ s to e. cc; shut = λ d k. k; owner = λ s d u from e. cc }) h
-proposed_shut past w c t (Some fault) h = note past w.connections w.subscriptions _ (record { ended = λ s to e. cc; shut = λ d k. k; owner = λ s d u from e. cc }) h
-
-cancelled_shut : (past : List Answer) (w : World) (c : ℕ) (t : Topic) (o : Option Leftover) → Shutting past w.connections w.subscriptions → Shutting (cancel_answer t o ∷ past) (cancel_effect w c t o).connections (cancel_effect w c t o).subscriptions
-cancelled_shut past w c t None h = note past w.connections w.subscriptions Done closeless_done h
-cancelled_shut past w c t (Some k) h = note past w.connections w.subscriptions _ (record { ended = λ s to e. cc; shut = λ d k. k; owner = λ s d u from e. cc }) h
-
-learned_same : (w : World) (t : Topic) (id : TxnId) (o : Option Decision) → ((learn_effect w t id o).connections ≡ w.connections) × ((learn_effect w t id o).subscriptions ≡ w.subscriptions)
-learned_same w t id None = (refl, refl)
-learned_same w t id (Some v) = (refl, refl)
-
 begun_shut : (past : List Answer) (w : World) (c : ℕ) (t : Topic) → Shutting past w.connections w.subscriptions → Shutting (move_answer w (Subscribes c t) ∷ past) (move_effect w (Subscribes c t)).connections (move_effect w (Subscribes c t)).subscriptions
 begun_shut past w c t h =
     let new : Subscription = record { connection = c; topic = t; from = (topic_at w t).frontier; taken = 0; closed = None } in
@@ -249,7 +229,6 @@ open_there (x ∷ xs) zero e = omega arith
 open_there (x ∷ xs) (suc c) e = let l = open_there xs c e in omega arith
 
 happens_shut : (past : List Answer) (w : World) (e : Move) → Reached past w → Shutting past w.connections w.subscriptions → move_refusal w e ≡ None → Shutting (move_answer w e ∷ past) (move_effect w e).connections (move_effect w e).subscriptions
-happens_shut past w (AddsTopic clock) r h e = note past w.connections w.subscriptions Done closeless_done h
 happens_shut past w Opens r h e =
     let v = move_effect w Opens in let m = length_push w.connections (record { sender = None; standing = Standing.Open }) in
     note past v.connections w.subscriptions (Opened (length w.connections)) (closeless_opened (length w.connections))
@@ -270,7 +249,6 @@ happens_shut past w (Connects c claimed) r h e =
       grow = omega arith;
       owner = λ s l. refl;
     }) h)
-happens_shut past w (Commits c sends) r h e = flown_shut past w c sends h
 happens_shut past w (Subscribes c t) r h e = begun_shut past w c t h
 happens_shut past w (Unsubscribes c s) r h e =
     let p = (checked w (Unsubscribes c s) e).1.1.1.0 in
@@ -284,20 +262,19 @@ happens_shut past w (Errs c) r h e =
 happens_shut past w (Lost c) r h e =
     leaving_shut past w (with_leaving w c) (Leaving c) c (connection_there w c (checked w (Lost c) e).0) refl refl (λ d k. k) (λ s to d. cc) (λ s d t from k. cc) h
 happens_shut past w (Leaves c) r h e = left_shut past w c r h (oldest_live c 0 w.subscriptions) refl
-happens_shut past w (Proposes c t memory) r h e = proposed_shut past w c t (proposal_fault w c t memory) h
-happens_shut past w (Decides c) r h e = note past w.connections w.subscriptions _ (record { ended = λ s to d. cc; shut = λ d k. k; owner = λ s d t from k. cc }) h
 happens_shut past w (Withdraws c) r h e =
     leaving_shut past w (move_effect w (Withdraws c)) _ c (connection_there w c (checked w (Withdraws c) e).0) refl refl (λ d k. k) (λ s to d. cc) (λ s d t from k. cc) h
-happens_shut past w (Cancels c t) r h e = cancelled_shut past w c t (find_leftover t (speaker w c).leftovers) h
-happens_shut past w (Learns t id) r h e =
-    let k = learned_same w t id (find_verdict id w.verdicts) in let v = move_effect w (Learns t id) in
-    note past v.connections v.subscriptions (Learnt id t) (record { ended = λ s to d. cc; shut = λ d k. k; owner = λ s d t from k. cc })
-    (subst (λ z. Shutting past z v.subscriptions) (sym k.0) (subst (λ z. Shutting past w.connections z) (sym k.1) h))
-happens_shut past w (Releases t) r h e = note past w.connections w.subscriptions _ (closeless_released t (due_part (topic_at w t))) h
-happens_shut past w (Turns t) r h e = note past w.connections w.subscriptions _ (record { ended = λ s to d. cc; shut = λ d k. k; owner = λ s d t from k. cc }) h
 happens_shut past w (Takes s) r h e =
     let p = (checked w (Takes s) e).1.0 in
     taken_shut past w s (open_there w.connections (subscription_at w s).connection (not-false _ (or_parts (is_some (subscription_at w s).closed) _ p).1)) _ h
+happens_shut past w e r h n =
+    let same = by_found (λ v o. (v.connections ≡ w.connections) × (v.subscriptions ≡ w.subscriptions) × Closeless o) w e (
+      (refl, refl, record { ended = λ s to d. cc; shut = λ d k. k; owner = λ s d t from k. cc }),
+      λ k. (refl, refl, record { ended = λ s to d. cc; shut = λ d k. k; owner = λ s d t from k. cc }),
+    ) in
+    let v = move_effect w e in
+    note past v.connections v.subscriptions (move_answer w e) same.2
+    (subst (λ z. Shutting past z v.subscriptions) (sym same.0) (subst (λ z. Shutting past w.connections z) (sym same.1) h))
 
 -- ---- silence
 
@@ -312,38 +289,10 @@ not_silent past w s h e (inr k) =
     let shut = h.shut k.0 k.3 k.5 (closes_is k.0 k.3 k.6) in
     true≢false (sym (not-false _ (or_parts (is_some (subscription_at w s).closed) _ p).1) ∙ subst (λ z. is_reading (stands w.connections z) ≡ false) (sym own.1) shut.1)
 
-silent_flown : (w : World) (c : ℕ) (sends : List SentMessage) (past : List Answer) → SilentAfterClose past → SilentAfterClose (commit_answer w c sends ∷ past)
-silent_flown w c [] past h = h
-silent_flown w c (first ∷ others) past h = h
-
-silent_propose : (w : World) (c : ℕ) (t : Topic) (o : Option ProposeFault) (past : List Answer) → SilentAfterClose past → SilentAfterClose (propose_answer w c t o ∷ past)
-silent_propose w c t None past h = h
-silent_propose w c t (Some fault) past h = h
-
-silent_cancel : (t : Topic) (o : Option Leftover) (past : List Answer) → SilentAfterClose past → SilentAfterClose (cancel_answer t o ∷ past)
-silent_cancel t None past h = h
-silent_cancel t (Some k) past h = h
-
-silent_leave : (w : World) (c : ℕ) (o : Option ℕ) (past : List Answer) → SilentAfterClose past → SilentAfterClose (leave_answer w c o ∷ past)
-silent_leave w c None past h = h
-silent_leave w c (Some s) past h = h
-
-silent_release : (t : Topic) (o : Option Pending) (past : List Answer) → SilentAfterClose past → SilentAfterClose (release_answer t o ∷ past)
-silent_release t None past h = h
-silent_release t (Some p) past h = h
-
-silent_take : (w : World) (s : ℕ) (o : Option Item) (past : List Answer) → (IsSilent s past → Prim.⊥) → SilentAfterClose past → SilentAfterClose (take_answer w s o ∷ past)
-silent_take w s None past n h = h
-silent_take w s (Some item) past n h = (n, h)
-
-silent_answer : (past : List Answer) (w : World) (e : Move) → Shutting past w.connections w.subscriptions → move_refusal w e ≡ None → SilentAfterClose past → SilentAfterClose (move_answer w e ∷ past)
-silent_answer past w (Commits c sends) s e h = silent_flown w c sends past h
-silent_answer past w (Leaves c) s e h = silent_leave w c (oldest_live c 0 w.subscriptions) past h
-silent_answer past w (Proposes c t memory) s e h = silent_propose w c t (proposal_fault w c t memory) past h
-silent_answer past w (Cancels c t) s e h = silent_cancel t (find_leftover t (speaker w c).leftovers) past h
-silent_answer past w (Releases t) s e h = silent_release t (due_part (topic_at w t)) past h
-silent_answer past w (Takes n) s e h = silent_take w n _ past (not_silent past w n s e) h
-silent_answer past w _ s e h = h
+silent_answer : (past : List Answer) (w : World) (e : Move) → Shutting past w.connections w.subscriptions → move_refusal w e ≡ None → SilentAfterClose past
+    → InEachCase (λ v o. SilentAfterClose (o ∷ past)) w e
+silent_answer past w (Takes n) s e h = (h, λ k. (not_silent past w n s e, h))
+silent_answer past w _ s e h = (h, λ k. h)
 
 record Both (past : List Answer) (w : World) : Type 0 where
   shutting : Shutting past w.connections w.subscriptions
@@ -356,7 +305,7 @@ step_both past w e r h =
       shutting = note past w.connections w.subscriptions (Refused why) (record { ended = λ s to d. cc; shut = λ d k. k; owner = λ s d t from k. cc }) h.shutting;
       silent = h.silent;
     })
-    (λ n. record { shutting = happens_shut past w e r h.shutting n; silent = silent_answer past w e h.shutting n h.silent })
+    (λ n. record { shutting = happens_shut past w e r h.shutting n; silent = by_found (λ v o. SilentAfterClose (o ∷ past)) w e (silent_answer past w e h.shutting n h.silent) })
 
 run_both : (es : List Move) (past : List Answer) (w : World) → Reached past w → Both past w → Both (answers_from es w past) (run es w)
 run_both [] past w r h = h

@@ -1,11 +1,8 @@
 -- Where a span gets its end.
-use Rattle.std.proofs.Common.{◌≡◌, ◌≢◌, ℕ, ◌+◌, ◌<◌, ◌≤◌, ◌⊎◌, inl, inr, List, [], ◌∷◌, ◌++◌, length, Option, Some, None, refl, sym, ap, subst, ◌∙◌, arith}
-use Rattle.delivery.proofs.Words.Std.{cases_order, cases_lt}
+use Rattle.delivery.proofs.Words.Std.{◌≡◌, ◌≢◌, ℕ, ◌+◌, ◌<◌, ◌≤◌, ◌⊎◌, inl, inr, List, [], ◌∷◌, ◌++◌, length, Option, Some, None, refl, sym, ap, subst, ◌∙◌, arith, cases_order, cases_lt}
 use Rattle.delivery.proofs.Words.Topics.{part_at, Decision, Topic, TxnId, SentMessage, Stamp, ProposeFault, Item, TopicState, Entry, find_entry, end_of, after_propose, after_cancel, after_learn, after_unsubscribe, decided_stamp}
 use Rattle.delivery.proofs.Words.Lemmas.{at_set, at_set_within, some_same, none_some}
-use Rattle.delivery.proofs.Words.Machine.{World, Leftover, Subscription, no_subscription, topic_at, speaker, subscription_at, entry_at, with_topic, accepted_at, end_at, Move, Answer, world_after, answer_to, move_refusal, move_effect, move_answer, find_leftover, find_verdict, oldest_live, commit_effect, proposal_fault, propose_effect, cancel_effect, learn_effect, take_effect, undecided_at, leave_effect, leave_answer, close_effect, close_effect_of, end_now, delivered_items, Run, answers_of, final_world}
-use Rattle.delivery.specs.Machine.Moves.Move.{AddsTopic, Commits, Subscribes, Unsubscribes, Leaves, Proposes, Cancels, Learns, Releases, Turns, Takes}
-use Rattle.delivery.specs.Machine.Moves.Answer.{Unsubscribed}
+use Rattle.delivery.proofs.Words.Machine.{World, Leftover, Subscription, no_subscription, topic_at, speaker, subscription_at, entry_at, with_topic, accepted_at, end_at, Move, Answer, world_after, answer_to, move_refusal, move_effect, move_answer, find_leftover, find_verdict, oldest_live, commit_effect, proposal_fault, propose_effect, cancel_effect, learn_effect, take_effect, undecided_at, leave_effect, leave_answer, close_effect, close_effect_of, end_now, delivered_items, Run, answers_of, final_world, AddsTopic, Commits, Subscribes, Unsubscribes, Leaves, Proposes, Cancels, Learns, Releases, Turns, Takes, Unsubscribed}
 use Rattle.delivery.specs.Theorem.Reported
 use Rattle.delivery.proofs.Machine.Invariant.{topic_in, Owned}
 use Rattle.delivery.proofs.Machine.TopicSteps.{at_topic_from, at_topic}

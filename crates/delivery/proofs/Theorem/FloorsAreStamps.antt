@@ -1,15 +1,14 @@
 -- A sender's floor is the stamp of its last row in the commit list.
-use Rattle.std.proofs.Common.{◌≡◌, ◌≢◌, ℕ, ◌==◌, Bool, cond, List, [], ◌∷◌, ◌++◌, set, Option, Some, None, refl, sym, ap, subst, ◌∙◌}
-use Rattle.delivery.proofs.Words.Std.{eqb-true, eq-eqb}
-use Rattle.delivery.proofs.Words.Topics.{zero_stamp, greatest, CommitRow, Decision, Topic, TxnId, SentMessage, Stamp, ProposeFault, Item, Entry}
+use Rattle.delivery.proofs.Words.Std.{◌≡◌, ◌≢◌, ℕ, ◌==◌, Bool, cond, List, [], ◌∷◌, ◌++◌, set, Option, Some, None, refl, sym, ap, subst, ◌∙◌, eqb-true, eq-eqb}
+use Rattle.delivery.proofs.Words.Topics.{zero_stamp, greatest, CommitRow, Stamp}
 use Rattle.delivery.proofs.Words.Lemmas.{at_set, at_set_within, not_true}
-use Rattle.delivery.proofs.Words.Machine.{World, Leftover, SenderState, new_sender, speaker, entry_at, start, speaker_number, Move, Answer, world_after, answer_to, move_refusal, move_effect, undecided_at, find_leftover, find_verdict, oldest_live, commit_effect, proposal_fault, propose_effect, decide_effect, cancel_effect, learn_effect, take_effect, leave_effect, close_effect_of, connect_effect, run, Run, final_world}
-use Rattle.delivery.specs.Machine.Moves.Move.{Connects, Commits, Unsubscribes, Leaves, Proposes, Decides, Withdraws, Cancels, Learns, Takes}
+use Rattle.delivery.proofs.Words.Machine.{World, SenderState, new_sender, speaker, start, speaker_number, Move, Answer, world_after, answer_to, move_refusal, move_effect, undecided_at, decide_effect, connect_effect, run, Run, final_world, Connects, Commits, Leaves, Proposes, Decides, Withdraws, Cancels}
 use Rattle.delivery.specs.Theorem.Tied.{floor_after}
 use Rattle.delivery.proofs.Machine.Invariant.{row, sender_in}
 use Rattle.delivery.proofs.Machine.ProposeStep.{within_senders}
 use Rattle.delivery.proofs.Machine.SubscriptionSteps.{at_push}
 use Rattle.delivery.proofs.Machine.InvariantIsKept.{Reached, by_refusal, checked, in_flight, step_reached}
+use Rattle.delivery.proofs.Machine.ByFound.{by_found, by_entry}
 use Rattle.delivery.proofs.Theorem.AcceptedIsDue.{start_reached}
 
 -- one more row: it is the last of its own sender's, and no other's
@@ -36,34 +35,6 @@ floor_kept senders commits s x e h d =
     at_set (λ (z : SenderState). z.floor ≡ floor_after d zero_stamp commits) senders s d x new_sender
     (λ n. subst (λ (k : ℕ). x.floor ≡ floor_after k zero_stamp commits) (sym n) (e ∙ h s)) (h d)
 
-flown_floors : (w : World) (c : ℕ) (sends : List SentMessage) → Floors w.senders w.commits → Floors (commit_effect w c sends).senders (commit_effect w c sends).commits
-flown_floors w c [] h = h
-flown_floors w c (first ∷ others) h = floor_kept w.senders w.commits (speaker_number w c) _ refl h
-
-proposed_floors : (w : World) (c : ℕ) (t : Topic) (o : Option ProposeFault) → Floors w.senders w.commits → Floors (propose_effect w c t o).senders (propose_effect w c t o).commits
-proposed_floors w c t None h = floor_kept w.senders w.commits (speaker_number w c) _ refl h
-proposed_floors w c t (Some fault) h = floor_kept w.senders w.commits (speaker_number w c) _ refl h
-
-cancelled_floors : (w : World) (c : ℕ) (t : Topic) (o : Option Leftover) → Floors w.senders w.commits → Floors (cancel_effect w c t o).senders (cancel_effect w c t o).commits
-cancelled_floors w c t None h = h
-cancelled_floors w c t (Some k) h = floor_kept w.senders w.commits (speaker_number w c) _ refl h
-
-learned_floors : (w : World) (t : Topic) (id : TxnId) (o : Option Decision) → Floors w.senders w.commits → Floors (learn_effect w t id o).senders (learn_effect w t id o).commits
-learned_floors w t id None h = h
-learned_floors w t id (Some v) h = h
-
-closed_floors : (w : World) (s : ℕ) (o : Option Entry) → Floors w.senders w.commits → Floors (close_effect_of w s o).senders (close_effect_of w s o).commits
-closed_floors w s None h = h
-closed_floors w s (Some e) h = h
-
-left_floors : (w : World) (c : ℕ) (o : Option ℕ) → Floors w.senders w.commits → Floors (leave_effect w c o).senders (leave_effect w c o).commits
-left_floors w c None h = h
-left_floors w c (Some s) h = closed_floors w s (entry_at w s) h
-
-handed_floors : (w : World) (s : ℕ) (o : Option Item) → Floors w.senders w.commits → Floors (take_effect w s o).senders (take_effect w s o).commits
-handed_floors w s None h = h
-handed_floors w s (Some item) h = h
-
 decided_floors : (past : List Answer) (w : World) (c : ℕ) → Reached past w → move_refusal w (Decides c) ≡ None → Floors w.senders w.commits → Floors (decide_effect w c).senders (decide_effect w c).commits
 decided_floors past w c r n h d =
     let fl = in_flight w c (checked w (Decides c) n).1.1.0 in
@@ -79,18 +50,19 @@ connected_floors : (w : World) (c : ℕ) (claimed : Option ℕ) → Floors w.sen
 connected_floors w c None h = λ d. at_push (λ (z : SenderState). z.floor ≡ floor_after d zero_stamp w.commits) w.senders d new_sender new_sender (λ e k. k) (h d)
 connected_floors w c (Some s) h = h
 
+abbrev HasFloors : World → Answer → Type 0
+HasFloors v o = Floors v.senders v.commits
+
 happens_floors : (past : List Answer) (w : World) (e : Move) → Reached past w → move_refusal w e ≡ None → Floors w.senders w.commits → Floors (move_effect w e).senders (move_effect w e).commits
 happens_floors past w (Connects c claimed) r n h = connected_floors w c claimed h
-happens_floors past w (Commits c sends) r n h = flown_floors w c sends h
-happens_floors past w (Unsubscribes c s) r n h = closed_floors w s (entry_at w s) h
-happens_floors past w (Leaves c) r n h = left_floors w c (oldest_live c 0 w.subscriptions) h
-happens_floors past w (Proposes c t memory) r n h = proposed_floors w c t (proposal_fault w c t memory) h
+happens_floors past w (Commits c sends) r n h = by_found HasFloors w (Commits c sends) (h, λ k. floor_kept w.senders w.commits (speaker_number w c) _ refl h)
+happens_floors past w (Leaves c) r n h = by_found HasFloors w (Leaves c) (h, λ s. by_entry (λ v. Floors v.senders v.commits) w s h (λ k. h))
+happens_floors past w (Proposes c t memory) r n h =
+    by_found HasFloors w (Proposes c t memory) (floor_kept w.senders w.commits (speaker_number w c) _ refl h, λ fault. floor_kept w.senders w.commits (speaker_number w c) _ refl h)
 happens_floors past w (Decides c) r n h = decided_floors past w c r n h
 happens_floors past w (Withdraws c) r n h = floor_kept w.senders w.commits (speaker_number w c) _ refl h
-happens_floors past w (Cancels c t) r n h = cancelled_floors w c t (find_leftover t (speaker w c).leftovers) h
-happens_floors past w (Learns t id) r n h = learned_floors w t id (find_verdict id w.verdicts) h
-happens_floors past w (Takes s) r n h = handed_floors w s _ h
-happens_floors past w _ r n h = h
+happens_floors past w (Cancels c t) r n h = by_found HasFloors w (Cancels c t) (h, λ k. floor_kept w.senders w.commits (speaker_number w c) _ refl h)
+happens_floors past w e r n h = by_found HasFloors w e (h, λ k. h)
 
 run_floors : (es : List Move) (past : List Answer) (w : World) → Reached past w → Floors w.senders w.commits → Floors (run es w).senders (run es w).commits
 run_floors [] past w r h = h

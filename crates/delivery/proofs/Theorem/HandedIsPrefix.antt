@@ -1,12 +1,9 @@
 -- What was handed on is a prefix of what was accepted.
-use Rattle.delivery.proofs.Words.Std.{slice_get, eqb-true, eq-eqb, ltb-true, not-false, length_push}
-use Rattle.delivery.proofs.Words.Topics.{part_at, Decision, Topic, TxnId, SentMessage, Stamp, ProposeFault, Item, TopicState, Pending, Entry, EntryEnd, find_entry, insert_entry, end_of, after_propose, after_cancel, after_learn, due_part, after_unsubscribe, decided_stamp}
+use Rattle.delivery.proofs.Words.Std.{◌≡◌, ◌≢◌, ℕ, ◌+◌, ◌<◌, ◌≤◌, ◌==◌, nat_lt, Bool, true, false, cond, not, List, [], ◌∷◌, ◌++◌, map, length, set, Option, Some, None, refl, sym, ap, subst, ◌∙◌, arith, ltb, append_assoc, slice_get, eqb-true, eq-eqb, ltb-true, not-false, length_push, filter}
+use Rattle.delivery.proofs.Words.Topics.{part_at, Decision, Topic, TxnId, Stamp, ProposeFault, Item, TopicState, Pending, Entry, EntryEnd, find_entry, insert_entry, end_of, after_propose, after_cancel, after_learn, due_part, after_unsubscribe, decided_stamp}
 use Rattle.delivery.proofs.Words.Lemmas.{at_set, at_set_within, some_same, none_some, not_true, More, More-same}
-use Rattle.delivery.proofs.Words.Machine.{World, Leftover, Subscription, no_subscription, topic_at, speaker, subscription_at, entry_at, start, with_topic, entry_items, accepted_at, Move, Answer, world_after, answer_to, move_refusal, move_effect, move_answer, find_leftover, find_verdict, verdict_in, oldest_live, commit_effect, commit_answer, proposal_fault, propose_effect, propose_answer, cancel_effect, cancel_answer, learn_effect, release_answer, queue_has_room, take_effect, undecided_at, take_answer, leave_effect, leave_answer, close_effect, close_effect_of, run, answers_from, delivered_items}
-use Rattle.std.proofs.Common.{◌≡◌, ◌≢◌, ℕ, ◌+◌, ◌<◌, ◌≤◌, ◌==◌, nat_lt, Bool, true, false, cond, not, List, [], ◌∷◌, ◌++◌, map, length, set, Option, Some, None, refl, sym, ap, subst, ◌∙◌, arith, ltb, append_assoc}
-use Rattle.std.specs.List.{filter}
+use Rattle.delivery.proofs.Words.Machine.{World, Leftover, Subscription, no_subscription, topic_at, speaker, subscription_at, entry_at, start, with_topic, entry_items, accepted_at, Move, Answer, world_after, answer_to, move_refusal, move_effect, move_answer, find_leftover, find_verdict, verdict_in, oldest_live, commit_effect, commit_answer, proposal_fault, propose_effect, propose_answer, cancel_effect, cancel_answer, learn_effect, release_answer, queue_has_room, take_effect, undecided_at, take_answer, leave_effect, leave_answer, close_effect, close_effect_of, run, answers_from, delivered_items, Refused, Done, Learnt, Handed}
 use Rattle.delivery.specs.Machine.Moves.Move.{AddsTopic, Commits, Subscribes, Unsubscribes, Leaves, Proposes, Cancels, Learns, Releases, Turns, Takes}
-use Rattle.delivery.specs.Machine.Moves.Answer.{Refused, Done, Learnt, Handed}
 use Rattle.delivery.specs.Theorem.Laws
 use Rattle.delivery.proofs.Machine.Invariant.{topic_in, Owned}
 use Rattle.delivery.proofs.Machine.TopicSteps.{Entries, Entries-same, Keeps-release, Keeps-turned, at_topic_from}
@@ -210,10 +207,6 @@ handed_handing past w s l h (Some i) e =
 
 -- ---- each event
 
-flown_handing : (past : List Answer) (w : World) (c : ℕ) (sends : List SentMessage) → Handing past w → Handing (commit_answer w c sends ∷ past) (commit_effect w c sends)
-flown_handing past w c [] h = record { held = h.held; fresh = h.fresh }
-flown_handing past w c (first ∷ others) h = record { held = h.held; fresh = h.fresh }
-
 pending_same : (w : World) (t : Topic) (y : TopicState) → y.subscriptions ≡ (topic_in w.topics t).subscriptions → Grows w (with_topic w t y)
 pending_same w t y e = Grows-topic w t y (entries_more (topic_in w.topics t) y (Entries-same (topic_in w.topics t) y e))
 
@@ -251,7 +244,7 @@ happens_handing past w (AddsTopic clock) r h e = told past (move_effect w (AddsT
           (at_added (λ u z. More (entry_items (find_entry s (topic_in w.topics u).subscriptions)) (entry_items (find_entry s z.subscriptions))) w.topics w.log_limit clock (subscription_at w s).topic
           (λ k. k) (More-same (entry_items (entry_at w s))));
     }) h)
-happens_handing past w (Commits c sends) r h e = flown_handing past w c sends h
+happens_handing past w (Commits c sends) r h e = elim sends as (λ sends. Handing (commit_answer w c sends ∷ past) (commit_effect w c sends)) [ [] ↦ record { held = h.held; fresh = h.fresh } | first ∷ others ↦ record { held = h.held; fresh = h.fresh } ]
 happens_handing past w (Subscribes c t) r h e = told past (move_effect w (Subscribes c t)) (move_answer w (Subscribes c t)) (λ n. refl) (begun_handing past w c t h)
 happens_handing past w (Unsubscribes c s) r h e =
     told past (close_effect w s) (move_answer w (Unsubscribes c s)) (λ n. refl)

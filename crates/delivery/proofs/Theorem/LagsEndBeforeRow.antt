@@ -1,11 +1,9 @@
 -- A span that lags ends with the frontier before the row for which its queue had no room.
-use Rattle.std.proofs.Common.{◌≡◌, ℕ, ◌==◌, Bool, true, false, cond, ◌⊎◌, inl, inr, List, [], ◌∷◌, ◌++◌, map, Option, Some, None, refl, sym, ap, subst, ◌∙◌}
-use Rattle.delivery.proofs.Words.Std.{append_assoc, append-nil}
+use Rattle.delivery.proofs.Words.Std.{◌≡◌, ℕ, ◌==◌, Bool, true, false, cond, ◌⊎◌, inl, inr, List, [], ◌∷◌, ◌++◌, map, Option, Some, None, refl, sym, ap, subst, ◌∙◌, append_assoc, append-nil}
 use Rattle.delivery.proofs.Words.Topics.{zero_stamp, Decision, TxnId, Stamp, LogRow, Item, last_stamp, TopicState, Pending, Entry, EntryEnd, find_entry, entry_after, after_release_of, after_release, after_turn, row_of, item_of}
 use Rattle.delivery.proofs.Words.Lemmas.{some_same, none_some, delivered_number, release_keeps, turn_keeps}
-use Rattle.delivery.proofs.Words.Machine.{World, topic_at, subscription_at, entry_at, with_topic, entry_to, end_at, log_at, Move, world_after, move_effect, queue_has_room, verdict_in, final_world, EndsBeforeRow}
+use Rattle.delivery.proofs.Words.Machine.{World, topic_at, subscription_at, entry_at, with_topic, entry_to, end_at, log_at, Move, world_after, move_effect, queue_has_room, verdict_in, final_world, EndsBeforeRow, Releases, Turns}
 use Rattle.mcast_group.proofs.Keeping.{last_push}
-use Rattle.delivery.specs.Machine.Moves.Move.{Releases, Turns}
 use Rattle.delivery.specs.Theorem.Spans
 use Rattle.delivery.proofs.Machine.Invariant.{topic_in}
 use Rattle.delivery.proofs.Machine.TopicSteps.{at_topic}

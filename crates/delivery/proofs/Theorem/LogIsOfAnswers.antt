@@ -1,13 +1,10 @@
 -- A topic's log is the agreed sequence restricted to it, up to its frontier: as many rows as its outcomes released.
-use Rattle.std.proofs.Common.{◌≡◌, ℕ, ◌+◌, ◌-◌, ◌<◌, ◌≤◌, ◌==◌, Bool, true, false, cond, not, ◌&&◌, List, [], ◌∷◌, map, length, take, Option, Some, None, refl, sym, ap, subst, ◌∙◌, arith}
-use Rattle.std.specs.List.{filter}
-use Rattle.delivery.proofs.Words.Std.{not-true, true≢false, and_parts, and_from, eqb-true, eq-eqb, ltb-true, not-false, get_or-set_same, length-append, take-map}
-use Rattle.delivery.proofs.Words.Topics.{stamp_lt, part_at, topics_of, CommitRow, stamp_of, agreed, In, Rises, names, Decision, Topic, TxnId, SentMessage, Stamp, ProposeFault, LogRow, Item, row_stamp, TopicState, Pending, Entry, new_topic, due_part, after_propose, after_cancel, after_learn, after_unsubscribe, after_turn, row_of, decided_stamp}
+use Rattle.delivery.proofs.Words.Std.{◌≡◌, ℕ, ◌+◌, ◌-◌, ◌<◌, ◌≤◌, ◌==◌, Bool, true, false, cond, not, ◌&&◌, List, [], ◌∷◌, map, length, take, Option, Some, None, refl, sym, ap, subst, ◌∙◌, arith, not-true, true≢false, and_parts, and_from, eqb-true, eq-eqb, ltb-true, not-false, get_or-set_same, length-append, take-map, filter}
+use Rattle.delivery.proofs.Words.Topics.{stamp_lt, part_at, topics_of, CommitRow, stamp_of, agreed, In, Rises, names, Topic, Stamp, ProposeFault, LogRow, Item, row_stamp, TopicState, Pending, Entry, new_topic, due_part, after_propose, after_cancel, after_learn, after_unsubscribe, after_turn, row_of, decided_stamp}
 use Rattle.delivery.proofs.Words.Lemmas.{lt_asym, le_lt, same_topics, In-map, In-map_cases, In-filter, In-filter_cases, at_set, filter_none, In-sorted, In-sorted_cases, Rises-sorted, Rises-filter, Rises-map, same_rising, map_length, after_release_if}
-use Rattle.delivery.proofs.Words.Machine.{log_row, World, Leftover, start, topic_at, speaker, subscription_at, entry_at, with_topic, log_at, frontier_at, Move, Answer, world_after, answer_to, move_refusal, move_effect, move_answer, is_topic, find_leftover, find_verdict, verdict_in, oldest_live, commit_effect, commit_answer, proposal_fault, propose_effect, propose_answer, cancel_effect, cancel_answer, learn_effect, release_answer, queue_has_room, take_effect, undecided_at, take_answer, leave_effect, leave_answer, close_effect_of, run, answers_from, commits_of, released_at, answers_of, final_world, is_logged}
+use Rattle.delivery.proofs.Words.Machine.{log_row, World, start, topic_at, speaker, subscription_at, entry_at, with_topic, log_at, frontier_at, Move, Answer, world_after, answer_to, move_refusal, move_effect, move_answer, is_topic, find_leftover, find_verdict, verdict_in, oldest_live, commit_effect, commit_answer, proposal_fault, propose_effect, propose_answer, cancel_effect, cancel_answer, learn_effect, release_answer, queue_has_room, take_effect, undecided_at, take_answer, leave_effect, leave_answer, close_effect_of, run, answers_from, commits_of, released_at, answers_of, final_world, is_logged, Done, Learnt}
 use Rattle.mcast_group.proofs.Turns.{turn_grows}
 use Rattle.delivery.specs.Machine.Moves.Move.{AddsTopic, Commits, Subscribes, Unsubscribes, Leaves, Proposes, Cancels, Learns, Releases, Turns, Takes}
-use Rattle.delivery.specs.Machine.Moves.Answer.{Done, Learnt}
 use Rattle.delivery.specs.Theorem.Laws
 use Rattle.delivery.proofs.Machine.Invariant.{topic_in, Holds}
 use Rattle.delivery.proofs.Machine.TopicSteps.{at_topic_from}
@@ -85,31 +82,15 @@ written t past w u y n room e h = written_case t past w u y n room e h (u.0 == t
 added_counts : (t : Topic) (past : List Answer) (w : World) (clock : ℕ) → Counts t past w → Counts t (Done ∷ past) (move_effect w (AddsTopic clock))
 added_counts t past w clock h = at_added (λ u z. length z.held ≡ released_at t past) w.topics w.log_limit clock t (λ k. k) h
 
-flown_counts : (t : Topic) (past : List Answer) (w : World) (c : ℕ) (sends : List SentMessage) → Counts t past w → Counts t (commit_answer w c sends ∷ past) (commit_effect w c sends)
-flown_counts t past w c [] h = h
-flown_counts t past w c (first ∷ others) h = h
-
 closed_counts : (t : Topic) (past : List Answer) (w : World) (s : ℕ) (o : Option Entry) → Counts t past w → Counts t past (close_effect_of w s o)
 closed_counts t past w s None h = h
 closed_counts t past w s (Some entry) h =
     let u = (subscription_at w s).topic in beside t past w u (after_unsubscribe s (topic_at w u)) refl h
 
-left_counts : (t : Topic) (past : List Answer) (w : World) (c : ℕ) (o : Option ℕ) → Counts t past w → Counts t (leave_answer w c o ∷ past) (leave_effect w c o)
-left_counts t past w c None h = h
-left_counts t past w c (Some s) h = closed_counts t past w s (entry_at w s) h
-
 proposed_counts : (t : Topic) (past : List Answer) (w : World) (c : ℕ) (u : Topic) (o : Option ProposeFault) → Counts t past w → Counts t (propose_answer w c u o ∷ past) (propose_effect w c u o)
 proposed_counts t past w c u None h =
     beside t past w u (after_propose (speaker w c).floor (part_at (undecided_at w c).txn.id (undecided_at w c).txn.sends u) (topic_at w u)) refl h
 proposed_counts t past w c u (Some fault) h = h
-
-cancelled_counts : (t : Topic) (past : List Answer) (w : World) (c : ℕ) (u : Topic) (o : Option Leftover) → Counts t past w → Counts t (cancel_answer u o ∷ past) (cancel_effect w c u o)
-cancelled_counts t past w c u None h = h
-cancelled_counts t past w c u (Some k) h = beside t past w u (after_cancel k.id (topic_at w u)) refl h
-
-learned_counts : (t : Topic) (past : List Answer) (w : World) (u : Topic) (id : TxnId) (o : Option Decision) → Counts t past w → Counts t (Learnt id u ∷ past) (learn_effect w u id o)
-learned_counts t past w u id None h = h
-learned_counts t past w u id (Some v) h = beside t past w u (after_learn id (decided_stamp v) (topic_at w u)) refl h
 
 released_counts : (t : Topic) (past : List Answer) (w : World) (u : Topic) → is_topic w u ≡ true → (o : Option Pending) → Counts t past w → Counts t (release_answer u o ∷ past) (with_topic w u (after_release_if (queue_has_room w) (topic_at w u) o))
 released_counts t past w u room None h = beside t past w u (topic_at w u) refl h
@@ -128,13 +109,13 @@ taken_counts t past w q (Some item) h = h
 
 effect_counts : (t : Topic) (past : List Answer) (w : World) (e : Move) → move_refusal w e ≡ None → Counts t past w → Counts t (move_answer w e ∷ past) (move_effect w e)
 effect_counts t past w (AddsTopic clock) n h = added_counts t past w clock h
-effect_counts t past w (Commits c sends) n h = flown_counts t past w c sends h
+effect_counts t past w (Commits c sends) n h = elim sends as (λ sends. Counts t (commit_answer w c sends ∷ past) (commit_effect w c sends)) [ [] ↦ h | first ∷ others ↦ h ]
 effect_counts t past w (Subscribes c u) n h = beside t past w u (topic_with w u) refl h
 effect_counts t past w (Unsubscribes c s) n h = closed_counts t past w s (entry_at w s) h
-effect_counts t past w (Leaves c) n h = left_counts t past w c (oldest_live c 0 w.subscriptions) h
+effect_counts t past w (Leaves c) n h = elim (oldest_live c 0 w.subscriptions) as (λ o. Counts t (leave_answer w c o ∷ past) (leave_effect w c o)) [ None ↦ h | Some s ↦ closed_counts t past w s (entry_at w s) h ]
 effect_counts t past w (Proposes c u memory) n h = proposed_counts t past w c u (proposal_fault w c u memory) h
-effect_counts t past w (Cancels c u) n h = cancelled_counts t past w c u (find_leftover u (speaker w c).leftovers) h
-effect_counts t past w (Learns u id) n h = learned_counts t past w u id (find_verdict id w.verdicts) h
+effect_counts t past w (Cancels c u) n h = elim (find_leftover u (speaker w c).leftovers) as (λ o. Counts t (cancel_answer u o ∷ past) (cancel_effect w c u o)) [ None ↦ h | Some k ↦ beside t past w u (after_cancel k.id (topic_at w u)) refl h ]
+effect_counts t past w (Learns u id) n h = elim (find_verdict id w.verdicts) as (λ o. Counts t (Learnt id u ∷ past) (learn_effect w u id o)) [ None ↦ h | Some v ↦ beside t past w u (after_learn id (decided_stamp v) (topic_at w u)) refl h ]
 effect_counts t past w (Releases u) n h = released_counts t past w u (not-false (is_topic w u) (checked w (Releases u) n).0) (due_part (topic_at w u)) h
 effect_counts t past w (Turns u) n h = turned_counts t past w u (not-false (is_topic w u) (checked w (Turns u) n).0) h
 effect_counts t past w (Takes q) n h = taken_counts t past w q _ h

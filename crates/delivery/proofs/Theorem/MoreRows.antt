@@ -1,12 +1,9 @@
 -- More worked rows: what comes of a decision after another's, of an ERROR and of single releases; what two queues share;
 -- a settled topic; a topic that is added; what a commit is refused for; a span, a flight and a turn beside their laws.
-use Rattle.delivery.proofs.Words.Std.{◌≡◌, ℕ, true, List, [], ◌∷◌, length, map, reverse, None, Some}
+use Rattle.delivery.proofs.Words.Std.{refl, inl, inr, ◌≡◌, ℕ, true, List, [], ◌∷◌, length, map, reverse, None, Some}
 use Rattle.delivery.proofs.Words.Topics.{SentMessage, Stamp, part_at, In, SubFault, LogRow, TopicState, Pending, Entry, subscribe_fault}
-use Rattle.delivery.proofs.Words.Machine.{Objection, World, topic_at, connection_at, subscription_at, log_at, accepted_at, end_at, span_at, frontier_at, Move, world_after, answer_to, run, answers_from, commits_of, delivered_items, IsSettled, IsSilent, AllResolved, Run, answers_of, final_world, shared_marks}
-use Rattle.std.proofs.Common.{refl, inl, inr}
+use Rattle.delivery.proofs.Words.Machine.{Objection, World, topic_at, connection_at, subscription_at, log_at, accepted_at, end_at, span_at, frontier_at, Move, world_after, answer_to, run, answers_from, commits_of, delivered_items, IsSettled, IsSilent, AllResolved, Run, answers_of, final_world, shared_marks, AddsTopic, Opens, Connects, Commits, Subscribes, Disconnects, Errs, Lost, Leaves, Proposes, Decides, Learns, Releases, Turns, Takes, Refused, Done, Opened, Begun, Handed, Subscribed, Unsubscribed, Leaving, Error, Gone, Ticket, Decided, Withdrawn, Learnt, Released, Turned}
 use Rattle.mcast_group.specs.Machine.{unsubscribe_fault}
-use Rattle.delivery.specs.Machine.Moves.Move.{AddsTopic, Opens, Connects, Commits, Subscribes, Disconnects, Errs, Lost, Leaves, Proposes, Decides, Learns, Releases, Turns, Takes}
-use Rattle.delivery.specs.Machine.Moves.Answer.{Refused, Done, Opened, Begun, Handed, Subscribed, Unsubscribed, Leaving, Error, Gone, Ticket, Decided, Withdrawn, Learnt, Released, Turned}
 use Rattle.delivery.specs.Theorem.Examples.{topic, stamp, id, send, part, transaction, item, run_of, answers_in_order, log_stamps, to_a_and_b, withdrawal, one_send}
 use Rattle.delivery.proofs.Theorem.Rows.{ends, four_tickets}
 

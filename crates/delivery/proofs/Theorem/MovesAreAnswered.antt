@@ -1,10 +1,8 @@
 -- Each event is answered by an outcome of its own.
-use Rattle.delivery.proofs.Words.Std.{slice_get, is_some, true≢false, and_parts, ltb-true, not-false}
-use Rattle.delivery.proofs.Words.Topics.{part_at, Decision, In, Topic, TxnId, SentMessage, ProposeFault, first_refusal, Item, Pending, due_part, propose_fault}
+use Rattle.delivery.proofs.Words.Std.{◌≡◌, ℕ, zero, suc, ◌+◌, ◌<◌, ◌≤◌, Bool, true, false, cond, not, ◌&&◌, List, [], ◌∷◌, length, Option, Some, None, refl, sym, subst, ◌⊎◌, inl, inr, arith, ltb, slice_get, is_some, true≢false, and_parts, ltb-true, not-false}
+use Rattle.delivery.proofs.Words.Topics.{part_at, Decision, In, Topic, TxnId, ProposeFault, first_refusal, Item, Pending, due_part, propose_fault}
 use Rattle.delivery.proofs.Words.Lemmas.{none_some, some_same, not_true}
-use Rattle.delivery.proofs.Words.Machine.{World, Leftover, Subscription, subscription_at, speaker, topic_at, connection_at, speaker_number, accepted_at, end_at, Move, move_answer, move_refusal, move_refusals, cancel_objection, learn_objection, commit_answer, leave_answer, propose_answer, proposal_fault, or_out_of_memory, cancel_answer, release_answer, take_answer, find_leftover, find_verdict, oldest_live, is_live, undecided_at, IsAnswer}
-use Rattle.std.proofs.Common.{◌≡◌, ℕ, zero, suc, ◌+◌, ◌<◌, ◌≤◌, Bool, true, false, cond, not, ◌&&◌, List, [], ◌∷◌, length, Option, Some, None, refl, sym, subst, ◌⊎◌, inl, inr, arith, ltb}
-use Rattle.delivery.specs.Machine.Moves.Move.{AddsTopic, Opens, Connects, Commits, Subscribes, Unsubscribes, Disconnects, Errs, Lost, Leaves, Proposes, Decides, Withdraws, Cancels, Learns, Releases, Turns, Takes}
+use Rattle.delivery.proofs.Words.Machine.{World, Leftover, Subscription, subscription_at, speaker, topic_at, accepted_at, end_at, Move, move_answer, move_refusal, move_refusals, cancel_objection, learn_objection, commit_answer, leave_answer, propose_answer, proposal_fault, or_out_of_memory, cancel_answer, release_answer, take_answer, find_leftover, find_verdict, oldest_live, is_live, undecided_at, IsAnswer, AddsTopic, Opens, Connects, Commits, Subscribes, Unsubscribes, Disconnects, Errs, Lost, Leaves, Proposes, Decides, Withdraws, Cancels, Learns, Releases, Turns, Takes}
 use Rattle.delivery.specs.Theorem.Answers.{IsOldest, MovesAreAnswered}
 use Rattle.delivery.proofs.Machine.Invariant.{sub_in}
 use Rattle.delivery.proofs.Machine.SenderSteps.{leftover_found}
@@ -54,10 +52,6 @@ is_oldest w c s e =
     }
 
 -- ---- each answer
-
-commit_is : (w : World) (c : ℕ) (sends : List SentMessage) → (connection_at w c).sender ≡ Some (speaker_number w c) → IsAnswer w (Commits c sends) (commit_answer w c sends)
-commit_is w c [] own = inr (inr (c, refl))
-commit_is w c (first ∷ others) own = (c, refl, own, refl)
 
 leave_is : (w : World) (c : ℕ) (o : Option ℕ) → oldest_live c 0 w.subscriptions ≡ o → IsAnswer w (Leaves c) (leave_answer w c o)
 leave_is w c None e = (refl, all_closed c 0 w.subscriptions e)
@@ -116,7 +110,7 @@ answer_is : (w : World) (e : Move) → move_refusal w e ≡ None → IsAnswer w 
 answer_is w (AddsTopic clock) n = inl (clock, refl)
 answer_is w Opens n = (refl, refl)
 answer_is w (Connects c claimed) n = inr (inl (c, claimed, refl))
-answer_is w (Commits c sends) n = commit_is w c sends (has_speaker w c (not-false _ (checked w (Commits c sends) n).1.1.1.0))
+answer_is w (Commits c sends) n = elim sends as (λ o. IsAnswer w (Commits c o) (commit_answer w c o)) [ [] ↦ inr (inr (c, refl)) | first ∷ others ↦ (c, refl, (has_speaker w c (not-false _ (checked w (Commits c sends) n).1.1.1.0)), refl) ]
 answer_is w (Subscribes c t) n = (refl, refl, refl)
 answer_is w (Unsubscribes c s) n =
     let k = and_parts (ltb s (length w.subscriptions)) (is_live c (subscription_at w s)) (not-false _ (checked w (Unsubscribes c s) n).1.1.1.0) in

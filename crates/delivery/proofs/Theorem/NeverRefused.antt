@@ -1,11 +1,8 @@
 -- What a run's topics hold where the core looks for it: parts that are to be cancelled or proposed, and subscriptions' entries.
-use Rattle.delivery.proofs.Words.Std.{option_or, option_map, is_some}
+use Rattle.delivery.proofs.Words.Std.{◌≡◌, ℕ, ◌<◌, Bool, true, false, cond, ◌⊎◌, inl, inr, List, [], ◌∷◌, length, Option, Some, None, refl, sym, ap, subst, ◌∙◌, arith, option_or, option_map, is_some}
 use Rattle.delivery.proofs.Words.Topics.{TopicPart, same_id, In, Topic, TxnId, SentMessage, Stamp, ProposeFault, CancelFault, SubFault, first_refusal, Item, TopicState, Pending, Entry, find_pending, is_pending, cancel_fault_of, due_part, find_entry}
 use Rattle.delivery.proofs.Words.Lemmas.{id_equal, id_same, any_found, Waits, finds_part}
-use Rattle.delivery.proofs.Words.Machine.{Objection, World, Leftover, Subscription, topic_at, speaker, subscription_at, start, speaker_number, Move, Answer, world_after, answer_to, move_refusal, move_refusals, or_out_of_memory, move_answer, undecided_at, find_leftover, oldest_live, commit_answer, proposal_fault, propose_answer, cancel_objection, cancel_objection_of, cancel_answer, release_answer, take_answer, leave_answer, answers_from, answers_of, final_world}
-use Rattle.std.proofs.Common.{◌≡◌, ℕ, ◌<◌, Bool, true, false, cond, ◌⊎◌, inl, inr, List, [], ◌∷◌, length, Option, Some, None, refl, sym, ap, subst, ◌∙◌, arith}
-use Rattle.delivery.specs.Machine.Moves.Move.{Commits, Leaves, Proposes, Cancels, Releases, Takes}
-use Rattle.delivery.specs.Machine.Moves.Answer.{Refused, Failed}
+use Rattle.delivery.proofs.Words.Machine.{Objection, World, Leftover, Subscription, topic_at, speaker, subscription_at, start, speaker_number, Move, Answer, world_after, answer_to, move_refusal, move_refusals, or_out_of_memory, move_answer, undecided_at, find_leftover, oldest_live, commit_answer, proposal_fault, propose_answer, cancel_objection, cancel_objection_of, cancel_answer, release_answer, take_answer, leave_answer, answers_from, answers_of, final_world, Commits, Leaves, Proposes, Cancels, Releases, Takes, Refused, Failed}
 use Rattle.delivery.specs.Theorem.Laws
 use Rattle.delivery.proofs.Machine.Invariant.{topic_in, Owned}
 use Rattle.delivery.proofs.Machine.ProposeStep.{not_given}

@@ -1,11 +1,8 @@
 -- The numbers that a topic gives rise along a run, each above its opening clock.
-use Rattle.std.proofs.Common.{◌≡◌, ℕ, zero, suc, ◌+◌, ◌<◌, ◌≤◌, ◌==◌, Bool, true, false, cond, ◌⊎◌, inl, inr, List, [], ◌∷◌, ◌++◌, length, get_or, max, Option, Some, None, refl, sym, ap, subst, ◌∙◌, arith}
-use Rattle.delivery.proofs.Words.Std.{AllByRecursion, eqb-true, get_or_past, length_push}
-use Rattle.delivery.proofs.Words.Topics.{RisesBy, In, CommitRow, Topic, TxnId, Stamp, Decision, SentMessage, ProposeFault, Item, TopicState, Entry, new_topic}
+use Rattle.delivery.proofs.Words.Std.{◌≡◌, ℕ, zero, suc, ◌+◌, ◌<◌, ◌≤◌, ◌==◌, Bool, true, false, cond, ◌⊎◌, inl, inr, List, [], ◌∷◌, ◌++◌, length, get_or, max, Option, Some, None, refl, sym, ap, subst, ◌∙◌, arith, AllByRecursion, eqb-true, get_or_past, length_push}
+use Rattle.delivery.proofs.Words.Topics.{RisesBy, In, CommitRow, Topic, TxnId, Stamp, Item, TopicState, Entry, new_topic}
 use Rattle.delivery.proofs.Words.Lemmas.{same_topics, In-push_cases}
-use Rattle.delivery.proofs.Words.Machine.{World, Leftover, topic_at, speaker, subscription_at, entry_at, start, new_topics, Move, Answer, world_after, answer_to, move_effect, find_leftover, find_verdict, oldest_live, commit_effect, proposal_fault, propose_effect, cancel_effect, learn_effect, take_effect, leave_effect, close_effect_of, run, answers_from, txn_of_id, Run, answers_of, final_world, added_clocks}
-use Rattle.delivery.specs.Machine.Moves.Move.{AddsTopic, Commits, Subscribes, Unsubscribes, Leaves, Proposes, Cancels, Learns, Releases, Turns, Takes}
-use Rattle.delivery.specs.Machine.Moves.Answer.{Ticket}
+use Rattle.delivery.proofs.Words.Machine.{World, topic_at, speaker, subscription_at, entry_at, start, new_topics, Move, Answer, world_after, answer_to, move_effect, find_leftover, find_verdict, oldest_live, commit_effect, proposal_fault, propose_effect, cancel_effect, learn_effect, take_effect, leave_effect, close_effect_of, run, answers_from, txn_of_id, Run, answers_of, final_world, added_clocks, AddsTopic, Commits, Subscribes, Unsubscribes, Leaves, Proposes, Cancels, Learns, Releases, Turns, Takes, Ticket}
 use Rattle.delivery.specs.Theorem.Tied.{numbers_at}
 use Rattle.delivery.proofs.Machine.Invariant.{row}
 use Rattle.delivery.proofs.Machine.SubscriptionSteps.{at_push_two, set_length}
@@ -154,43 +151,23 @@ abbrev AddsNone : Move → Type 0
 AddsNone (AddsTopic clock) = Prim.⊥
 AddsNone e = Unit {0}
 
-length_proposed : (w : World) (c : ℕ) (t : Topic) (o : Option ProposeFault) → length (propose_effect w c t o).topics ≡ length w.topics
-length_proposed w c t None = set_length w.topics t.0 _
-length_proposed w c t (Some fault) = refl
-
-length_cancelled : (w : World) (c : ℕ) (t : Topic) (o : Option Leftover) → length (cancel_effect w c t o).topics ≡ length w.topics
-length_cancelled w c t None = refl
-length_cancelled w c t (Some k) = set_length w.topics t.0 _
-
-length_learned : (w : World) (t : Topic) (id : TxnId) (o : Option Decision) → length (learn_effect w t id o).topics ≡ length w.topics
-length_learned w t id None = refl
-length_learned w t id (Some v) = set_length w.topics t.0 _
-
 length_closed : (w : World) (s : ℕ) (o : Option Entry) → length (close_effect_of w s o).topics ≡ length w.topics
 length_closed w s None = refl
 length_closed w s (Some e) = set_length w.topics (subscription_at w s).topic.0 _
-
-length_left : (w : World) (c : ℕ) (o : Option ℕ) → length (leave_effect w c o).topics ≡ length w.topics
-length_left w c None = refl
-length_left w c (Some s) = length_closed w s (entry_at w s)
 
 length_handed : (w : World) (s : ℕ) (o : Option Item) → length (take_effect w s o).topics ≡ length w.topics
 length_handed w s None = refl
 length_handed w s (Some item) = refl
 
-length_flown : (w : World) (c : ℕ) (sends : List SentMessage) → length (commit_effect w c sends).topics ≡ length w.topics
-length_flown w c [] = refl
-length_flown w c (first ∷ others) = refl
-
 length_effect : (w : World) (e : Move) → AddsNone e → length (move_effect w e).topics ≡ length w.topics
 length_effect w (AddsTopic clock) n = absurd n
-length_effect w (Commits c sends) n = length_flown w c sends
+length_effect w (Commits c sends) n = elim sends as (λ sends. length (commit_effect w c sends).topics ≡ length w.topics) [ [] ↦ refl | first ∷ others ↦ refl ]
 length_effect w (Subscribes c t) n = set_length w.topics t.0 _
 length_effect w (Unsubscribes c s) n = length_closed w s (entry_at w s)
-length_effect w (Leaves c) n = length_left w c (oldest_live c 0 w.subscriptions)
-length_effect w (Proposes c t memory) n = length_proposed w c t (proposal_fault w c t memory)
-length_effect w (Cancels c t) n = length_cancelled w c t (find_leftover t (speaker w c).leftovers)
-length_effect w (Learns t id) n = length_learned w t id (find_verdict id w.verdicts)
+length_effect w (Leaves c) n = elim (oldest_live c 0 w.subscriptions) as (λ o. length (leave_effect w c o).topics ≡ length w.topics) [ None ↦ refl | Some s ↦ length_closed w s (entry_at w s) ]
+length_effect w (Proposes c t memory) n = elim (proposal_fault w c t memory) as (λ o. length (propose_effect w c t o).topics ≡ length w.topics) [ None ↦ set_length w.topics t.0 _ | Some fault ↦ refl ]
+length_effect w (Cancels c t) n = elim (find_leftover t (speaker w c).leftovers) as (λ o. length (cancel_effect w c t o).topics ≡ length w.topics) [ None ↦ refl | Some k ↦ set_length w.topics t.0 _ ]
+length_effect w (Learns t id) n = elim (find_verdict id w.verdicts) as (λ o. length (learn_effect w t id o).topics ≡ length w.topics) [ None ↦ refl | Some v ↦ set_length w.topics t.0 _ ]
 length_effect w (Releases t) n = set_length w.topics t.0 _
 length_effect w (Turns t) n = set_length w.topics t.0 _
 length_effect w (Takes s) n = length_handed w s _

@@ -1,9 +1,7 @@
 -- The plain program of what is due.
-use Rattle.std.proofs.Common.{◌≡◌, ℕ, suc, ◌+◌, ◌==◌, Bool, true, false, cond, ◌||◌, List, [], ◌∷◌, ◌++◌, map, length, refl, sym, ap, ◌∙◌, arith, ltb, append_assoc}
-use Rattle.delivery.proofs.Words.Std.{list_any, eqb-true}
+use Rattle.delivery.proofs.Words.Std.{◌≡◌, ℕ, suc, ◌+◌, ◌==◌, Bool, true, false, cond, ◌||◌, List, [], ◌∷◌, ◌++◌, map, length, refl, sym, ap, ◌∙◌, arith, ltb, append_assoc, list_any, eqb-true, filter}
 use Rattle.delivery.proofs.Words.Topics.{topics_of, insert_topic, part_of, names, Topic, SentMessage, PartMessage}
 use Rattle.delivery.proofs.Words.Lemmas.{or_third}
-use Rattle.std.specs.List.{filter}
 use Rattle.mcast_txn.specs.Transaction.{part_from}
 
 -- ---- topics

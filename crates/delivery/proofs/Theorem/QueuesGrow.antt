@@ -1,9 +1,8 @@
 -- What a queue has accepted stays: each event adds to its end alone.
 use Rattle.std.proofs.Common.{◌≡◌, ℕ, ◌<◌, List, [], ◌∷◌, length, Option, Some, None, refl, sym, ap, subst, arith}
-use Rattle.delivery.proofs.Words.Topics.{part_at, Decision, Topic, TxnId, SentMessage, ProposeFault, Item, TopicState, find_entry, after_propose, after_cancel, after_learn, after_release, after_turn, decided_stamp}
+use Rattle.delivery.proofs.Words.Topics.{part_at, Topic, ProposeFault, Item, TopicState, find_entry, after_propose, after_cancel, after_learn, after_release, after_turn, decided_stamp}
 use Rattle.delivery.proofs.Words.Lemmas.{at_set, More, More-same}
-use Rattle.delivery.proofs.Words.Machine.{World, Leftover, Subscription, no_subscription, topic_at, speaker, subscription_at, entry_at, with_topic, entry_items, accepted_at, Move, Answer, move_effect, find_leftover, find_verdict, verdict_in, oldest_live, commit_effect, proposal_fault, propose_effect, cancel_effect, learn_effect, queue_has_room, take_effect, undecided_at, leave_effect, answers_of, final_world}
-use Rattle.delivery.specs.Machine.Moves.Move.{AddsTopic, Commits, Subscribes, Unsubscribes, Leaves, Proposes, Cancels, Learns, Releases, Turns, Takes}
+use Rattle.delivery.proofs.Words.Machine.{World, Subscription, no_subscription, topic_at, speaker, subscription_at, entry_at, with_topic, entry_items, accepted_at, Move, Answer, move_effect, find_leftover, find_verdict, verdict_in, oldest_live, commit_effect, proposal_fault, propose_effect, cancel_effect, learn_effect, queue_has_room, take_effect, undecided_at, leave_effect, answers_of, final_world, AddsTopic, Commits, Subscribes, Unsubscribes, Leaves, Proposes, Cancels, Learns, Releases, Turns, Takes}
 use Rattle.delivery.specs.Theorem.Spans
 use Rattle.delivery.proofs.Machine.Invariant.{topic_in}
 use Rattle.delivery.proofs.Machine.TopicSteps.{Entries-same, Keeps-release, Keeps-turned}
@@ -27,10 +26,6 @@ Grow-topic w t y h s l = More-topic w t y s (subscription_at w s) (h s)
 Grow-beside : (w : World) (t : Topic) (y : TopicState) → y.subscriptions ≡ (topic_in w.topics t).subscriptions → Grow w (with_topic w t y)
 Grow-beside w t y e = Grow-topic w t y (entries_more (topic_in w.topics t) y (Entries-same (topic_in w.topics t) y e))
 
-flown_grow : (w : World) (c : ℕ) (sends : List SentMessage) → Grow w (commit_effect w c sends)
-flown_grow w c [] = Grow-same w
-flown_grow w c (first ∷ others) = Grow-same w
-
 begun_grow : (w : World) (c : ℕ) (t : Topic) → Grow w (move_effect w (Subscribes c t))
 begun_grow w c t s l =
     let v = move_effect w (Subscribes c t) in
@@ -39,22 +34,10 @@ begun_grow w c t s l =
     (λ ne. More-topic w t (topic_with w t) s (subscription_at w s)
     (More-equal _ _ (ap entry_items (find_inserted s (topic_in w.topics t).subscriptions (new_entry w t) (λ e. ne (sym e))))))
 
-left_grow : (past : List Answer) (w : World) (c : ℕ) (o : Option ℕ) → Reached past w → Grow w (leave_effect w c o)
-left_grow past w c None r = Grow-same w
-left_grow past w c (Some s) r = (closed_grows past w s r (entry_at w s) refl).more
-
 proposed_grow : (w : World) (c : ℕ) (t : Topic) (o : Option ProposeFault) → Grow w (propose_effect w c t o)
 proposed_grow w c t None =
     Grow-beside w t (after_propose (speaker w c).floor (part_at (undecided_at w c).txn.id (undecided_at w c).txn.sends t) (topic_at w t)) refl
 proposed_grow w c t (Some fault) = Grow-same w
-
-cancelled_grow : (w : World) (c : ℕ) (t : Topic) (o : Option Leftover) → Grow w (cancel_effect w c t o)
-cancelled_grow w c t None = Grow-same w
-cancelled_grow w c t (Some k) = Grow-beside w t (after_cancel k.id (topic_at w t)) refl
-
-learned_grow : (w : World) (t : Topic) (id : TxnId) (o : Option Decision) → Grow w (learn_effect w t id o)
-learned_grow w t id None = Grow-same w
-learned_grow w t id (Some v) = Grow-beside w t (after_learn id (decided_stamp v) (topic_at w t)) refl
 
 taken_grow : (w : World) (q : ℕ) (o : Option Item) → Grow w (take_effect w q o)
 taken_grow w q None s l = More-same (accepted_at w s)
@@ -73,13 +56,13 @@ added_grow w clock s l =
 
 effect_grow : (past : List Answer) (w : World) (e : Move) → Reached past w → Grow w (move_effect w e)
 effect_grow past w (AddsTopic clock) r = added_grow w clock
-effect_grow past w (Commits c sends) r = flown_grow w c sends
+effect_grow past w (Commits c sends) r = elim sends as (λ sends. Grow w (commit_effect w c sends)) [ [] ↦ Grow-same w | first ∷ others ↦ Grow-same w ]
 effect_grow past w (Subscribes c t) r = begun_grow w c t
 effect_grow past w (Unsubscribes c s) r = (closed_grows past w s r (entry_at w s) refl).more
-effect_grow past w (Leaves c) r = left_grow past w c (oldest_live c 0 w.subscriptions) r
+effect_grow past w (Leaves c) r = elim (oldest_live c 0 w.subscriptions) as (λ o. Grow w (leave_effect w c o)) [ None ↦ Grow-same w | Some s ↦ (closed_grows past w s r (entry_at w s) refl).more ]
 effect_grow past w (Proposes c t memory) r = proposed_grow w c t (proposal_fault w c t memory)
-effect_grow past w (Cancels c t) r = cancelled_grow w c t (find_leftover t (speaker w c).leftovers)
-effect_grow past w (Learns t id) r = learned_grow w t id (find_verdict id w.verdicts)
+effect_grow past w (Cancels c t) r = elim (find_leftover t (speaker w c).leftovers) as (λ o. Grow w (cancel_effect w c t o)) [ None ↦ Grow-same w | Some k ↦ Grow-beside w t (after_cancel k.id (topic_at w t)) refl ]
+effect_grow past w (Learns t id) r = elim (find_verdict id w.verdicts) as (λ o. Grow w (learn_effect w t id o)) [ None ↦ Grow-same w | Some v ↦ Grow-beside w t (after_learn id (decided_stamp v) (topic_at w t)) refl ]
 effect_grow past w (Releases t) r = Grow-topic w t (after_release (queue_has_room w) (topic_at w t)) (entries_more (topic_in w.topics t) (after_release (queue_has_room w) (topic_at w t))
     (Keeps-release (tickets past) w.commits t (queue_has_room w) (topic_at w t) r.inv.consistent (r.inv.tied t)).entries)
 effect_grow past w (Turns t) r = Grow-topic w t (after_turn (queue_has_room w) (verdict_in w) (topic_at w t)) (entries_more (topic_in w.topics t) (after_turn (queue_has_room w) (verdict_in w) (topic_at w t))

@@ -1,12 +1,10 @@
 -- What refuses a move is reported by the core, but for a sender without sequence numbers, and for what stands against
 -- speaking for a sender.
-use Rattle.std.proofs.Common.{◌≡◌, ℕ, Bool, true, false, cond, ◌⊎◌, inl, inr, List, [], ◌∷◌, Option, Some, None, refl, sym, subst, ◌∙◌}
-use Rattle.delivery.proofs.Words.Std.{option_map, option_or, true≢false}
+use Rattle.delivery.proofs.Words.Std.{◌≡◌, ℕ, Bool, true, false, cond, ◌⊎◌, inl, inr, List, [], ◌∷◌, Option, Some, None, refl, sym, subst, ◌∙◌, option_map, option_or, true≢false}
 use Rattle.delivery.proofs.Words.Topics.{first_refusal, Decision, Topic, TxnId, SentMessage, LearnFault, CancelFault, learn_fault, cancel_fault}
 use Rattle.delivery.proofs.Words.Lemmas.{some_same, none_some}
-use Rattle.delivery.proofs.Words.Machine.{Objection, World, Leftover, topic_at, speaker, Move, move_refusal, move_refusals, topic_objection, find_leftover, find_verdict, learn_objection, learn_objection_of, cancel_objection, cancel_objection_of, answers_of, final_world, is_odd}
+use Rattle.delivery.proofs.Words.Machine.{Objection, World, Leftover, topic_at, speaker, Move, move_refusal, move_refusals, topic_objection, find_leftover, find_verdict, learn_objection, learn_objection_of, cancel_objection, cancel_objection_of, answers_of, final_world, is_odd, AddsTopic, Opens, Connects, Commits, Subscribes, Unsubscribes, Leaves, Proposes, Decides, Withdraws, Cancels, Learns, Releases, Turns}
 use Rattle.delivery.specs.Machine.Objections.{is_reported}
-use Rattle.delivery.specs.Machine.Moves.Move.{AddsTopic, Opens, Connects, Commits, Subscribes, Unsubscribes, Leaves, Proposes, Decides, Withdraws, Cancels, Learns, Releases, Turns}
 use Rattle.delivery.specs.Theorem.Laws
 use Rattle.delivery.specs.Theorem.Laws.{is_of_claim}
 use Rattle.delivery.proofs.Theorem.AcceptedIsDue.{reached}

@@ -1,10 +1,7 @@
 -- Worked rows, computed from the definitions: each equation holds by computation alone. The five that a contract names are in specs/Examples.antt.
-use Rattle.delivery.proofs.Words.Std.{◌≡◌, true, List, [], ◌∷◌, map, Some, None}
+use Rattle.delivery.proofs.Words.Std.{refl, ◌≡◌, true, List, [], ◌∷◌, map, Some, None}
 use Rattle.delivery.proofs.Words.Topics.{agreed}
-use Rattle.delivery.proofs.Words.Machine.{Objection, due, accepted_at, span_at, frontier_at, Move, commits_of, Run, answers_of, final_world}
-use Rattle.std.proofs.Common.{refl}
-use Rattle.delivery.specs.Machine.Moves.Move.{Opens, Connects, Commits, Subscribes, Unsubscribes, Proposes, Decides, Learns, Releases, Turns, Takes}
-use Rattle.delivery.specs.Machine.Moves.Answer.{Refused, Done, Opened, Begun, Subscribed, Unsubscribed, Ticket, Decided, Learnt, Turned, Handed}
+use Rattle.delivery.proofs.Words.Machine.{Objection, due, accepted_at, span_at, frontier_at, Move, commits_of, Run, answers_of, final_world, Opens, Connects, Commits, Subscribes, Unsubscribes, Proposes, Decides, Learns, Releases, Turns, Takes, Refused, Done, Opened, Begun, Subscribed, Unsubscribed, Ticket, Decided, Learnt, Turned, Handed}
 use Rattle.delivery.specs.Theorem.Examples.{topic, stamp, id, send, part, transaction, item, run_of, answers_in_order, log_stamps, to_a_and_b, crossing}
 
 -- ---- transactions that cross: what is due

@@ -1,9 +1,8 @@
 -- What a topic's log gets, the queue of each subscription gets whose span has no end.
 use Rattle.std.proofs.Common.{◌≡◌, ℕ, ◌+◌, ◌<◌, Bool, true, false, cond, List, [], ◌∷◌, ◌++◌, map, length, set, Option, Some, None, refl, sym, ap, subst, ◌∙◌, length-append, arith}
-use Rattle.delivery.proofs.Words.Topics.{part_at, Decision, Topic, TxnId, SentMessage, Stamp, ProposeFault, LogRow, Item, TopicState, Pending, Entry, EntryEnd, new_topic, find_entry, entry_after, end_of, after_propose, after_cancel, after_learn, after_release_of, after_release, after_turn, after_unsubscribe, row_of, item_of, decided_stamp}
+use Rattle.delivery.proofs.Words.Topics.{part_at, Decision, Topic, TxnId, Stamp, ProposeFault, LogRow, Item, TopicState, Pending, Entry, EntryEnd, new_topic, find_entry, entry_after, end_of, after_propose, after_cancel, after_learn, after_release_of, after_release, after_turn, after_unsubscribe, row_of, item_of, decided_stamp}
 use Rattle.delivery.proofs.Words.Lemmas.{at_set, at_set_within, none_some, delivered_number, release_keeps, turn_keeps}
-use Rattle.delivery.proofs.Words.Machine.{World, Leftover, Subscription, no_subscription, topic_at, speaker, subscription_at, entry_at, with_topic, entry_to, entry_items, accepted_at, log_at, Move, Answer, world_after, move_effect, find_leftover, find_verdict, verdict_in, queue_has_room, oldest_live, commit_effect, proposal_fault, propose_effect, cancel_effect, learn_effect, take_effect, undecided_at, leave_effect, close_effect_of, Run, answers_of, final_world}
-use Rattle.delivery.specs.Machine.Moves.Move.{AddsTopic, Commits, Subscribes, Unsubscribes, Leaves, Proposes, Cancels, Learns, Releases, Turns, Takes}
+use Rattle.delivery.proofs.Words.Machine.{World, Subscription, no_subscription, topic_at, speaker, subscription_at, entry_at, with_topic, entry_to, entry_items, accepted_at, log_at, Move, Answer, world_after, move_effect, find_leftover, find_verdict, verdict_in, queue_has_room, oldest_live, commit_effect, proposal_fault, propose_effect, cancel_effect, learn_effect, take_effect, undecided_at, leave_effect, close_effect_of, Run, answers_of, final_world, AddsTopic, Commits, Subscribes, Unsubscribes, Leaves, Proposes, Cancels, Learns, Releases, Turns, Takes}
 use Rattle.delivery.proofs.Machine.Invariant.{topic_in, Owned}
 use Rattle.delivery.proofs.Machine.TopicSteps.{at_topic, map_same, map_map}
 use Rattle.delivery.proofs.Machine.SubscriptionSteps.{at_push_two, at_added, found_entry, finds_entry, new_subscription, new_entry, topic_with, taken_more}
@@ -145,22 +144,10 @@ Enter-beside past w t y r same held = Enter-topic past w t y r (λ s. found_stay
 
 -- ---- each event
 
-flown_enter : (w : World) (c : ℕ) (sends : List SentMessage) → AllEnter w (commit_effect w c sends)
-flown_enter w c [] = Enter-same w
-flown_enter w c (first ∷ others) = Enter-same w
-
 proposed_enter : (past : List Answer) (w : World) (c : ℕ) (t : Topic) (o : Option ProposeFault) → Reached past w → AllEnter w (propose_effect w c t o)
 proposed_enter past w c t None r =
     Enter-beside past w t (after_propose (speaker w c).floor (part_at (undecided_at w c).txn.id (undecided_at w c).txn.sends t) (topic_at w t)) r refl refl
 proposed_enter past w c t (Some fault) r = Enter-same w
-
-cancelled_enter : (past : List Answer) (w : World) (c : ℕ) (t : Topic) (o : Option Leftover) → Reached past w → AllEnter w (cancel_effect w c t o)
-cancelled_enter past w c t None r = Enter-same w
-cancelled_enter past w c t (Some k) r = Enter-beside past w t (after_cancel k.id (topic_at w t)) r refl refl
-
-learned_enter : (past : List Answer) (w : World) (t : Topic) (id : TxnId) (o : Option Decision) → Reached past w → AllEnter w (learn_effect w t id o)
-learned_enter past w t id None r = Enter-same w
-learned_enter past w t id (Some v) r = Enter-beside past w t (after_learn id (decided_stamp v) (topic_at w t)) r refl refl
 
 begun_enter : (past : List Answer) (w : World) (c : ℕ) (t : Topic) → Reached past w → AllEnter w (move_effect w (Subscribes c t))
 begun_enter past w c t r s l =
@@ -186,10 +173,6 @@ closed_enter past w q r (Some entry) e s l =
     (found_stays w s t (after_unsubscribe q x) (find_kept q s x.subscriptions ne) refl)
     (found_stays w s (subscription_at w s).topic (topic_in w.topics (subscription_at w s).topic) refl refl)))
 
-left_enter : (past : List Answer) (w : World) (c : ℕ) (o : Option ℕ) → Reached past w → AllEnter w (leave_effect w c o)
-left_enter past w c None r = Enter-same w
-left_enter past w c (Some q) r = closed_enter past w q r (entry_at w q) refl
-
 taken_enter : (w : World) (q : ℕ) (o : Option Item) → AllEnter w (take_effect w q o)
 taken_enter w q None s l = Enter-same w s l
 taken_enter w q (Some item) s l =
@@ -206,13 +189,13 @@ added_enter past w clock r s l =
 
 effect_enter : (past : List Answer) (w : World) (e : Move) → Reached past w → AllEnter w (move_effect w e)
 effect_enter past w (AddsTopic clock) r = added_enter past w clock r
-effect_enter past w (Commits c sends) r = flown_enter w c sends
+effect_enter past w (Commits c sends) r = elim sends as (λ sends. AllEnter w (commit_effect w c sends)) [ [] ↦ Enter-same w | first ∷ others ↦ Enter-same w ]
 effect_enter past w (Subscribes c t) r = begun_enter past w c t r
 effect_enter past w (Unsubscribes c s) r = closed_enter past w s r (entry_at w s) refl
-effect_enter past w (Leaves c) r = left_enter past w c (oldest_live c 0 w.subscriptions) r
+effect_enter past w (Leaves c) r = elim (oldest_live c 0 w.subscriptions) as (λ o. AllEnter w (leave_effect w c o)) [ None ↦ Enter-same w | Some q ↦ closed_enter past w q r (entry_at w q) refl ]
 effect_enter past w (Proposes c t memory) r = proposed_enter past w c t (proposal_fault w c t memory) r
-effect_enter past w (Cancels c t) r = cancelled_enter past w c t (find_leftover t (speaker w c).leftovers) r
-effect_enter past w (Learns t id) r = learned_enter past w t id (find_verdict id w.verdicts) r
+effect_enter past w (Cancels c t) r = elim (find_leftover t (speaker w c).leftovers) as (λ o. AllEnter w (cancel_effect w c t o)) [ None ↦ Enter-same w | Some k ↦ Enter-beside past w t (after_cancel k.id (topic_at w t)) r refl refl ]
+effect_enter past w (Learns t id) r = elim (find_verdict id w.verdicts) as (λ o. AllEnter w (learn_effect w t id o)) [ None ↦ Enter-same w | Some v ↦ Enter-beside past w t (after_learn id (decided_stamp v) (topic_at w t)) r refl refl ]
 effect_enter past w (Releases t) r =
     Enter-topic past w t (after_release (queue_has_room w) (topic_at w t)) r (λ s. found_stepped w s t _ (release_fills (queue_has_room w) (topic_at w t)))
 effect_enter past w (Turns t) r =

@@ -1,16 +1,13 @@
 -- No two connections that are there speak for one sender, and a sender for which none speaks is idle. Who goes on as a
 -- sender has it as it was, and has it until the end.
-use Rattle.std.proofs.Common.{◌≡◌, ℕ, zero, suc, ◌<◌, ◌==◌, Bool, true, false, not, ◌&&◌, ◌||◌, ◌⊎◌, List, [], ◌∷◌, ◌++◌, length, set, get_or, Option, Some, None, inl, inr, refl, sym, ap, subst, ◌∙◌, arith, ltb}
-use Rattle.delivery.proofs.Words.Std.{list_any, is_some, option_map_or, unwrap_or, true≢false, and_parts, or_parts, eqb-true, eq-eqb, ltb-true, lt-ltb, not-false, length_push}
-use Rattle.delivery.proofs.Words.Topics.{Decision, Topic, TxnId, SentMessage, ProposeFault, Item, Entry}
+use Rattle.delivery.proofs.Words.Std.{◌≡◌, ℕ, zero, suc, ◌<◌, ◌==◌, Bool, true, false, not, ◌&&◌, ◌||◌, ◌⊎◌, List, [], ◌∷◌, ◌++◌, length, set, get_or, Option, Some, None, inl, inr, refl, sym, ap, subst, ◌∙◌, arith, ltb, list_any, is_some, option_map_or, unwrap_or, true≢false, and_parts, or_parts, eqb-true, eq-eqb, ltb-true, lt-ltb, not-false, length_push}
 use Rattle.delivery.proofs.Words.Lemmas.{at_set, at_set_within, some_same, none_some, not_true}
-use Rattle.delivery.proofs.Words.Machine.{Objection, World, Connection, Leftover, SenderState, Standing, Undecided, is_reading, is_gone, nobody, new_sender, connection_at, sender_at, speaker, speaker_number, speaks_for, is_in_use, subscription_at, entry_at, start, Move, world_after, move_refusal, move_effect, find_leftover, find_verdict, drop_leftover, oldest_live, claimed_senders, connect_effect, commit_effect, proposal_fault, propose_effect, cancel_effect, learn_effect, take_effect, leave_effect, close_effect_of, run, Run, final_world}
-use Rattle.delivery.specs.Machine.Moves.Move.{Opens, Connects, Commits, Unsubscribes, Disconnects, Errs, Lost, Leaves, Proposes, Decides, Withdraws, Cancels, Learns, Takes}
-use Rattle.delivery.specs.Machine.Moves.Answer.{Refused, Done}
+use Rattle.delivery.proofs.Words.Machine.{Objection, World, Connection, Leftover, SenderState, Standing, Undecided, is_reading, is_gone, nobody, new_sender, connection_at, sender_at, speaker, speaker_number, speaks_for, is_in_use, subscription_at, start, Move, world_after, move_refusal, move_effect, drop_leftover, oldest_live, claimed_senders, connect_effect, leave_effect, run, Run, final_world, Opens, Connects, Commits, Disconnects, Errs, Lost, Leaves, Proposes, Decides, Withdraws, Cancels, Takes, Refused, Done}
 use Rattle.delivery.specs.Theorem.Reported
 use Rattle.delivery.proofs.Machine.Invariant.{sender_in}
 use Rattle.delivery.proofs.Machine.SubscriptionSteps.{at_push, at_end, set_length, beyond}
 use Rattle.delivery.proofs.Machine.InvariantIsKept.{by_refusal, checked}
+use Rattle.delivery.proofs.Machine.ByFound.{InEachCase, by_found, by_entry}
 use Rattle.delivery.proofs.Machine.Speakers.{has_speaker, flying_speaker, claim_there, claim_free}
 
 -- the connection of this number in a list; beyond its end, nobody
@@ -222,30 +219,6 @@ connected w c claimed n h = by_claim claimed (claim_there w c claimed n) (claim_
 pub flying_speaks : (w : World) (c : ℕ) → is_gone (connection_at w c).standing ≡ false → not (is_some (speaker w c).flight) ≡ false → speaks_for (speaker_number w c) (connection_at w c) ≡ true
 flying_speaks w c there e = speaks (speaker_number w c) (connection_at w c) there (flying_speaker w c (not-false _ e))
 
-flown : (w : World) (c : ℕ) (sends : List SentMessage) → speaks_for (speaker_number w c) (connection_at w c) ≡ true → Speaks w → Speaks (commit_effect w c sends)
-flown w c [] e h = h
-flown w c (first ∷ others) e h = sender_kept w.senders w.connections c (speaker_number w c) _ e h
-
-proposed : (w : World) (c : ℕ) (t : Topic) (o : Option ProposeFault) → speaks_for (speaker_number w c) (connection_at w c) ≡ true → Speaks w → Speaks (propose_effect w c t o)
-proposed w c t None e h = sender_kept w.senders w.connections c (speaker_number w c) _ e h
-proposed w c t (Some fault) e h = sender_kept w.senders w.connections c (speaker_number w c) _ e h
-
-cancelled : (w : World) (c : ℕ) (t : Topic) (o : Option Leftover) → Speaks w → Speaks (cancel_effect w c t o)
-cancelled w c t None h = h
-cancelled w c t (Some k) h = rest_kept w.senders w.connections (speaker_number w c) _ (λ r. (r.0, ap (drop_leftover t) r.1)) h
-
-learned : (w : World) (t : Topic) (id : TxnId) (o : Option Decision) → Speaks w → Speaks (learn_effect w t id o)
-learned w t id None h = h
-learned w t id (Some v) h = h
-
-closed : (w : World) (s : ℕ) (o : Option Entry) → Speaks w → Speaks (close_effect_of w s o)
-closed w s None h = h
-closed w s (Some e) h = h
-
-handed : (w : World) (s : ℕ) (o : Option Item) → is_gone (connection_at w (subscription_at w s).connection).standing ≡ false → Speaks w → Speaks (take_effect w s o)
-handed w s None there h = standing_kept w.senders w.connections (subscription_at w s).connection Standing.Leaving refl there h
-handed w s (Some item) there h = h
-
 pub no_flight : (o : Option Undecided) → is_some o ≡ false → o ≡ None
 no_flight None e = refl
 no_flight (Some f) e = absurd (true≢false e)
@@ -258,7 +231,7 @@ left : (w : World) (c : ℕ) (o : Option ℕ) → (not (is_some o) && (is_some (
 left w c None idle h =
     let k = or_parts (is_some (speaker w c).flight) (ltb 0 (length (speaker w c).leftovers)) idle in
     departed w c (no_flight (speaker w c).flight k.0, no_leftovers (speaker w c).leftovers k.1) h
-left w c (Some s) idle h = closed w s (entry_at w s) h
+left w c (Some s) idle h = by_entry Speaks w s h (λ k. h)
 
 -- each move keeps it
 pub effect_speaks : (w : World) (e : Move) → move_refusal w e ≡ None → Speaks w → Speaks (move_effect w e)
@@ -266,25 +239,28 @@ effect_speaks w Opens n h = opened w.senders w.connections _ refl h
 effect_speaks w (Connects c claimed) n h = connected w c claimed n h
 effect_speaks w (Commits c sends) n h =
     let p = checked w (Commits c sends) n in
-    flown w c sends (speaks (speaker_number w c) (connection_at w c) p.1.0 (has_speaker w c (not-false _ p.1.1.1.0))) h
-effect_speaks w (Unsubscribes c s) n h = closed w s (entry_at w s) h
+    by_found (λ v o. Speaks v) w (Commits c sends)
+    (h, λ k. sender_kept w.senders w.connections c (speaker_number w c) _ (speaks (speaker_number w c) (connection_at w c) p.1.0 (has_speaker w c (not-false _ p.1.1.1.0))) h)
 effect_speaks w (Disconnects c) n h = standing_kept w.senders w.connections c Standing.Leaving refl (checked w (Disconnects c) n).1.0 h
 effect_speaks w (Errs c) n h = standing_kept w.senders w.connections c Standing.Leaving refl (checked w (Errs c) n).1.0 h
 effect_speaks w (Lost c) n h = standing_kept w.senders w.connections c Standing.Leaving refl (checked w (Lost c) n).1.0 h
 effect_speaks w (Leaves c) n h = left w c (oldest_live c 0 w.subscriptions) (checked w (Leaves c) n).1.1.1.0 h
 effect_speaks w (Proposes c t memory) n h =
-    let p = checked w (Proposes c t memory) n in proposed w c t (proposal_fault w c t memory) (flying_speaks w c p.1.0 p.1.1.0) h
+    let p = checked w (Proposes c t memory) n in let own = flying_speaks w c p.1.0 p.1.1.0 in
+    by_found (λ v o. Speaks v) w (Proposes c t memory)
+    (sender_kept w.senders w.connections c (speaker_number w c) _ own h, λ fault. sender_kept w.senders w.connections c (speaker_number w c) _ own h)
 effect_speaks w (Decides c) n h =
     let p = checked w (Decides c) n in sender_kept w.senders w.connections c (speaker_number w c) _ (flying_speaks w c p.1.0 p.1.1.0) h
 effect_speaks w (Withdraws c) n h =
     let p = checked w (Withdraws c) n in
     standing_kept _ w.connections c Standing.Leaving refl p.1.0 (sender_kept w.senders w.connections c (speaker_number w c) _ (flying_speaks w c p.1.0 p.1.1.0) h)
-effect_speaks w (Cancels c t) n h = cancelled w c t (find_leftover t (speaker w c).leftovers) h
-effect_speaks w (Learns t id) n h = learned w t id (find_verdict id w.verdicts) h
+effect_speaks w (Cancels c t) n h =
+    by_found (λ v o. Speaks v) w (Cancels c t) (h, λ k. rest_kept w.senders w.connections (speaker_number w c) _ (λ r. (r.0, ap (drop_leftover t) r.1)) h)
 effect_speaks w (Takes s) n h =
-    let p = (checked w (Takes s) n).1.0 in
-    handed w s _ (reading_there (connection_at w (subscription_at w s).connection).standing (not-false _ (or_parts (is_some (subscription_at w s).closed) _ p).1)) h
-effect_speaks w _ n h = h
+    let c = (subscription_at w s).connection in
+    let there = reading_there (connection_at w c).standing (not-false _ (or_parts (is_some (subscription_at w s).closed) _ (checked w (Takes s) n).1.0).1) in
+    by_found (λ v o. Speaks v) w (Takes s) (standing_kept w.senders w.connections c Standing.Leaving refl there h, λ k. h)
+effect_speaks w e n h = by_found (λ v o. Speaks v) w e (h, λ k. h)
 
 -- so does each event
 pub step_speaks : (w : World) (e : Move) → Speaks w → Speaks (world_after w e)
@@ -324,54 +300,24 @@ keeps_standing : (w : World) (c : ℕ) (standing : Standing) → Keeps w (set w.
 keeps_standing w c standing d s e =
     at_set (λ (z : Connection). z.sender ≡ Some s) w.connections c d _ nobody (λ k. subst (λ n. (connection_at w n).sender ≡ Some s) k e) e
 
-keeps_flown : (w : World) (c : ℕ) (sends : List SentMessage) → Keeps w (commit_effect w c sends).connections
-keeps_flown w c [] d s e = e
-keeps_flown w c (first ∷ others) d s e = e
-
-keeps_proposed : (w : World) (c : ℕ) (t : Topic) (o : Option ProposeFault) → Keeps w (propose_effect w c t o).connections
-keeps_proposed w c t None d s e = e
-keeps_proposed w c t (Some fault) d s e = e
-
-keeps_cancelled : (w : World) (c : ℕ) (t : Topic) (o : Option Leftover) → Keeps w (cancel_effect w c t o).connections
-keeps_cancelled w c t None d s e = e
-keeps_cancelled w c t (Some k) d s e = e
-
-keeps_learned : (w : World) (t : Topic) (id : TxnId) (o : Option Decision) → Keeps w (learn_effect w t id o).connections
-keeps_learned w t id None d s e = e
-keeps_learned w t id (Some v) d s e = e
-
-keeps_closed : (w : World) (r : ℕ) (o : Option Entry) → Keeps w (close_effect_of w r o).connections
-keeps_closed w r None d s e = e
-keeps_closed w r (Some entry) d s e = e
-
-keeps_left : (w : World) (c : ℕ) (o : Option ℕ) → Keeps w (leave_effect w c o).connections
-keeps_left w c None = keeps_standing w c Standing.Gone
-keeps_left w c (Some s) = keeps_closed w s (entry_at w s)
-
-keeps_handed : (w : World) (r : ℕ) (o : Option Item) → Keeps w (take_effect w r o).connections
-keeps_handed w r None d s e = keeps_standing w (subscription_at w r).connection Standing.Leaving d s e
-keeps_handed w r (Some item) d s e = e
-
-effect_keeps : (w : World) (e : Move) → move_refusal w e ≡ None → Keeps w (move_effect w e).connections
-effect_keeps w Opens n = λ c s e. at_push (λ (z : Connection). z.sender ≡ Some s) w.connections c _ nobody (λ k o. none_some s o) e
-effect_keeps w (Connects c claimed) n = λ d s e.
+effect_keeps : (w : World) (e : Move) → move_refusal w e ≡ None → InEachCase (λ v o. Keeps w v.connections) w e
+effect_keeps w Opens n =
+    let new : Keeps w (move_effect w Opens).connections = λ c s e. at_push (λ (z : Connection). z.sender ≡ Some s) w.connections c _ nobody (λ k o. none_some s o) e in (new, λ k. new)
+effect_keeps w (Connects c claimed) n =
+    let new : Keeps w (move_effect w (Connects c claimed)).connections = λ d s e.
     at_set (λ (z : Connection). z.sender ≡ Some s) w.connections c d _ nobody
-    (λ k. none_some s (sym (is_none (connection_at w c).sender (checked w (Connects c claimed) n).1.1.1.0) ∙ subst (λ a. (connection_at w a).sender ≡ Some s) k e)) e
-effect_keeps w (Commits c sends) n = keeps_flown w c sends
-effect_keeps w (Unsubscribes c s) n = keeps_closed w s (entry_at w s)
-effect_keeps w (Disconnects c) n = keeps_standing w c Standing.Leaving
-effect_keeps w (Errs c) n = keeps_standing w c Standing.Leaving
-effect_keeps w (Lost c) n = keeps_standing w c Standing.Leaving
-effect_keeps w (Leaves c) n = keeps_left w c (oldest_live c 0 w.subscriptions)
-effect_keeps w (Proposes c t memory) n = keeps_proposed w c t (proposal_fault w c t memory)
-effect_keeps w (Withdraws c) n = keeps_standing w c Standing.Leaving
-effect_keeps w (Cancels c t) n = keeps_cancelled w c t (find_leftover t (speaker w c).leftovers)
-effect_keeps w (Learns t id) n = keeps_learned w t id (find_verdict id w.verdicts)
-effect_keeps w (Takes s) n = keeps_handed w s _
-effect_keeps w _ n = λ c s e. e
+    (λ k. none_some s (sym (is_none (connection_at w c).sender (checked w (Connects c claimed) n).1.1.1.0) ∙ subst (λ a. (connection_at w a).sender ≡ Some s) k e)) e in
+    (new, λ k. new)
+effect_keeps w (Disconnects c) n = (keeps_standing w c Standing.Leaving, λ k. keeps_standing w c Standing.Leaving)
+effect_keeps w (Errs c) n = (keeps_standing w c Standing.Leaving, λ k. keeps_standing w c Standing.Leaving)
+effect_keeps w (Lost c) n = (keeps_standing w c Standing.Leaving, λ k. keeps_standing w c Standing.Leaving)
+effect_keeps w (Leaves c) n = (keeps_standing w c Standing.Gone, λ q. by_entry (λ v. Keeps w v.connections) w q (λ c s e. e) (λ k c s e. e))
+effect_keeps w (Withdraws c) n = (keeps_standing w c Standing.Leaving, λ k. keeps_standing w c Standing.Leaving)
+effect_keeps w (Takes r) n = (keeps_standing w (subscription_at w r).connection Standing.Leaving, λ k c s e. e)
+effect_keeps w _ n = ((λ c s e. e), λ k c s e. e)
 
 pub senders_stay : Reported.SendersStay
-senders_stay w e = by_refusal (λ v o. Keeps w v.connections) w e (λ why c s k. k) (λ n. effect_keeps w e n)
+senders_stay w e = by_refusal (λ v o. Keeps w v.connections) w e (λ why c s k. k) (λ n. by_found (λ v o. Keeps w v.connections) w e (effect_keeps w e n))
 
 -- ---- going on
 

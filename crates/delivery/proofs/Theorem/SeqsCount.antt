@@ -1,16 +1,15 @@
 -- The seq of each transaction counts its sender's.
-use Rattle.std.proofs.Common.{◌≡◌, ℕ, ◌+◌, ◌<◌, ◌≤◌, ◌==◌, Bool, true, false, cond, List, [], ◌∷◌, ◌++◌, length, get_or, set, Option, Some, None, refl, sym, ap, subst, ◌∙◌, arith}
-use Rattle.delivery.proofs.Words.Std.{eqb-true, eq-eqb, not-false, length_push}
-use Rattle.delivery.proofs.Words.Topics.{Decision, Topic, TxnId, SentMessage, ProposeFault, Item, Pending, Entry, due_part}
+use Rattle.delivery.proofs.Words.Std.{◌≡◌, ℕ, ◌+◌, ◌<◌, ◌≤◌, ◌==◌, Bool, true, false, cond, List, [], ◌∷◌, ◌++◌, length, get_or, set, Option, Some, None, refl, sym, ap, subst, ◌∙◌, arith, eqb-true, eq-eqb, not-false, length_push}
+use Rattle.delivery.proofs.Words.Topics.{SentMessage}
 use Rattle.delivery.proofs.Words.Lemmas.{at_set, at_set_within, not_true, some_same, none_some}
-use Rattle.delivery.proofs.Words.Machine.{World, Leftover, SenderState, Connection, Standing, new_sender, nobody, topic_at, connection_at, speaker, subscription_at, entry_at, with_standing, start, speaker_number, Move, Answer, world_after, answer_to, move_refusal, move_effect, move_answer, find_leftover, find_verdict, oldest_live, next_txn, connect_effect, commit_effect, commit_answer, proposal_fault, propose_effect, propose_answer, cancel_effect, cancel_answer, learn_effect, release_answer, take_effect, take_answer, leave_effect, leave_answer, close_effect, close_effect_of, run, answers_from, txn_count, Numbered}
+use Rattle.delivery.proofs.Words.Machine.{World, SenderState, Connection, Standing, new_sender, nobody, connection_at, subscription_at, with_standing, start, speaker_number, Move, Answer, world_after, answer_to, move_refusal, move_effect, move_answer, next_txn, connect_effect, commit_effect, commit_answer, leave_answer, run, answers_from, txn_count, Numbered, Refused, Opened}
 use Rattle.delivery.specs.Machine.World.{with_speaker}
-use Rattle.delivery.specs.Machine.Moves.Move.{AddsTopic, Opens, Connects, Commits, Subscribes, Unsubscribes, Disconnects, Errs, Lost, Leaves, Proposes, Decides, Withdraws, Cancels, Learns, Releases, Turns, Takes}
-use Rattle.delivery.specs.Machine.Moves.Answer.{Refused, Done, Opened}
+use Rattle.delivery.specs.Machine.Moves.Move.{Opens, Connects, Commits, Disconnects, Errs, Lost, Leaves, Proposes, Decides, Withdraws, Cancels, Takes}
 use Rattle.delivery.specs.Theorem.Laws
 use Rattle.delivery.proofs.Machine.Invariant.{sender_in}
 use Rattle.delivery.proofs.Machine.SubscriptionSteps.{at_push_two, set_length}
 use Rattle.delivery.proofs.Machine.InvariantIsKept.{by_refusal, checked}
+use Rattle.delivery.proofs.Machine.ByFound.{InEachCase, by_found, by_entry}
 use Rattle.delivery.proofs.Machine.Speakers.{has_speaker, claim_there}
 
 abbrev sender_of : List Connection → ℕ → Option ℕ
@@ -54,9 +53,9 @@ told past senders connections o a b h = record {
 made_case : (s t n : ℕ) (b : Bool) → (t == s) ≡ b → cond b (n + 1) n ≡ cond (t == s) (n + 1) n
 made_case s t n b e = ap (λ (c : Bool). cond c (n + 1) n) (sym e)
 
-flown_numbering : (past : List Answer) (w : World) (c : ℕ) (sends : List SentMessage) → (connection_at w c).sender ≡ Some (speaker_number w c) → Numbering past w.senders w.connections → Numbering (commit_answer w c sends ∷ past) (commit_effect w c sends).senders (commit_effect w c sends).connections
-flown_numbering past w c [] l h = told past w.senders w.connections Done (λ s. refl) (λ k. k) h
-flown_numbering past w c (first ∷ others) l h =
+flown_numbering : (past : List Answer) (w : World) (c : ℕ) (first : SentMessage) (others : List SentMessage) → (connection_at w c).sender ≡ Some (speaker_number w c)
+    → Numbering past w.senders w.connections → Numbering (commit_answer w c (first ∷ others) ∷ past) (commit_effect w c (first ∷ others)).senders w.connections
+flown_numbering past w c first others l h =
     let t = speaker_number w c in let own : speaker_number w c < length w.senders = h.owners c (speaker_number w c) l in let x = sender_in w.senders t in
     let y : SenderState = record x { seq = x.seq + 1; flight = Some (record { txn = next_txn w c (first ∷ others); given = []; mark = None }) } in
     let m : length (set w.senders t y) ≡ length w.senders = set_length w.senders t y in
@@ -69,38 +68,6 @@ flown_numbering past w c (first ∷ others) l h =
       owners = λ d s k. let o : s < length w.senders = h.owners d s k in omega arith;
       numbered = (ap (λ (n : ℕ). n + 1) (h.seqs t own), h.numbered);
     }
-
-proposed_numbering : (past : List Answer) (w : World) (c : ℕ) (t : Topic) (o : Option ProposeFault) → Numbering past w.senders w.connections → Numbering (propose_answer w c t o ∷ past) (propose_effect w c t o).senders (propose_effect w c t o).connections
-proposed_numbering past w c t None h = told past _ w.connections (propose_answer w c t None) (λ s. refl) (λ k. k) (sender_kept past w.senders w.connections (speaker_number w c) _ refl h)
-proposed_numbering past w c t (Some fault) h = told past _ w.connections (propose_answer w c t (Some fault)) (λ s. refl) (λ k. k) (sender_kept past w.senders w.connections (speaker_number w c) _ refl h)
-
-cancelled_numbering : (past : List Answer) (w : World) (c : ℕ) (t : Topic) (o : Option Leftover) → Numbering past w.senders w.connections → Numbering (cancel_answer t o ∷ past) (cancel_effect w c t o).senders (cancel_effect w c t o).connections
-cancelled_numbering past w c t None h = told past w.senders w.connections Done (λ s. refl) (λ k. k) h
-cancelled_numbering past w c t (Some k) h = told past _ w.connections (cancel_answer t (Some k)) (λ s. refl) (λ n. n) (sender_kept past w.senders w.connections (speaker_number w c) _ refl h)
-
-learned_same : (w : World) (t : Topic) (id : TxnId) (o : Option Decision) → ((learn_effect w t id o).senders ≡ w.senders) × ((learn_effect w t id o).connections ≡ w.connections)
-learned_same w t id None = (refl, refl)
-learned_same w t id (Some v) = (refl, refl)
-
-closed_same : (w : World) (s : ℕ) (o : Option Entry) → ((close_effect_of w s o).senders ≡ w.senders) × ((close_effect_of w s o).connections ≡ w.connections)
-closed_same w s None = (refl, refl)
-closed_same w s (Some e) = (refl, refl)
-
-same_numbering : (past : List Answer) (w v : World) → (v.senders ≡ w.senders) × (v.connections ≡ w.connections) → Numbering past w.senders w.connections → Numbering past v.senders v.connections
-same_numbering past w v e h = subst (λ z. Numbering past z v.connections) (sym e.0) (subst (λ z. Numbering past w.senders z) (sym e.1) h)
-
-left_numbering : (past : List Answer) (w : World) (c : ℕ) (o : Option ℕ) → Numbering past w.senders w.connections → Numbering (leave_answer w c o ∷ past) (leave_effect w c o).senders (leave_effect w c o).connections
-left_numbering past w c None h = told past w.senders _ (leave_answer w c None) (λ s. refl) (λ k. k) (standing_kept past w c Standing.Gone w.senders h)
-left_numbering past w c (Some s) h =
-    told past _ _ (leave_answer w c (Some s)) (λ n. refl) (λ k. k) (same_numbering past w (close_effect w s) (closed_same w s (entry_at w s)) h)
-
-released_numbering : (past : List Answer) (w : World) (t : Topic) (o : Option Pending) → Numbering past w.senders w.connections → Numbering (release_answer t o ∷ past) w.senders w.connections
-released_numbering past w t None h = told past w.senders w.connections Done (λ s. refl) (λ k. k) h
-released_numbering past w t (Some p) h = told past w.senders w.connections (release_answer t (Some p)) (λ s. refl) (λ k. k) h
-
-handed_numbering : (past : List Answer) (w : World) (s : ℕ) (o : Option Item) → Numbering past w.senders w.connections → Numbering (take_answer w s o ∷ past) (take_effect w s o).senders (take_effect w s o).connections
-handed_numbering past w s None h = told past w.senders _ (take_answer w s None) (λ n. refl) (λ k. k) (standing_kept past w (subscription_at w s).connection Standing.Leaving w.senders h)
-handed_numbering past w s (Some item) h = told past w.senders w.connections (take_answer w s (Some item)) (λ n. refl) (λ k. k) h
 
 leaving_numbering : (past : List Answer) (w : World) (c : ℕ) (o : Answer) → ((s : ℕ) → txn_count s (o ∷ past) ≡ txn_count s past) → (Numbered past → Numbered (o ∷ past)) → Numbering past w.senders w.connections → Numbering (o ∷ past) w.senders (with_standing w c Standing.Leaving).connections
 leaving_numbering past w c o a b h = told past w.senders _ o a b (standing_kept past w c Standing.Leaving w.senders h)
@@ -133,43 +100,53 @@ connected_numbering past w c None there h =
     spoken_numbering past w c (length w.senders) (w.senders ++ new_sender ∷ []) (let m = length_push w.senders new_sender in omega arith) (begun_numbering past w h)
 connected_numbering past w c (Some s) there h = spoken_numbering past w c s w.senders (there s refl) h
 
-happens_numbering : (past : List Answer) (w : World) (e : Move) → Numbering past w.senders w.connections → move_refusal w e ≡ None → Numbering (move_answer w e ∷ past) (move_effect w e).senders (move_effect w e).connections
-happens_numbering past w (AddsTopic clock) h e = told past w.senders w.connections Done (λ s. refl) (λ k. k) h
+happens_numbering : (past : List Answer) (w : World) (e : Move) → Numbering past w.senders w.connections → move_refusal w e ≡ None
+    → InEachCase (λ v o. Numbering (o ∷ past) v.senders v.connections) w e
 happens_numbering past w Opens h e =
     let new : Connection = record { sender = None; standing = Standing.Open } in
-    told past w.senders (move_effect w Opens).connections (Opened (length w.connections)) (λ s. refl) (λ k. k) (record {
+    let opened = told past w.senders (move_effect w Opens).connections (Opened (length w.connections)) (λ s. refl) (λ k. k) (record {
       seqs = h.seqs;
       fresh = h.fresh;
       owners = λ c s. at_push_two (λ (z : Connection). z.sender ≡ Some s → s < length w.senders) w.connections c new nobody
           (λ k d. none_some s d) (λ ne. h.owners c s);
       numbered = h.numbered;
-    })
-happens_numbering past w (Connects c claimed) h e = told past _ _ Done (λ s. refl) (λ k. k) (connected_numbering past w c claimed (claim_there w c claimed e) h)
+    }) in
+    (opened, λ k. opened)
+happens_numbering past w (Connects c claimed) h e =
+    let g = connected_numbering past w c claimed (claim_there w c claimed e) h in (told past _ _ _ (λ s. refl) (λ k. k) g, λ k. told past _ _ _ (λ s. refl) (λ k. k) g)
 happens_numbering past w (Commits c sends) h e =
-    flown_numbering past w c sends (has_speaker w c (not-false _ (checked w (Commits c sends) e).1.1.1.0)) h
-happens_numbering past w (Subscribes c t) h e = told past w.senders w.connections _ (λ s. refl) (λ k. k) h
-happens_numbering past w (Unsubscribes c s) h e = told past _ _ (move_answer w (Unsubscribes c s)) (λ n. refl) (λ k. k) (same_numbering past w (close_effect w s) (closed_same w s (entry_at w s)) h)
-happens_numbering past w (Disconnects c) h e = leaving_numbering past w c _ (λ s. refl) (λ k. k) h
-happens_numbering past w (Errs c) h e = leaving_numbering past w c _ (λ s. refl) (λ k. k) h
-happens_numbering past w (Lost c) h e = leaving_numbering past w c _ (λ s. refl) (λ k. k) h
-happens_numbering past w (Leaves c) h e = left_numbering past w c (oldest_live c 0 w.subscriptions) h
-happens_numbering past w (Proposes c t memory) h e = proposed_numbering past w c t (proposal_fault w c t memory) h
-happens_numbering past w (Decides c) h e = told past _ w.connections (move_answer w (Decides c)) (λ s. refl) (λ k. k) (sender_kept past w.senders w.connections (speaker_number w c) _ refl h)
+    (told past _ _ _ (λ s. refl) (λ k. k) h, λ k. flown_numbering past w c k.0 k.1 (has_speaker w c (not-false _ (checked w (Commits c sends) e).1.1.1.0)) h)
+happens_numbering past w (Disconnects c) h e = (leaving_numbering past w c _ (λ s. refl) (λ k. k) h, λ k. leaving_numbering past w c _ (λ s. refl) (λ k. k) h)
+happens_numbering past w (Errs c) h e = (leaving_numbering past w c _ (λ s. refl) (λ k. k) h, λ k. leaving_numbering past w c _ (λ s. refl) (λ k. k) h)
+happens_numbering past w (Lost c) h e = (leaving_numbering past w c _ (λ s. refl) (λ k. k) h, λ k. leaving_numbering past w c _ (λ s. refl) (λ k. k) h)
+happens_numbering past w (Leaves c) h e = (
+  told past _ _ _ (λ s. refl) (λ k. k) (standing_kept past w c Standing.Gone w.senders h),
+  λ s. by_entry (λ v. Numbering (leave_answer w c (Some s) ∷ past) v.senders v.connections) w s (told past _ _ _ (λ n. refl) (λ k. k) h) (λ k. told past _ _ _ (λ n. refl) (λ k. k) h),
+)
+happens_numbering past w (Proposes c t memory) h e = (
+  told past _ _ _ (λ s. refl) (λ k. k) (sender_kept past w.senders w.connections (speaker_number w c) _ refl h),
+  λ fault. told past _ _ _ (λ s. refl) (λ k. k) (sender_kept past w.senders w.connections (speaker_number w c) _ refl h),
+)
+happens_numbering past w (Decides c) h e = (
+  told past _ _ _ (λ s. refl) (λ k. k) (sender_kept past w.senders w.connections (speaker_number w c) _ refl h),
+  λ k. told past _ _ _ (λ s. refl) (λ k. k) (sender_kept past w.senders w.connections (speaker_number w c) _ refl h),
+)
 happens_numbering past w (Withdraws c) h e =
-    told past _ _ (move_answer w (Withdraws c)) (λ s. refl) (λ k. k)
-    (standing_kept past w c Standing.Leaving _ (sender_kept past w.senders w.connections (speaker_number w c) _ refl h))
-happens_numbering past w (Cancels c t) h e = cancelled_numbering past w c t (find_leftover t (speaker w c).leftovers) h
-happens_numbering past w (Learns t id) h e = told past _ _ (move_answer w (Learns t id)) (λ n. refl) (λ k. k) (same_numbering past w (move_effect w (Learns t id)) (learned_same w t id (find_verdict id w.verdicts)) h)
-happens_numbering past w (Releases t) h e = released_numbering past w t (due_part (topic_at w t)) h
-happens_numbering past w (Turns t) h e = told past w.senders w.connections _ (λ s. refl) (λ k. k) h
-happens_numbering past w (Takes s) h e = handed_numbering past w s _ h
+    let g : Numbering (move_answer w (Withdraws c) ∷ past) (move_effect w (Withdraws c)).senders (move_effect w (Withdraws c)).connections =
+    told past _ _ _ (λ s. refl) (λ k. k) (standing_kept past w c Standing.Leaving _ (sender_kept past w.senders w.connections (speaker_number w c) _ refl h)) in
+    (g, λ k. g)
+happens_numbering past w (Cancels c t) h e =
+    (told past _ _ _ (λ s. refl) (λ k. k) h, λ k. told past _ _ _ (λ s. refl) (λ k. k) (sender_kept past w.senders w.connections (speaker_number w c) _ refl h))
+happens_numbering past w (Takes s) h e =
+    (leaving_numbering past w (subscription_at w s).connection _ (λ n. refl) (λ k. k) h, λ k. told past _ _ _ (λ n. refl) (λ k. k) h)
+happens_numbering past w _ h e = (told past _ _ _ (λ s. refl) (λ k. k) h, λ k. told past _ _ _ (λ s. refl) (λ k. k) h)
 
 run_numbering : (es : List Move) (past : List Answer) (w : World) → Numbering past w.senders w.connections → Numbering (answers_from es w past) (run es w).senders (run es w).connections
 run_numbering [] past w h = h
 run_numbering (e ∷ es) past w h =
     run_numbering es (answer_to w e ∷ past) (world_after w e)
     (by_refusal (λ v o. Numbering (o ∷ past) v.senders v.connections) w e (λ why. told past w.senders w.connections (Refused why) (λ s. refl) (λ k. k) h)
-    (λ n. happens_numbering past w e h n))
+    (λ n. by_found (λ v o. Numbering (o ∷ past) v.senders v.connections) w e (happens_numbering past w e h n)))
 
 -- the seq of each transaction counts its sender's, from 1
 pub seqs_count : Laws.SeqsCount

@@ -1,20 +1,20 @@
 -- Each event keeps the run beside its core, and a settled topic's log leaves no row out.
-use Rattle.std.proofs.Common.{length, ◌≡◌, ℕ, ◌<◌, ◌≤◌, Bool, true, false, ◌⊎◌, inl, inr, List, [], ◌∷◌, set, Option, Some, None, refl, sym, ap, subst, ◌∙◌, arith}
-use Rattle.delivery.proofs.Words.Std.{true≢false, false≢true}
-use Rattle.delivery.proofs.Words.Topics.{TopicPart, topics_of, CommitRow, same_id, In, names, Decision, Topic, TxnId, SentMessage, Stamp, ProposeFault, Item, TopicState, Pending, Entry, decided_stamp, new_topic, after_learn, after_cancel, due_part, after_turn}
+use Rattle.delivery.proofs.Words.Std.{◌≡◌, ℕ, ◌<◌, ◌≤◌, Bool, true, false, ◌⊎◌, inl, inr, List, [], ◌∷◌, set, Option, Some, None, refl, sym, ap, subst, ◌∙◌, arith, true≢false, false≢true}
+use Rattle.delivery.proofs.Words.Topics.{TopicPart, topics_of, CommitRow, same_id, In, names, Decision, Topic, TxnId, SentMessage, Stamp, ProposeFault, TopicState, Pending, Entry, decided_stamp, new_topic, after_learn, after_cancel, due_part, after_turn}
 use Rattle.delivery.proofs.Words.Lemmas.{id_equal, id_same, id_itself, at_set, at_set_within, Waits, others, not_true, none_some}
-use Rattle.delivery.proofs.Words.Machine.{log_row, World, Undecided, Leftover, SenderState, new_sender, topic_at, speaker, subscription_at, entry_at, start, new_topics, speaker_number, log_at, Move, Answer, world_after, answer_to, move_refusal, move_effect, move_answer, undecided_at, find_leftover, find_verdict, verdict_in, oldest_live, commit_effect, commit_answer, proposal_fault, propose_effect, propose_answer, withdraw_effect, cancel_effect, cancel_answer, learn_effect, release_answer, queue_has_room, take_effect, take_answer, leave_effect, leave_answer, close_effect, close_effect_of, connect_effect, run, answers_from, commits_of, IsSettled, AllResolved, Run, answers_of, final_world}
+use Rattle.delivery.proofs.Words.Machine.{log_row, World, Undecided, Leftover, SenderState, new_sender, topic_at, speaker, subscription_at, entry_at, start, new_topics, speaker_number, log_at, Move, Answer, world_after, answer_to, move_refusal, move_effect, move_answer, undecided_at, find_leftover, find_verdict, verdict_in, oldest_live, commit_effect, commit_answer, proposal_fault, propose_effect, propose_answer, withdraw_effect, cancel_effect, cancel_answer, learn_effect, release_answer, queue_has_room, take_answer, leave_effect, leave_answer, close_effect, close_effect_of, connect_effect, run, answers_from, commits_of, IsSettled, AllResolved, Run, answers_of, final_world}
 use Rattle.mcast_txn.proofs.Members.{at_set_same}
 use Rattle.mcast_group.specs.Machine.{turn_count}
 use Rattle.mcast_group.proofs.Turning.{turn_none}
-use Rattle.delivery.specs.Machine.Moves.Move.{AddsTopic, Opens, Connects, Commits, Subscribes, Unsubscribes, Disconnects, Errs, Lost, Leaves, Proposes, Decides, Withdraws, Cancels, Learns, Releases, Turns, Takes}
-use Rattle.delivery.specs.Machine.Moves.Answer.{Refused, Done, Opened, Leaving, Error, Gone, Failed, Decided, Learnt, Handed}
+use Rattle.delivery.specs.Machine.Moves.Move.{AddsTopic, Connects, Commits, Subscribes, Unsubscribes, Leaves, Proposes, Decides, Withdraws, Cancels, Learns, Releases, Turns, Takes}
+use Rattle.delivery.specs.Machine.Moves.Answer.{Refused, Done, Gone, Failed, Decided, Learnt, Handed}
 use Rattle.delivery.proofs.Machine.Invariant.{row, topic_in, sender_in}
 use Rattle.delivery.proofs.Machine.TopicSteps.{flies_uncommitted}
 use Rattle.delivery.proofs.Machine.ProposeStep.{within_senders}
 use Rattle.delivery.proofs.Machine.SenderSteps.{leftover_found}
 use Rattle.delivery.proofs.Machine.SubscriptionSteps.{at_push, at_added}
 use Rattle.delivery.proofs.Machine.InvariantIsKept.{Reached, tickets, by_refusal, checked, in_flight, asks_of, Asks, new_ticket, no_fault, step_reached, same_flights, one_fewer, one_same, one_kept}
+use Rattle.delivery.proofs.Machine.ByFound.{by_found}
 use Rattle.delivery.proofs.Theorem.AcceptedIsDue.{at_new, start_reached}
 use Rattle.delivery.proofs.Machine.AnswerLemmas.{In-ticket, commit_of}
 use Rattle.delivery.proofs.Machine.VerdictsFit.{fits, found_one_row, HasCommit}
@@ -39,10 +39,6 @@ quiet (Answer.Cancelled id t) q = absurd (false≢true q)
 quiet (Answer.Turned t count) q = absurd (false≢true q)
 quiet (Answer.Decided id stamp) q = record { flying = λ txn e. cc; tickets = λ past. refl; withdrawn = λ i d e. cc; cancelled = λ i t e. cc; settled = λ t past h. h.1 }
 quiet _ q = record { flying = λ txn e. cc; tickets = λ past. refl; withdrawn = λ i d e. cc; cancelled = λ i t e. cc; settled = λ t past h. h }
-
-quiet_released : (u : Topic) (o : Option Pending) → Quiet (release_answer u o)
-quiet_released u None = quiet Done refl
-quiet_released u (Some p) = quiet (release_answer u (Some p)) refl
 
 -- a quiet outcome of an event after which there is less
 fewer_quiet : (past : List Answer) (w v : World) (o : Answer) → Quiet o → Fewer w.topics w.senders v.topics v.senders → Settling past w.topics w.senders → Settling (o ∷ past) v.topics v.senders
@@ -155,10 +151,6 @@ left_settling past w c None l = note_quiet past w.topics w.senders (Gone c) (qui
 left_settling past w c (Some s) l =
     fewer_quiet past w (close_effect w s) (leave_answer w c (Some s)) (quiet (leave_answer w c (Some s)) refl) (closed_fewer w s (entry_at w s)) l
 
-handed_settling : (past : List Answer) (w : World) (s : ℕ) (o : Option Item) → Settling past w.topics w.senders → Settling (take_answer w s o ∷ past) (take_effect w s o).topics (take_effect w s o).senders
-handed_settling past w s None l = note_quiet past w.topics w.senders (take_answer w s None) (quiet (take_answer w s None) refl) l
-handed_settling past w s (Some item) l = note_quiet past w.topics w.senders (Handed s item) (quiet (Handed s item) refl) l
-
 flown_settling : (past : List Answer) (w : World) (c : ℕ) (sends : List SentMessage) → Reached past w → Settling past w.topics w.senders → Settling (commit_answer w c sends ∷ past) (commit_effect w c sends).topics (commit_effect w c sends).senders
 flown_settling past w c [] h l = note_quiet past w.topics w.senders Done (quiet Done refl) l
 flown_settling past w c (first ∷ others) h l = flying_settling past w c first others h.inv l
@@ -178,7 +170,6 @@ happens_settling past w (AddsTopic clock) h l e = fewer_quiet past w (move_effec
   flights = same_flights w.senders;
   parts = λ t. at_added (λ u z. Gone_to (topic_in w.topics u).pending z.pending) w.topics w.log_limit clock t (λ k q i. absurd i) (Gone-same (topic_in w.topics t).pending);
 }) l
-happens_settling past w Opens h l e = note_quiet past w.topics w.senders (Opened (length w.connections)) (quiet (Opened (length w.connections)) refl) l
 happens_settling past w (Connects c claimed) h l e = connected_settling past w c claimed l
 happens_settling past w (Commits c sends) h l e = flown_settling past w c sends h l
 happens_settling past w (Subscribes c t) h l e =
@@ -186,9 +177,6 @@ happens_settling past w (Subscribes c t) h l e =
     (Fewer-topic w.topics w.senders t _ (Gone-same (topic_at w t).pending)) l
 happens_settling past w (Unsubscribes c s) h l e =
     fewer_quiet past w (close_effect w s) (move_answer w (Unsubscribes c s)) (quiet (move_answer w (Unsubscribes c s)) refl) (closed_fewer w s (entry_at w s)) l
-happens_settling past w (Disconnects c) h l e = note_quiet past w.topics w.senders (Leaving c) (quiet (Leaving c) refl) l
-happens_settling past w (Errs c) h l e = note_quiet past w.topics w.senders (Error c) (quiet (Error c) refl) l
-happens_settling past w (Lost c) h l e = note_quiet past w.topics w.senders (Leaving c) (quiet (Leaving c) refl) l
 happens_settling past w (Leaves c) h l e = left_settling past w c (oldest_live c 0 w.subscriptions) l
 happens_settling past w (Proposes c t memory) h l e = proposed_settling past w c t memory h l (asks_of w c t memory e) (proposal_fault w c t memory) refl
 happens_settling past w (Decides c) h l e =
@@ -199,10 +187,13 @@ happens_settling past w (Cancels c t) h l e = cancelled_settling past w c t h l 
 happens_settling past w (Learns t id) h l e =
     fewer_quiet past w (move_effect w (Learns t id)) (Learnt id t) (quiet (Learnt id t) refl) (learned_fewer w t id (find_verdict id w.verdicts)) l
 happens_settling past w (Releases t) h l e =
-    fewer_quiet past w (move_effect w (Releases t)) (move_answer w (Releases t)) (quiet_released t (due_part (topic_at w t)))
+    fewer_quiet past w (move_effect w (Releases t)) (move_answer w (Releases t)) (elim (due_part (topic_at w t)) as (λ o. Quiet (release_answer t o)) [ None ↦ quiet Done refl | Some p ↦ quiet (release_answer t (Some p)) refl ])
     (Fewer-topic w.topics w.senders t _ (Gone-release (queue_has_room w) (topic_at w t))) l
 happens_settling past w (Turns t) h l e = turn_settling past w t h l
-happens_settling past w (Takes s) h l e = handed_settling past w s _ l
+happens_settling past w (Takes s) h l e =
+    by_found (λ v o. Settling (o ∷ past) v.topics v.senders) w (Takes s)
+    (note_quiet past w.topics w.senders (take_answer w s None) (quiet (take_answer w s None) refl) l, λ item. note_quiet past w.topics w.senders (Handed s item) (quiet (Handed s item) refl) l)
+happens_settling past w e h l n = note_quiet past w.topics w.senders (move_answer w e) (quiet (move_answer w e) refl) l
 
 -- each event keeps Settling
 pub step_settling : (past : List Answer) (w : World) (e : Move) → Reached past w → Settling past w.topics w.senders → Settling (answer_to w e ∷ past) (world_after w e).topics (world_after w e).senders

@@ -1,11 +1,9 @@
 -- A settled topic's log leaves no row out.
-use Rattle.std.proofs.Common.{◌≡◌, ℕ, ◌+◌, ◌≤◌, Bool, false, inl, inr, List, [], ◌∷◌, set, Option, Some, None, refl, sym, ap, subst, ◌∙◌, arith}
-use Rattle.delivery.proofs.Words.Std.{true≢false}
+use Rattle.delivery.proofs.Words.Std.{◌≡◌, ℕ, ◌+◌, ◌≤◌, Bool, false, inl, inr, List, [], ◌∷◌, set, Option, Some, None, refl, sym, ap, subst, ◌∙◌, arith, true≢false}
 use Rattle.delivery.proofs.Words.Topics.{TopicPart, topics_of, Transaction, CommitRow, same_id, In, names, Decision, Topic, TxnId, SentMessage, Stamp, TopicState, Pending, Entry, with_stamp, after_learn, after_cancel, after_release, after_turn, decided_stamp}
 use Rattle.delivery.proofs.Words.Lemmas.{id_equal, In-insert_cases, In-map_cases, at_set, Waits, others, not_true, some_same, release_keeps, turn_keeps}
-use Rattle.delivery.proofs.Words.Machine.{World, Undecided, SenderState, new_sender, speaker, speaker_number, Answer, next_txn, commit_effect, txn_of_id, AllResolved, IsSettled}
+use Rattle.delivery.proofs.Words.Machine.{World, Undecided, SenderState, new_sender, speaker, speaker_number, Answer, next_txn, commit_effect, txn_of_id, AllResolved, IsSettled, Begun, Ticket, Withdrawn, Cancelled, Turned}
 use Rattle.mcast_group.proofs.Parts.{told_how}
-use Rattle.delivery.specs.Machine.Moves.Answer.{Begun, Ticket, Withdrawn, Cancelled, Turned}
 use Rattle.delivery.proofs.Machine.Invariant.{row, topic_in, sender_in, Holds}
 use Rattle.delivery.proofs.Machine.TopicSteps.{at_topic_from}
 use Rattle.delivery.proofs.Machine.ProposeStep.{New, heard, cons_one, topic_after, sender_after, flight_after}

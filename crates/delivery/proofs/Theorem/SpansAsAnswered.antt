@@ -1,11 +1,8 @@
 -- What a run's outcomes tell of its spans, and the bound of its queues.
-use Rattle.std.proofs.Common.{◌≡◌, ℕ, ◌+◌, ◌<◌, ◌≤◌, ◌==◌, true, false, not, inl, inr, List, [], ◌∷◌, length, Option, Some, None, refl, sym, ap, subst, ◌∙◌, arith, ltb}
-use Rattle.delivery.proofs.Words.Std.{is_some, ltb-true, and_parts, not-false, not-true, cases_lt, length_push}
+use Rattle.delivery.proofs.Words.Std.{◌≡◌, ℕ, ◌+◌, ◌<◌, ◌≤◌, ◌==◌, true, false, not, inl, inr, List, [], ◌∷◌, length, Option, Some, None, refl, sym, ap, subst, ◌∙◌, arith, ltb, is_some, ltb-true, and_parts, not-false, not-true, cases_lt, length_push}
 use Rattle.delivery.proofs.Words.Topics.{zero_stamp, Topic, SentMessage, Stamp, In, ProposeFault, Item, Pending, Entry, due_part, end_of}
 use Rattle.delivery.proofs.Words.Lemmas.{at_set_within, none_some}
-use Rattle.delivery.proofs.Words.Machine.{World, Leftover, Subscription, no_subscription, topic_at, speaker, subscription_at, entry_at, start, accepted_at, end_at, Move, Answer, world_after, answer_to, move_refusal, move_effect, move_answer, is_live, find_leftover, oldest_live, commit_answer, proposal_fault, propose_answer, cancel_answer, release_answer, take_answer, leave_effect, leave_answer, close_effect, close_effect_of, end_now, run, answers_from, Run, answers_of, final_world}
-use Rattle.delivery.specs.Machine.Moves.Move.{Commits, Subscribes, Unsubscribes, Leaves, Proposes, Cancels, Releases, Takes}
-use Rattle.delivery.specs.Machine.Moves.Answer.{Subscribed, Unsubscribed}
+use Rattle.delivery.proofs.Words.Machine.{World, Leftover, Subscription, no_subscription, topic_at, speaker, subscription_at, entry_at, start, accepted_at, end_at, Move, Answer, world_after, answer_to, move_refusal, move_effect, move_answer, is_live, find_leftover, oldest_live, commit_answer, proposal_fault, propose_answer, cancel_answer, release_answer, take_answer, leave_effect, leave_answer, close_effect, close_effect_of, end_now, run, answers_from, Run, answers_of, final_world, Commits, Subscribes, Unsubscribes, Leaves, Proposes, Cancels, Releases, Takes, Subscribed, Unsubscribed}
 use Rattle.delivery.specs.Theorem.Reported
 use Rattle.delivery.proofs.Machine.Invariant.{topic_in}
 use Rattle.delivery.proofs.Machine.SubscriptionSteps.{beyond, at_push_two, finds_entry, new_subscription}

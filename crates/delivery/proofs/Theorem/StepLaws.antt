@@ -1,11 +1,9 @@
 -- What holds of each step.
-use Rattle.delivery.proofs.Words.Std.{option_or, option_map, is_some, true≢false, not-false}
+use Rattle.delivery.proofs.Words.Std.{◌≡◌, ◌≢◌, ℕ, ◌+◌, ◌<◌, ◌==◌, max, Bool, true, false, cond, ◌⊎◌, inl, inr, List, [], ◌∷◌, ◌++◌, map, length, set, Option, Some, None, refl, sym, ap, subst, ◌∙◌, ltb, option_or, option_map, is_some, true≢false, not, not-true, not-false, and_parts, list_all}
 use Rattle.delivery.proofs.Words.Topics.{topics_of, In, names, Decision, Topic, TxnId, SentMessage, Stamp, ProposeFault, LearnFault, CancelFault, first_refusal, Item, TopicState, Pending, Entry, new_topic, find_entry, find_pending, cancel_fault_of, learn_fault, entry_after, due_part, after_release, item_of}
 use Rattle.delivery.proofs.Words.Lemmas.{same_topics, at_set, at_set_within, found_part, some_same, none_some, after_release_if, delivered_number}
-use Rattle.delivery.proofs.Words.Machine.{Objection, World, Leftover, topic_at, speaker, subscription_at, entry_at, start, speaker_number, Move, Answer, world_after, answer_to, move_refusal, move_refusals, topic_objection, move_effect, move_answer, undecided_at, find_leftover, find_verdict, oldest_live, commit_effect, commit_answer, proposal_fault, propose_effect, propose_answer, cancel_effect, cancel_objection, cancel_objection_of, cancel_answer, learn_effect, learn_objection, learn_objection_of, release_answer, queue_has_room, take_effect, take_answer, leave_effect, leave_answer, close_effect_of, answers_from, answers_of, final_world, move_topic, is_odd}
-use Rattle.std.proofs.Common.{◌≡◌, ◌≢◌, ℕ, ◌+◌, ◌<◌, ◌==◌, max, Bool, true, false, cond, ◌⊎◌, inl, inr, List, [], ◌∷◌, ◌++◌, map, length, set, Option, Some, None, refl, sym, ap, subst, ◌∙◌, ltb}
-use Rattle.delivery.specs.Machine.Moves.Move.{AddsTopic, Opens, Connects, Commits, Subscribes, Unsubscribes, Leaves, Proposes, Decides, Withdraws, Cancels, Learns, Releases, Turns, Takes}
-use Rattle.delivery.specs.Machine.Moves.Answer.{Refused, Ticket}
+use Rattle.delivery.proofs.Words.Machine.{Objection, World, Leftover, topic_at, speaker, subscription_at, entry_at, start, speaker_number, Move, Answer, world_after, answer_to, move_refusal, move_refusals, topic_objection, move_effect, move_answer, undecided_at, find_leftover, find_verdict, oldest_live, commit_effect, commit_answer, proposal_fault, propose_effect, propose_answer, cancel_effect, cancel_objection, cancel_objection_of, cancel_answer, learn_effect, learn_objection, learn_objection_of, release_answer, queue_has_room, take_effect, take_answer, leave_effect, leave_answer, close_effect_of, answers_from, answers_of, final_world, move_topic, is_odd, Refused, Ticket}
+use Rattle.delivery.specs.Machine.Moves.Move.{AddsTopic, Connects, Commits, Subscribes, Unsubscribes, Leaves, Proposes, Cancels, Learns, Releases, Turns, Takes}
 use Rattle.delivery.specs.Theorem.Laws
 use Rattle.delivery.specs.Theorem.Laws.{live_topic, IsGiven}
 use Rattle.delivery.proofs.Machine.Effects.{made_world}
@@ -63,10 +61,6 @@ untouched : (topics : List TopicState) (t u : Topic) (y : TopicState) → (Some 
 untouched topics t u y ne =
     at_set (λ z. z ≡ topic_in topics u) topics t.0 u.0 y (new_topic u 0 0) (λ e. absurd (ne (ap Some (sym (same_topics u t e))))) refl
 
-flown_topics : (w : World) (c : ℕ) (sends : List SentMessage) → (commit_effect w c sends).topics ≡ w.topics
-flown_topics w c [] = refl
-flown_topics w c (first ∷ others) = refl
-
 closed_untouched : (w : World) (s : ℕ) (u : Topic) (o : Option Entry) → (Some (subscription_at w s).topic ≡ Some u → Prim.⊥) → topic_at (close_effect_of w s o) u ≡ topic_at w u
 closed_untouched w s u None ne = refl
 closed_untouched w s u (Some e) ne = untouched w.topics (subscription_at w s).topic u _ ne
@@ -75,31 +69,19 @@ left_untouched : (w : World) (c : ℕ) (u : Topic) (o : Option ℕ) → (live_to
 left_untouched w c u None ne = refl
 left_untouched w c u (Some s) ne = closed_untouched w s u (entry_at w s) ne
 
-proposed_untouched : (w : World) (c : ℕ) (t u : Topic) (o : Option ProposeFault) → (Some t ≡ Some u → Prim.⊥) → topic_at (propose_effect w c t o) u ≡ topic_at w u
-proposed_untouched w c t u None ne = untouched w.topics t u _ ne
-proposed_untouched w c t u (Some fault) ne = refl
-
-cancelled_untouched : (w : World) (c : ℕ) (t u : Topic) (o : Option Leftover) → (Some t ≡ Some u → Prim.⊥) → topic_at (cancel_effect w c t o) u ≡ topic_at w u
-cancelled_untouched w c t u None ne = refl
-cancelled_untouched w c t u (Some k) ne = untouched w.topics t u _ ne
-
-learned_untouched : (w : World) (t u : Topic) (id : TxnId) (o : Option Decision) → (Some t ≡ Some u → Prim.⊥) → topic_at (learn_effect w t id o) u ≡ topic_at w u
-learned_untouched w t u id None ne = refl
-learned_untouched w t u id (Some v) ne = untouched w.topics t u _ ne
-
 handed_topics : (w : World) (s : ℕ) (o : Option Item) → (take_effect w s o).topics ≡ w.topics
 handed_topics w s None = refl
 handed_topics w s (Some item) = refl
 
 effect_untouched : (w : World) (e : Move) (u : Topic) → u.0 < length w.topics → move_topic w e ≢ Some u → topic_at (move_effect w e) u ≡ topic_at w u
 effect_untouched w (AddsTopic clock) u l ne = at_old (λ z. z ≡ topic_at w u) w.topics u.0 _ (new_topic u 0 0) l refl
-effect_untouched w (Commits c sends) u l ne = ap (λ z. topic_in z u) (flown_topics w c sends)
+effect_untouched w (Commits c sends) u l ne = ap (λ z. topic_in z u) (elim sends as (λ sends. (commit_effect w c sends).topics ≡ w.topics) [ [] ↦ refl | first ∷ others ↦ refl ])
 effect_untouched w (Subscribes c t) u l ne = untouched w.topics t u _ ne
 effect_untouched w (Unsubscribes c s) u l ne = closed_untouched w s u (entry_at w s) ne
 effect_untouched w (Leaves c) u l ne = left_untouched w c u (oldest_live c 0 w.subscriptions) ne
-effect_untouched w (Proposes c t memory) u l ne = proposed_untouched w c t u (proposal_fault w c t memory) ne
-effect_untouched w (Cancels c t) u l ne = cancelled_untouched w c t u (find_leftover t (speaker w c).leftovers) ne
-effect_untouched w (Learns t id) u l ne = learned_untouched w t u id (find_verdict id w.verdicts) ne
+effect_untouched w (Proposes c t memory) u l ne = elim (proposal_fault w c t memory) as (λ o. topic_at (propose_effect w c t o) u ≡ topic_at w u) [ None ↦ untouched w.topics t u _ ne | Some fault ↦ refl ]
+effect_untouched w (Cancels c t) u l ne = elim (find_leftover t (speaker w c).leftovers) as (λ o. topic_at (cancel_effect w c t o) u ≡ topic_at w u) [ None ↦ refl | Some k ↦ untouched w.topics t u _ ne ]
+effect_untouched w (Learns t id) u l ne = elim (find_verdict id w.verdicts) as (λ o. topic_at (learn_effect w t id o) u ≡ topic_at w u) [ None ↦ refl | Some v ↦ untouched w.topics t u _ ne ]
 effect_untouched w (Releases t) u l ne = untouched w.topics t u _ ne
 effect_untouched w (Turns t) u l ne = untouched w.topics t u _ ne
 effect_untouched w (Takes s) u l ne = ap (λ z. topic_in z u) (handed_topics w s _)
@@ -160,34 +142,23 @@ ticket_is_own w e id ticket =
 
 -- ---- what never comes
 
-abbrev AllUsual : List (Bool × Objection) → Type 0
-AllUsual [] = Unit {0}
-AllUsual (c ∷ cs) = (is_odd c.1 ≡ false) × AllUsual cs
+abbrev are_usual : List (Bool × Objection) → Bool
+are_usual cs = list_all (λ (c : Bool × Objection). not (is_odd c.1)) cs
 
 usual_case : (b : Bool) (f why : Objection) (rest : Option Objection) → is_odd f ≡ false → (rest ≡ Some why → is_odd why ≡ false) → cond b (Some f) rest ≡ Some why → is_odd why ≡ false
 usual_case true f why rest h ih e = subst (λ z. is_odd z ≡ false) (some_same f why e) h
 usual_case false f why rest h ih e = ih e
 
-usual_first : (cs : List (Bool × Objection)) (why : Objection) → AllUsual cs → first_refusal cs ≡ Some why → is_odd why ≡ false
+usual_first : (cs : List (Bool × Objection)) (why : Objection) → are_usual cs ≡ true → first_refusal cs ≡ Some why → is_odd why ≡ false
 usual_first [] why h e = none_some why e
-usual_first (c ∷ cs) why h e = usual_case c.0 c.1 why (first_refusal cs) h.0 (λ k. usual_first cs why h.1 k) e
+usual_first (c ∷ cs) why h e =
+    let both = and_parts (not (is_odd c.1)) (are_usual cs) h in
+    usual_case c.0 c.1 why (first_refusal cs) (not-true (is_odd c.1) both.0) (λ k. usual_first cs why both.1 k) e
 
-usual_checks : (w : World) (e : Move) → AllUsual (move_refusals w e)
-usual_checks w (AddsTopic clock) = tt
-usual_checks w Opens = tt
-usual_checks w (Connects c None) = (refl, (refl, (refl, (refl, tt))))
-usual_checks w (Connects c (Some s)) = (refl, (refl, (refl, (refl, (refl, (refl, tt))))))
-usual_checks w (Commits c sends) = (refl, (refl, (refl, (refl, (refl, (refl, tt))))))
-usual_checks w (Subscribes c t) = (refl, (refl, (refl, (refl, tt))))
-usual_checks w (Unsubscribes c s) = (refl, (refl, (refl, (refl, tt))))
-usual_checks w (Leaves c) = (refl, (refl, (refl, (refl, tt))))
-usual_checks w (Proposes c t memory) = (refl, (refl, (refl, (refl, (refl, (refl, tt))))))
-usual_checks w (Decides c) = (refl, (refl, (refl, (refl, (refl, tt)))))
-usual_checks w (Withdraws c) = (refl, (refl, (refl, (refl, tt))))
-usual_checks w (Learns t id) = (refl, tt)
-usual_checks w (Releases t) = (refl, (refl, tt))
-usual_checks w (Turns t) = (refl, tt)
-usual_checks w _ = (refl, (refl, (refl, tt)))
+usual_checks : (w : World) (e : Move) → are_usual (move_refusals w e) ≡ true
+usual_checks w (Connects c None) = refl
+usual_checks w (Connects c (Some s)) = refl
+usual_checks w _ = refl
 
 usual_learn : (why : Objection) (o : Option LearnFault) → (o ≡ None) ⊎ (o ≡ Some LearnFault.NotPending) → option_map learn_objection_of o ≡ Some why → is_odd why ≡ false
 usual_learn why o (inl n) e = none_some why (sym (ap (option_map learn_objection_of) n) ∙ e)

@@ -1,16 +1,16 @@
 -- Where each ticket is: its transaction is undecided, or committed, or it is left over from a withdrawal, or was cancelled.
-use Rattle.std.proofs.Common.{◌≡◌, ◌≢◌, ℕ, ◌+◌, ◌<◌, ◌==◌, Bool, true, false, cond, ◌⊎◌, inl, inr, List, [], ◌∷◌, ◌++◌, length, map, set, Option, Some, None, refl, sym, ap, subst, ◌∙◌, arith}
-use Rattle.delivery.proofs.Words.Std.{is_some, true≢false, cases_order, or_parts, not-false}
-use Rattle.delivery.proofs.Words.Topics.{greatest, topics_of, Transaction, CommitRow, In, names, Topic, SentMessage, Stamp, ProposeFault, Item, Pending, Entry, due_part}
+use Rattle.delivery.proofs.Words.Std.{◌≡◌, ◌≢◌, ℕ, ◌+◌, ◌<◌, ◌==◌, Bool, true, false, cond, ◌⊎◌, inl, inr, List, [], ◌∷◌, ◌++◌, length, map, set, Option, Some, None, refl, sym, ap, subst, ◌∙◌, arith, is_some, true≢false, cases_order, or_parts, not-false}
+use Rattle.delivery.proofs.Words.Topics.{greatest, topics_of, Transaction, CommitRow, In, names, Topic, SentMessage, Stamp, ProposeFault}
 use Rattle.delivery.proofs.Words.Lemmas.{In-push, In-append_left, In-append_right, In-map, at_set, at_set_within, push_one, some_same}
-use Rattle.delivery.proofs.Words.Machine.{World, Undecided, Leftover, SenderState, new_sender, speaker, entry_at, topic_at, start, speaker_number, Move, Answer, world_after, answer_to, move_refusal, move_effect, move_answer, undecided_at, find_leftover, drop_leftover, leftover, find_verdict, oldest_live, insert_ticket, next_txn, next_ticket, commit_effect, commit_answer, proposal_fault, propose_effect, propose_answer, decide_effect, withdraw_effect, cancel_effect, cancel_answer, release_answer, take_effect, take_answer, leave_effect, leave_answer, close_effect_of, connect_effect, txn_of_id, run, answers_from, Run, answers_of, final_world}
-use Rattle.delivery.specs.Machine.Moves.Move.{Connects, Commits, Unsubscribes, Leaves, Proposes, Decides, Withdraws, Cancels, Learns, Releases, Takes}
+use Rattle.delivery.proofs.Words.Machine.{World, Undecided, Leftover, SenderState, new_sender, speaker, start, speaker_number, Move, Answer, world_after, answer_to, move_refusal, move_effect, move_answer, undecided_at, find_leftover, drop_leftover, leftover, insert_ticket, next_txn, next_ticket, commit_effect, commit_answer, proposal_fault, propose_effect, propose_answer, decide_effect, withdraw_effect, cancel_effect, cancel_answer, leave_answer, connect_effect, txn_of_id, run, answers_from, Run, answers_of, final_world}
+use Rattle.delivery.specs.Machine.Moves.Move.{Connects, Commits, Leaves, Proposes, Decides, Withdraws, Cancels}
 use Rattle.delivery.specs.Machine.Moves.Answer.{Refused, Done, Begun, Ticket, Failed, Decided, Withdrawn, Cancelled}
 use Rattle.delivery.proofs.Machine.Invariant.{row, sender_in}
 use Rattle.delivery.proofs.Machine.ProposeStep.{within_senders, cons_one, cons_two, not_given}
 use Rattle.delivery.proofs.Machine.SenderSteps.{TicketOf, complete_at, leftover_found}
 use Rattle.delivery.proofs.Machine.SubscriptionSteps.{at_push}
-use Rattle.delivery.proofs.Machine.InvariantIsKept.{Reached, tickets, by_refusal, checked, in_flight, Asks, asks_of, step_reached, learned_same}
+use Rattle.delivery.proofs.Machine.InvariantIsKept.{Reached, tickets, by_refusal, checked, in_flight, Asks, asks_of, step_reached}
+use Rattle.delivery.proofs.Machine.ByFound.{by_found, by_entry}
 use Rattle.delivery.proofs.Theorem.AcceptedIsDue.{start_reached}
 
 -- ---- where a ticket is
@@ -235,26 +235,10 @@ cancelled_accounted past w c t (Some m) e h =
 
 -- ---- each event
 
-closed_senders : (w : World) (s : ℕ) (o : Option Entry) → ((close_effect_of w s o).senders ≡ w.senders) × ((close_effect_of w s o).commits ≡ w.commits)
-closed_senders w s None = (refl, refl)
-closed_senders w s (Some e) = (refl, refl)
-
 -- an event that changes no sender and decides nothing
 same_accounted : (past : List Answer) (o : Answer) (w v : World) → tickets (o ∷ past) ≡ tickets past → (v.senders ≡ w.senders) × (v.commits ≡ w.commits) → Accounted past w.senders w.commits → Accounted (o ∷ past) v.senders v.commits
 same_accounted past o w v e same h =
     subst (λ z. Accounted (o ∷ past) z v.commits) (sym same.0) (subst (λ z. Accounted (o ∷ past) w.senders z) (sym same.1) (note past o w.senders w.commits e h))
-
-left_accounted : (past : List Answer) (w : World) (c : ℕ) (o : Option ℕ) → Accounted past w.senders w.commits → Accounted (leave_answer w c o ∷ past) (leave_effect w c o).senders (leave_effect w c o).commits
-left_accounted past w c None h = note past _ w.senders w.commits refl h
-left_accounted past w c (Some s) h = same_accounted past _ w (leave_effect w c (Some s)) refl (closed_senders w s (entry_at w s)) h
-
-released_accounted : (past : List Answer) (w : World) (t : Topic) (o : Option Pending) → Accounted past w.senders w.commits → Accounted (release_answer t o ∷ past) w.senders w.commits
-released_accounted past w t None h = note past _ w.senders w.commits refl h
-released_accounted past w t (Some p) h = note past _ w.senders w.commits refl h
-
-handed_accounted : (past : List Answer) (w : World) (s : ℕ) (o : Option Item) → Accounted past w.senders w.commits → Accounted (take_answer w s o ∷ past) (take_effect w s o).senders (take_effect w s o).commits
-handed_accounted past w s None h = note past _ w.senders w.commits refl h
-handed_accounted past w s (Some item) h = note past _ w.senders w.commits refl h
 
 -- a new sender has nothing
 opened_accounted : (past : List Answer) (o : Answer) (senders : List SenderState) (commits : List CommitRow) → tickets (o ∷ past) ≡ tickets past → Accounted past senders commits → Accounted (o ∷ past) (senders ++ new_sender ∷ []) commits
@@ -281,16 +265,18 @@ connected_accounted past w c (Some s) h = note past Done w.senders w.commits ref
 happens_accounted : (past : List Answer) (w : World) (e : Move) → Reached past w → Accounted past w.senders w.commits → move_refusal w e ≡ None → Accounted (move_answer w e ∷ past) (move_effect w e).senders (move_effect w e).commits
 happens_accounted past w (Connects c claimed) r h n = connected_accounted past w c claimed h
 happens_accounted past w (Commits c sends) r h n = flown_accounted past w c sends (or_parts _ (is_some (speaker w c).flight) (checked w (Commits c sends) n).1.1.0).1 h
-happens_accounted past w (Unsubscribes c s) r h n = same_accounted past _ w (move_effect w (Unsubscribes c s)) refl (closed_senders w s (entry_at w s)) h
-happens_accounted past w (Leaves c) r h n = left_accounted past w c (oldest_live c 0 w.subscriptions) h
+happens_accounted past w (Leaves c) r h n =
+    by_found (λ v o. Accounted (o ∷ past) v.senders v.commits) w (Leaves c) (
+      note past _ w.senders w.commits refl h,
+      λ s. by_entry (λ v. Accounted (leave_answer w c (Some s) ∷ past) v.senders v.commits) w s (note past _ w.senders w.commits refl h) (λ k. note past _ w.senders w.commits refl h),
+    )
 happens_accounted past w (Proposes c t memory) r h n = proposed_accounted past w c t (proposal_fault w c t memory) r (asks_of w c t memory n) h
 happens_accounted past w (Decides c) r h n = decided_accounted past w c r n h
 happens_accounted past w (Withdraws c) r h n = withdrawn_accounted past w c r n h
 happens_accounted past w (Cancels c t) r h n = cancelled_accounted past w c t (find_leftover t (speaker w c).leftovers) refl h
-happens_accounted past w (Learns t id) r h n = same_accounted past _ w (move_effect w (Learns t id)) refl (learned_same w t id (find_verdict id w.verdicts)) h
-happens_accounted past w (Releases t) r h n = released_accounted past w t (due_part (topic_at w t)) h
-happens_accounted past w (Takes s) r h n = handed_accounted past w s _ h
-happens_accounted past w _ r h n = note past _ w.senders w.commits refl h
+happens_accounted past w e r h n =
+    let same = by_found (λ v o. (v.senders ≡ w.senders) × (v.commits ≡ w.commits) × (tickets (o ∷ past) ≡ tickets past)) w e ((refl, refl, refl), λ k. (refl, refl, refl)) in
+    same_accounted past (move_answer w e) w (move_effect w e) same.2 (same.0, same.1) h
 
 step_accounted : (past : List Answer) (w : World) (e : Move) → Reached past w → Accounted past w.senders w.commits → Accounted (answer_to w e ∷ past) (world_after w e).senders (world_after w e).commits
 step_accounted past w e r h =

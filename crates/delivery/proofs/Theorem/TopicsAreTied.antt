@@ -1,10 +1,8 @@
 -- Each topic of a run is tied to the tickets that it gave, and each sender's floor to the commit list.
-use Rattle.std.proofs.Common.{◌≡◌, ℕ, true, false, ◌⊎◌, inl, inr, List, [], ◌∷◌, refl, sym, ap, subst, ◌∙◌}
-use Rattle.delivery.proofs.Words.Std.{true≢false}
+use Rattle.delivery.proofs.Words.Std.{◌≡◌, ℕ, true, false, ◌⊎◌, inl, inr, List, [], ◌∷◌, refl, sym, ap, subst, ◌∙◌, true≢false}
 use Rattle.delivery.proofs.Words.Topics.{zero_stamp, stamp_lt, TopicPart, topics_of, part_at, Transaction, CommitRow, In, names, Topic, TxnId, Stamp, LogRow, Pending, key}
 use Rattle.delivery.proofs.Words.Lemmas.{id_same, id_itself, le_lt, In-push_cases, not_head, Waits}
-use Rattle.delivery.proofs.Words.Machine.{log_row, topic_at, sender_at, Answer, txn_of_id, commits_of, Run, answers_of, final_world}
-use Rattle.delivery.specs.Machine.Moves.Answer.{Ticket, Decided, Cancelled}
+use Rattle.delivery.proofs.Words.Machine.{log_row, topic_at, sender_at, Answer, txn_of_id, commits_of, Run, answers_of, final_world, Ticket, Decided, Cancelled}
 use Rattle.delivery.specs.Theorem.Tied
 use Rattle.delivery.specs.Theorem.Tied.{IsWaiting, IsAccountedFor, HasTicket}
 use Rattle.delivery.proofs.Machine.Invariant.{row}

@@ -1,12 +1,9 @@
 -- A turn is its learns and its releases, one by one, and what its topic's log gets of it.
-use Rattle.delivery.proofs.Words.Std.{option_or, option_map, is_some, lt-ltb, le-ltb, ltb-true, not-false, cases_lt, length-set, get_or_past, get_or-set_same, set-get_or, set-set}
+use Rattle.delivery.proofs.Words.Std.{◌≡◌, ℕ, zero, suc, ◌-◌, ◌<◌, Bool, true, not, inl, inr, List, [], ◌∷◌, ◌++◌, map, length, set, Option, Some, None, refl, sym, ap, ◌∙◌, arith, append_assoc, option_or, option_map, is_some, lt-ltb, le-ltb, ltb-true, not-false, cases_lt, length-set, get_or_past, get_or-set_same, set-get_or, set-set}
 use Rattle.delivery.proofs.Words.Topics.{Decision, Topic, TxnId, LearnFault, first_refusal, LogRow, TopicState, Pending, Entry, row_of, new_topic, learn_fault, after_learn, with_stamp, after_try, after_tries, due_part, after_release, after_releases, after_turn, decided_stamp}
 use Rattle.delivery.proofs.Words.Lemmas.{map_length, after_release_if}
-use Rattle.delivery.proofs.Words.Machine.{Objection, World, topic_at, with_topic, log_at, Move, world_after, move_effect, is_topic, learn_objection_of, learn_objection, learn_effect, verdict_in, queue_has_room, move_answer, release_answer, run}
-use Rattle.std.proofs.Common.{◌≡◌, ℕ, zero, suc, ◌-◌, ◌<◌, Bool, true, not, inl, inr, List, [], ◌∷◌, ◌++◌, map, length, set, Option, Some, None, refl, sym, ap, ◌∙◌, arith, append_assoc}
+use Rattle.delivery.proofs.Words.Machine.{Objection, World, topic_at, with_topic, log_at, Move, world_after, move_effect, is_topic, learn_objection_of, learn_objection, learn_effect, verdict_in, queue_has_room, move_answer, release_answer, run, Learns, Releases, Turns, Released, Turned}
 use Rattle.mcast_group.proofs.Learning.{tried_all_held}
-use Rattle.delivery.specs.Machine.Moves.Move.{Learns, Releases, Turns}
-use Rattle.delivery.specs.Machine.Moves.Answer.{Released, Turned}
 use Rattle.delivery.specs.Theorem.Laws
 use Rattle.delivery.proofs.Machine.InvariantIsKept.{by_refusal, checked}
 use Rattle.delivery.proofs.Core.ByRun.{run_append}

@@ -1,15 +1,13 @@
 -- No transaction is both withdrawn and decided.
-use Rattle.std.proofs.Common.{◌≡◌, ℕ, inl, inr, List, [], ◌∷◌, Option, Some, None, sym, ap, subst, ◌∙◌}
-use Rattle.delivery.proofs.Words.Std.{true≢false}
-use Rattle.delivery.proofs.Words.Topics.{In, Topic, TxnId, SentMessage, Stamp, ProposeFault, Item, Pending, due_part}
+use Rattle.delivery.proofs.Words.Std.{◌≡◌, ℕ, inl, inr, List, [], ◌∷◌, Some, None, sym, ap, subst, ◌∙◌, false, not, is_some, true≢false}
+use Rattle.delivery.proofs.Words.Topics.{In, TxnId, Stamp}
 use Rattle.delivery.proofs.Words.Lemmas.{id_same}
-use Rattle.delivery.proofs.Words.Machine.{World, Undecided, Leftover, topic_at, speaker, start, speaker_number, Move, Answer, world_after, answer_to, move_refusal, move_answer, find_leftover, oldest_live, commit_answer, proposal_fault, propose_answer, cancel_answer, release_answer, take_answer, leave_answer, answers_from}
-use Rattle.delivery.specs.Machine.Moves.Move.{Commits, Leaves, Proposes, Decides, Withdraws, Cancels, Releases, Takes}
-use Rattle.delivery.specs.Machine.Moves.Answer.{Decided, Withdrawn}
+use Rattle.delivery.proofs.Words.Machine.{undecided_at, World, Undecided, speaker, start, speaker_number, Move, Answer, world_after, answer_to, move_refusal, answers_from, Decides, Withdraws, Decided, Withdrawn}
 use Rattle.delivery.specs.Theorem.Laws
 use Rattle.delivery.proofs.Machine.Invariant.{sender_in}
 use Rattle.delivery.proofs.Machine.TopicSteps.{flies_uncommitted}
 use Rattle.delivery.proofs.Machine.InvariantIsKept.{Reached, tickets, by_refusal, checked, in_flight, step_reached}
+use Rattle.delivery.proofs.Machine.ByFound.{InEachCase, by_found}
 use Rattle.delivery.proofs.Theorem.AcceptedIsDue.{start_reached}
 use Rattle.delivery.proofs.Theorem.SettledSteps.{Settling}
 use Rattle.delivery.proofs.Theorem.SettledLeavesNoneOut.{committed_of, step_settling, start_settling}
@@ -27,47 +25,17 @@ Ends w (Decided id stamp) = IsFlying w id
 Ends w (Withdrawn id c) = IsFlying w id
 Ends w o = Unit {0}
 
-flying_ends : (w : World) (c : ℕ) (sends : List SentMessage) → Ends w (commit_answer w c sends)
-flying_ends w c [] = tt
-flying_ends w c (first ∷ others) = tt
+flies : (w : World) (c : ℕ) → not (is_some (speaker w c).flight) ≡ false → IsFlying w (undecided_at w c).txn.id
+flies w c there =
+    let f = in_flight w c there in record { sender = speaker_number w c; flight = f.flight; is = f.is; own = ap (λ (z : Undecided). z.txn.id) (sym f.at) }
 
-propose_ends : (w : World) (c : ℕ) (t : Topic) (o : Option ProposeFault) → Ends w (propose_answer w c t o)
-propose_ends w c t None = tt
-propose_ends w c t (Some fault) = tt
-
-cancel_ends : (w : World) (t : Topic) (o : Option Leftover) → Ends w (cancel_answer t o)
-cancel_ends w t None = tt
-cancel_ends w t (Some k) = tt
-
-leave_ends : (w : World) (c : ℕ) (o : Option ℕ) → Ends w (leave_answer w c o)
-leave_ends w c None = tt
-leave_ends w c (Some s) = tt
-
-release_ends : (w : World) (t : Topic) (o : Option Pending) → Ends w (release_answer t o)
-release_ends w t None = tt
-release_ends w t (Some p) = tt
-
-take_ends : (w : World) (s : ℕ) (o : Option Item) → Ends w (take_answer w s o)
-take_ends w s None = tt
-take_ends w s (Some item) = tt
-
-answer_ends : (w : World) (e : Move) → move_refusal w e ≡ None → Ends w (move_answer w e)
-answer_ends w (Commits c sends) n = flying_ends w c sends
-answer_ends w (Leaves c) n = leave_ends w c (oldest_live c 0 w.subscriptions)
-answer_ends w (Proposes c t memory) n = propose_ends w c t (proposal_fault w c t memory)
-answer_ends w (Decides c) n =
-    let f = in_flight w c (checked w (Decides c) n).1.1.0 in
-    record { sender = speaker_number w c; flight = f.flight; is = f.is; own = ap (λ (z : Undecided). z.txn.id) (sym f.at) }
-answer_ends w (Withdraws c) n =
-    let f = in_flight w c (checked w (Withdraws c) n).1.1.0 in
-    record { sender = speaker_number w c; flight = f.flight; is = f.is; own = ap (λ (z : Undecided). z.txn.id) (sym f.at) }
-answer_ends w (Cancels c t) n = cancel_ends w t (find_leftover t (speaker w c).leftovers)
-answer_ends w (Releases t) n = release_ends w t (due_part (topic_at w t))
-answer_ends w (Takes s) n = take_ends w s _
-answer_ends w _ n = tt
+answer_ends : (w : World) (e : Move) → move_refusal w e ≡ None → InEachCase (λ v o. Ends w o) w e
+answer_ends w (Decides c) n = let f = flies w c (checked w (Decides c) n).1.1.0 in (f, λ k. f)
+answer_ends w (Withdraws c) n = let f = flies w c (checked w (Withdraws c) n).1.1.0 in (f, λ k. f)
+answer_ends w _ n = (tt, λ k. tt)
 
 outcome_ends : (w : World) (e : Move) → Ends w (answer_to w e)
-outcome_ends w e = by_refusal (λ v o. Ends w o) w e (λ why. tt) (λ n. answer_ends w e n)
+outcome_ends w e = by_refusal (λ v o. Ends w o) w e (λ why. tt) (λ n. by_found (λ v o. Ends w o) w e (answer_ends w e n))
 
 -- what was decided or withdrawn before isn't in flight
 not_decided : (past : List Answer) (w : World) (id : TxnId) (stamp : Stamp) → Reached past w → IsFlying w id → In (Decided id stamp) past → Prim.⊥

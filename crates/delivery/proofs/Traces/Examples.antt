@@ -1,6 +1,5 @@
 -- Worked traces: of transactions that cross at two topics, and of one that crosses another beside a subscription.
-use Rattle.std.proofs.Common.{inl, inr, refl, arith}
-use Rattle.delivery.proofs.Words.Std.{◌≡◌, ℕ, zero, suc, ◌<◌, true, List, [], ◌∷◌, codes, None}
+use Rattle.delivery.proofs.Words.Std.{inl, inr, refl, arith, ◌≡◌, ℕ, zero, suc, ◌<◌, true, List, [], ◌∷◌, codes, None}
 use Rattle.delivery.proofs.Words.Topics.{Topic, Transaction, In, LogRow, IsExplainedBy, TopicRow, TraceData}
 use Rattle.delivery.proofs.Words.Machine.{IsSettled, IsResolved, Answer}
 use Rattle.delivery.proofs.Words.Core.{Event, account_of, Core, report_of, trace_of, AllSettled}

@@ -1,11 +1,9 @@
 -- What is delivered explains its trace.
-use Rattle.std.proofs.Common.{◌≡◌, ◌≢◌, ℕ, ◌<◌, ◌&&◌, Bool, true, false, not, ◌⊎◌, inl, inr, List, [], ◌∷◌, map, take, length, Option, Some, refl, sym, ap, subst, ◌∙◌}
-use Rattle.delivery.proofs.Words.Std.{list_any, and_parts, true≢false}
+use Rattle.delivery.proofs.Words.Std.{◌≡◌, ◌≢◌, ℕ, ◌<◌, ◌&&◌, Bool, true, false, not, ◌⊎◌, inl, inr, List, [], ◌∷◌, map, take, length, Option, Some, refl, sym, ap, subst, ◌∙◌, list_any, and_parts, true≢false, filter}
 use Rattle.delivery.proofs.Words.Topics.{Topic, Stamp, CommitRow, committed_id, stamp_of, agreed, same_id, In, LogRow, row_id, row_stamp, in_span, last_stamp, up_to, row_mark, stamp_lt, zero_stamp, names, topics_of, IsExplainedBy, IsCompleteBy, TopicRow, rows_of, queue_of}
 use Rattle.delivery.proofs.Words.Lemmas.{In-map, In-map_cases, In-filter, In-filter_cases, filter_same, filter_none, filter_twice, any_found, any_from, In-take, id_equal, id_itself, le_lt, zero_least, In-sorted_cases, Rises-filter}
 use Rattle.delivery.proofs.Words.Machine.{log_row, item_at, is_due, Answer, commits_of, released_at}
 use Rattle.delivery.proofs.Words.Core.{DeliversAnswers, Report, log_in, traced_span, trace_of, AllSettled}
-use Rattle.std.specs.List.{filter}
 use Rattle.trace_audit.specs.Explained.{rows_at}
 use Rattle.trace_audit.specs.Trace.{marks_in}
 use Rattle.delivery.proofs.Core.QueueOfReport.{queue_in, queue_there}

@@ -1,6 +1,5 @@
 -- A trace as it grows: by a row of a log, an item of a queue, a topic and a subscription.
-use Rattle.std.proofs.Common.{◌≡◌, ℕ, zero, suc, ◌+◌, ◌<◌, ◌≤◌, ◌==◌, ◌||◌, Bool, true, false, List, [], ◌∷◌, ◌++◌, map, take, length, get_or, Some, refl, sym, ap, subst, ◌∙◌, append_assoc, append-nil, arith}
-use Rattle.delivery.proofs.Words.Std.{slice_get, list_all, flat_map, enumerate_from, option_map, and_parts, eq-eqb, nat_tests, map-append, take_more, slice_get-get_or, get_or_from_slice_get}
+use Rattle.delivery.proofs.Words.Std.{◌≡◌, ℕ, zero, suc, ◌+◌, ◌<◌, ◌≤◌, ◌==◌, ◌||◌, Bool, true, false, List, [], ◌∷◌, ◌++◌, map, take, length, get_or, Some, refl, sym, ap, subst, ◌∙◌, append_assoc, append-nil, arith, slice_get, list_all, flat_map, enumerate_from, option_map, and_parts, eq-eqb, nat_tests, map-append, take_more, slice_get-get_or, get_or_from_slice_get}
 use Rattle.delivery.proofs.Words.Topics.{Topic, Item, LogRow, GroupState, QueueRow, SpanRow, TopicRow, TraceData, fits, has_span}
 use Rattle.delivery.proofs.Words.Core.{QueueReport, traced_log, traced_span, traced_queue}
 use Rattle.std.proofs.lemmas.Grind.{flat_map-append}

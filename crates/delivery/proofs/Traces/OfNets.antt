@@ -1,13 +1,11 @@
 -- The trace of what a net holds: its rows fit, and it is traced.
-use Rattle.std.proofs.Common.{◌≡◌, ◌<◌, ◌≤◌, ◌==◌, nat_lt, true, List, [], ◌∷◌, length, Some, None, refl, sym, ap, subst, ◌∙◌, arith}
-use Rattle.delivery.proofs.Words.Std.{list_all, AllByRecursion, ℕ, reverse, and_from, eq-eqb, lt-ltb, length-map}
+use Rattle.delivery.proofs.Words.Std.{◌≡◌, ◌<◌, ◌≤◌, ◌==◌, nat_lt, true, List, [], ◌∷◌, length, Some, None, refl, sym, ap, subst, ◌∙◌, arith, list_all, AllByRecursion, ℕ, reverse, and_from, eq-eqb, lt-ltb, length-map, filter}
 use Rattle.delivery.proofs.Words.Topics.{Topic, agreed, In, RisesBy, LogRow, names, GroupState, TopicRow, fits}
 use Rattle.delivery.proofs.Words.Frames.{max_topics}
 use Rattle.delivery.proofs.Words.Lemmas.{In-map, In-map_cases, In-filter, In-filter_cases, In-take, topics_rise}
 use Rattle.delivery.proofs.Words.Machine.{log_row, Answer, commits_of}
 use Rattle.delivery.proofs.Words.Core.{KeptRun, account_of, core_of, names_after, Report, report_of, DeliversAnswers, trace_of, IsTraced}
 use Rattle.delivery.proofs.Words.Views.{KeepsRun, steps_of, View, report_in}
-use Rattle.std.specs.List.{filter}
 use Rattle.mcast_txn.proofs.Members.{all_from}
 use Rattle.trace_audit.specs.Trace.{rise_after}
 use Rattle.delivery.proofs.Core.NamesFew.{names_few}

@@ -1,6 +1,5 @@
 -- The trace of every run of the core.
-use Rattle.std.proofs.Common.{◌≡◌, ℕ, ◌<◌, true, inl, inr, List, length, refl, sym, ap, subst, ◌∙◌}
-use Rattle.delivery.proofs.Words.Std.{cases_lt}
+use Rattle.delivery.proofs.Words.Std.{◌≡◌, ℕ, ◌<◌, true, inl, inr, List, length, refl, sym, ap, subst, ◌∙◌, cases_lt}
 use Rattle.delivery.proofs.Words.Topics.{Topic, CommitRow, In, names, topics_of, TopicState, new_topic, IsCompleteBy}
 use Rattle.delivery.proofs.Words.Lemmas.{map_length}
 use Rattle.delivery.proofs.Words.Machine.{log_row, Run, answers_of, final_world, commits_of}

@@ -19,6 +19,7 @@ pub use Rattle.delivery.specs.declared.connection_fault.ConnectionFault.{Connect
 pub use Rattle.delivery.specs.declared.event.Event.{Event}
 pub use Rattle.delivery.specs.declared.kept.Kept.{Kept}
 pub use Rattle.delivery.specs.declared.open_endpoint.OpenEndpoint.{OpenEndpoint}
+pub use Rattle.delivery.specs.declared.outcome.Outcome.TheVariants.{Cancelled, Decided, Done, Failed, Faulted, Fed, Flying, Gone, Handed, Learnt, Leaving, NoMemory, Opened, Proposed, Refused, Released, Subscribed, Turned, Unsubscribed, Withdrawn}
 pub use Rattle.delivery.specs.declared.outcome.Outcome.{Outcome}
 pub use Rattle.delivery.specs.declared.refusal.Refusal.{Refusal}
 pub use Rattle.delivery.specs.declared.sending.Sending.{Sending}

@@ -4,6 +4,7 @@ pub use Rattle.mcast_group.specs.Faults.{propose_title}
 pub use Rattle.mcast_group.specs.Group.{GroupState, gauge_at, result_of, shown_at, shown_with, shows}
 pub use Rattle.mcast_group.specs.Machine.{Entry, EntryEnd, HasOneRowEach, Pending, TopicState, after_cancel, after_learn, after_propose, after_release, after_release_of, after_releases, after_subscribe, after_tries, after_try, after_turn, after_unsubscribe, cancel_fault, cancel_fault_of, decided_stamp, due_part, end_of, entry_after, find_entry, find_pending, insert_entry, is_pending, item_of, key, last_number, learn_fault, new_topic, next_number, propose_fault, row_of, subscribe_fault, with_stamp}
 pub use Rattle.mcast_group.specs.Sound.{IsQueueOf, IsSound, NumbersDiffer}
+pub use Rattle.mcast_group.specs.declared.cause.Cause.TheVariants.{Asked, Lag}
 pub use Rattle.mcast_group.specs.declared.cause.Cause.{Cause}
 pub use Rattle.mcast_group.specs.declared.fault.CancelFault.{CancelFault}
 pub use Rattle.mcast_group.specs.declared.fault.LearnFault.{LearnFault}

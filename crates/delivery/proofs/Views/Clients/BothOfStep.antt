@@ -1,6 +1,5 @@
 -- What a step makes of a core, and of the senders beside it.
-use Rattle.std.proofs.Common.{◌≡◌, ℕ, ◌<◌, nat_lt, Bool, true, false, cond, not, ◌&&◌, ◌||◌, arith, List, [], ◌∷◌, ◌++◌, length, get_or, Option, Some, None, refl, sym, ap, subst, ◌∙◌}
-use Rattle.delivery.proofs.Words.Std.{codes, slice_get, list_all, is_some, option_and_then, option_map, option_map_or, option_or, option_to_list, unwrap_or, false≢true, or_parts, slice_get-get_or}
+use Rattle.delivery.proofs.Words.Std.{◌≡◌, ℕ, ◌<◌, nat_lt, Bool, true, false, cond, not, ◌&&◌, ◌||◌, arith, List, [], ◌∷◌, ◌++◌, length, get_or, Option, Some, None, refl, sym, ap, subst, ◌∙◌, codes, slice_get, list_all, is_some, option_and_then, option_map, option_map_or, option_or, option_to_list, unwrap_or, false≢true, or_parts, slice_get-get_or}
 use Rattle.delivery.proofs.Words.Topics.{GateState, SendersState, after_give_back, Stamp}
 use Rattle.delivery.proofs.Words.Frames.{is_connect, RawFrame, Unread, Action, action_by, client_of, field, has_destination, is_known}
 use Rattle.delivery.proofs.Words.Lemmas.{one_answer, none_some}

@@ -1,7 +1,5 @@
 -- What the senders that are held say of a claim is what the claims of the run say, and so it is after it.
-use Rattle.std.proofs.Common.{◌≡◌, ◌≢◌, ℕ, ◌+◌, ◌<◌, ◌||◌, nat_lt, Bool, true, false, cond, not, ◌&&◌, List, [], ◌∷◌, length, map, Option, Some, None, refl, sym, ap, subst, ◌∙◌, arith, append-nil}
-use Rattle.std.specs.Prelude.{find, is_none}
-use Rattle.delivery.proofs.Words.Std.{is_some, option_map, option_map_or, option_and_then, option_or, unwrap_or, bytes_eq, true≢false, false≢true, length-map, length-append}
+use Rattle.delivery.proofs.Words.Std.{◌≡◌, ◌≢◌, ℕ, ◌+◌, ◌<◌, ◌||◌, nat_lt, Bool, true, false, cond, not, ◌&&◌, List, [], ◌∷◌, length, map, Option, Some, None, refl, sym, ap, subst, ◌∙◌, arith, append-nil, is_some, option_map, option_map_or, option_and_then, option_or, unwrap_or, bytes_eq, true≢false, false≢true, length-map, length-append, find, is_none}
 use Rattle.delivery.proofs.Words.Topics.{first_refusal, GateState, KeptSender, SendersState, after_claim, claim_refusal, claimed_gate, new_gate}
 use Rattle.delivery.proofs.Words.Lemmas.{some_same, none_some, same_octets, octets_pass}
 use Rattle.delivery.proofs.Words.Machine.{World, is_in_use, sender_at}
@@ -139,14 +137,15 @@ refused_alike w before clients h client =
 
 -- ---- the gate
 
+-- the gate of a sender that was found, or a new one
+abbrev gate : Option KeptSender → ℕ → GateState
+gate found begun = option_map_or (λ k. unwrap_or k.gate (new_gate k.sender)) found (new_gate (record { 0 = begun }))
+
 -- it is of the sender that the claims say
 pub claimed_number : (w : World) (before : List Claim) (clients : SendersState) → AreClaimed w before clients → (client : Option (List ℕ))
     → (claimed_gate client clients).sender.0 ≡ unwrap_or (claimed_sender client before) (begun_count before)
 claimed_number w before clients h client = (λ i. (gate (found_by w before clients h client i) (h.begun i)).sender.0) ∙ by client
   where
-    gate : Option KeptSender → ℕ → GateState
-    gate found begun = option_map_or (λ k. unwrap_or k.gate (new_gate k.sender)) found (new_gate (record { 0 = begun }))
-
     own : (n : ℕ) (b : Bool) → (unwrap_or (cond b None (Some (record { sender = record { 0 = n }; seq = (sender_at w n).seq; floor = (sender_at w n).floor }))) (new_gate (record { 0 = n }))).sender.0 ≡ n
     own n true = refl
     own n false = refl
@@ -166,9 +165,6 @@ pub new_gate_is : (w : World) (before : List Claim) (clients : SendersState) →
     → claimed_sender client before ≡ None → claimed_gate client clients ≡ new_gate (record { 0 = begun_count before })
 new_gate_is w before clients h client none = (λ i. gate (found_by w before clients h client i) (h.begun i)) ∙ by client none
   where
-    gate : Option KeptSender → ℕ → GateState
-    gate found begun = option_map_or (λ k. unwrap_or k.gate (new_gate k.sender)) found (new_gate (record { 0 = begun }))
-
     one : (id : List ℕ) (b : Bool) → cond b (Some (kept_sender id before)) None ≡ None
         → gate (cond b (Some (record { client = id; sender = record { 0 = kept_sender id before }; gate = resting_gate w (kept_sender id before) })) None) (begun_count before)
         ≡ new_gate (record { 0 = begun_count before })
@@ -185,9 +181,6 @@ pub own_gate_is : (w : World) (before : List Claim) (clients : SendersState) →
     → claimed_gate client clients ≡ record { sender = record { 0 = s }; seq = (sender_at w s).seq; floor = (sender_at w s).floor }
 own_gate_is w before clients h client s claims unused = (λ i. gate (found_by w before clients h client i) (h.begun i)) ∙ by client claims
   where
-    gate : Option KeptSender → ℕ → GateState
-    gate found begun = option_map_or (λ k. unwrap_or k.gate (new_gate k.sender)) found (new_gate (record { 0 = begun }))
-
     own : ℕ → GateState
     own n = record { sender = record { 0 = n }; seq = (sender_at w n).seq; floor = (sender_at w n).floor }
 
@@ -261,6 +254,13 @@ same_id : (a b : List ℕ) → a ≡ b → bytes_eq a b ≡ true
 same_id a b e = subst (λ (x : List ℕ). bytes_eq a x ≡ true) e (octets_pass a)
 
 module _ (w v : World) (before : List Claim) (clients : SendersState) (c : ℕ) (h : AreClaimed w before clients) where
+  -- who is kept under a client-id, before and after
+  abbrev held : List ℕ → KeptSender
+  held other = record { client = other; sender = record { 0 = kept_sender other before }; gate = resting_gate w (kept_sender other before) }
+
+  abbrev later : List ℕ → ℕ → KeptSender
+  later other m = record { client = other; sender = record { 0 = m }; gate = resting_gate v m }
+
   -- a sender that begins without a client-id
   begun_alone : UsesOne w v (begun_count before) (begun_count before) → AreClaimed v (record { connection = c; client = None } ∷ before) (after_claim None clients)
   begun_alone uses = record {
@@ -288,12 +288,6 @@ module _ (w v : World) (before : List Claim) (clients : SendersState) (c : ℕ) 
 
       n : ℕ
       n = begun_count before
-
-      held : (other : List ℕ) → KeptSender
-      held other = record { client = other; sender = record { 0 = kept_sender other before }; gate = resting_gate w (kept_sender other before) }
-
-      later : (other : List ℕ) (m : ℕ) → KeptSender
-      later other m = record { client = other; sender = record { 0 = m }; gate = resting_gate v m }
 
       each : (other : List ℕ) (k : Bool) → is_kept other before ≡ k → (b : Bool) → bytes_eq other id ≡ b
           → option_or (cond k (Some (held other)) None) (cond b (Some entry) None)
@@ -329,12 +323,6 @@ module _ (w v : World) (before : List Claim) (clients : SendersState) (c : ℕ) 
       client_stays : (k : KeptSender) (b : Bool) → (cond b (record k { gate = None }) k).client ≡ k.client
       client_stays k true = refl
       client_stays k false = refl
-
-      held : (other : List ℕ) → KeptSender
-      held other = record { client = other; sender = record { 0 = kept_sender other before }; gate = resting_gate w (kept_sender other before) }
-
-      later : (other : List ℕ) (m : ℕ) → KeptSender
-      later other m = record { client = other; sender = record { 0 = m }; gate = resting_gate v m }
 
       number_stays : (other : List ℕ) (b : Bool) → kept_sender other before ≡ cond (b && false) (begun_count before) (kept_sender other before)
       number_stays other true = refl

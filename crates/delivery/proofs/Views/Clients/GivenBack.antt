@@ -1,7 +1,5 @@
 -- A connection is gone, whose sender is idle: no connection speaks for that sender then, which is resting, and its gate is given back.
-use Rattle.std.proofs.Common.{◌≡◌, ◌≢◌, ℕ, suc, ◌<◌, ◌==◌, ◌||◌, ◌&&◌, Bool, true, false, cond, List, [], ◌∷◌, length, set, get_or, Option, Some, None, refl, sym, ap, ◌∙◌}
-use Rattle.std.specs.Prelude.{is_none}
-use Rattle.delivery.proofs.Words.Std.{list_any, option_map, option_map_or, bytes_eq, true≢false, eqb-true, eq-eqb, length-map, set-get_or}
+use Rattle.delivery.proofs.Words.Std.{◌≡◌, ◌≢◌, ℕ, suc, ◌<◌, ◌==◌, ◌||◌, ◌&&◌, Bool, true, false, cond, List, [], ◌∷◌, length, set, get_or, Option, Some, None, refl, sym, ap, ◌∙◌, list_any, option_map, option_map_or, bytes_eq, true≢false, eqb-true, eq-eqb, length-map, set-get_or, is_none}
 use Rattle.delivery.proofs.Words.Topics.{GateState, KeptSender, SendersState, after_give_back}
 use Rattle.delivery.proofs.Words.Lemmas.{at_set_within, some_same, not_true}
 use Rattle.delivery.proofs.Words.Machine.{World, Connection, SenderState, Standing, is_gone, new_sender, nobody, connection_at, sender_at, speaks_for, is_in_use}

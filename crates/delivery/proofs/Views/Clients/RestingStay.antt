@@ -1,11 +1,10 @@
 -- A sender for which no connection speaks is left as it is by each move but a claim and a connection's last.
-use Rattle.std.proofs.Common.{◌≡◌, ℕ, zero, suc, ◌==◌, ◌||◌, Bool, true, false, cond, not, ◌&&◌, List, [], ◌∷◌, ◌++◌, set, get_or, Option, Some, None, refl, sym, ap, subst, ◌∙◌}
-use Rattle.delivery.proofs.Words.Std.{list_any, list_all, option_map_or, true≢false, false≢true, and_parts, or_parts, not-false, get_or-set_other}
-use Rattle.delivery.proofs.Words.Topics.{Decision, Topic, TxnId, SentMessage, Item, ProposeFault, Entry, GateState}
-use Rattle.delivery.proofs.Words.Machine.{World, Connection, Leftover, SenderState, Standing, is_gone, nobody, new_sender, connection_at, sender_at, speaker, speaker_number, speaks_for, is_in_use, subscription_at, entry_at, Move, world_after, move_refusal, move_effect, find_leftover, find_verdict, commit_effect, proposal_fault, propose_effect, cancel_effect, learn_effect, take_effect, close_effect_of, run}
+use Rattle.delivery.proofs.Words.Std.{◌≡◌, ℕ, zero, suc, ◌==◌, ◌||◌, Bool, true, false, cond, not, ◌&&◌, List, [], ◌∷◌, ◌++◌, set, get_or, Option, Some, None, refl, sym, ap, subst, ◌∙◌, list_any, list_all, option_map_or, true≢false, false≢true, and_parts, or_parts, not-false, get_or-set_other}
+use Rattle.delivery.proofs.Words.Topics.{Topic, Entry, GateState}
+use Rattle.delivery.proofs.Words.Machine.{World, Connection, Leftover, SenderState, Standing, is_gone, nobody, new_sender, connection_at, sender_at, speaker, speaker_number, speaks_for, is_in_use, subscription_at, Move, world_after, move_refusal, move_effect, find_leftover, cancel_effect, close_effect_of, run, Opens, Connects, Commits, Disconnects, Errs, Lost, Leaves, Proposes, Decides, Withdraws, Cancels, Takes}
 use Rattle.delivery.proofs.Words.Views.{resting_gate}
-use Rattle.delivery.specs.Machine.Moves.Move.{Opens, Connects, Commits, Unsubscribes, Disconnects, Errs, Lost, Leaves, Proposes, Decides, Withdraws, Cancels, Learns, Takes}
 use Rattle.delivery.proofs.Machine.InvariantIsKept.{by_refusal, checked}
+use Rattle.delivery.proofs.Machine.ByFound.{by_found}
 use Rattle.delivery.proofs.Machine.Speakers.{has_speaker, cancelling_speaker}
 use Rattle.delivery.proofs.Machine.SenderSteps.{leftover_found}
 use Rattle.delivery.proofs.Theorem.SendersAreOwn.{flying_speaks, speaks, reading_there}
@@ -72,29 +71,13 @@ standing_rests : (w : World) (c : ℕ) (standing : Standing) → is_gone standin
     → (s : ℕ) → cond (list_any (speaks_for s) (set w.connections c (record { sender = (connection_at w c).sender; standing = standing }))) None (Some (gate_by s (sender_at w s))) ≡ resting_gate w s
 standing_rests w c standing n o s = ap (λ (b : Bool). cond b None (Some (gate_by s (sender_at w s)))) (standing_used w c standing n o s)
 
-flown : (w : World) (c : ℕ) (sends : List SentMessage) → speaks_for (speaker_number w c) (connection_at w c) ≡ true → Rests w (commit_effect w c sends)
-flown w c [] e s = refl
-flown w c (first ∷ others) e s = sender_rests w c _ e s
-
-proposed : (w : World) (c : ℕ) (t : Topic) (o : Option ProposeFault) → speaks_for (speaker_number w c) (connection_at w c) ≡ true → Rests w (propose_effect w c t o)
-proposed w c t None e s = sender_rests w c _ e s
-proposed w c t (Some fault) e s = sender_rests w c _ e s
-
 cancelled : (w : World) (c : ℕ) (t : Topic) (o : Option Leftover) → ((k : Leftover) → o ≡ Some k → speaks_for (speaker_number w c) (connection_at w c) ≡ true) → Rests w (cancel_effect w c t o)
 cancelled w c t None e s = refl
 cancelled w c t (Some k) e s = sender_rests w c _ (e k refl) s
 
-learned : (w : World) (t : Topic) (id : TxnId) (o : Option Decision) → Rests w (learn_effect w t id o)
-learned w t id None s = refl
-learned w t id (Some v) s = refl
-
 pub closed_rests : (w : World) (n : ℕ) (o : Option Entry) → Rests w (close_effect_of w n o)
 closed_rests w n None s = refl
 closed_rests w n (Some e) s = refl
-
-handed : (w : World) (n : ℕ) (o : Option Item) → is_gone (connection_at w (subscription_at w n).connection).standing ≡ false → Rests w (take_effect w n o)
-handed w n None there s = standing_rests w (subscription_at w n).connection Standing.Leaving refl there s
-handed w n (Some item) there s = refl
 
 -- the move is none of a claim, and none of a connection that leaves
 abbrev pub is_still : Move → Bool
@@ -109,13 +92,14 @@ effect_rests w Opens q n = λ s.
     ap (λ (b : Bool). cond b None (Some (gate_by s (sender_at w s)))) (any_push (speaks_for s) w.connections (record { sender = None; standing = Standing.Open }) refl)
 effect_rests w (Commits c sends) q n =
     let p = checked w (Commits c sends) n in
-    flown w c sends (speaks (speaker_number w c) (connection_at w c) p.1.0 (has_speaker w c (not-false _ p.1.1.1.0)))
-effect_rests w (Unsubscribes c s) q n = closed_rests w s (entry_at w s)
+    by_found (λ v o. Rests w v) w (Commits c sends)
+    ((λ s. refl), λ k s. sender_rests w c _ (speaks (speaker_number w c) (connection_at w c) p.1.0 (has_speaker w c (not-false _ p.1.1.1.0))) s)
 effect_rests w (Disconnects c) q n = standing_rests w c Standing.Leaving refl (checked w (Disconnects c) n).1.0
 effect_rests w (Errs c) q n = standing_rests w c Standing.Leaving refl (checked w (Errs c) n).1.0
 effect_rests w (Lost c) q n = standing_rests w c Standing.Leaving refl (checked w (Lost c) n).1.0
 effect_rests w (Proposes c t memory) q n =
-    let p = checked w (Proposes c t memory) n in proposed w c t (proposal_fault w c t memory) (flying_speaks w c p.1.0 p.1.1.0)
+    let p = checked w (Proposes c t memory) n in let own = flying_speaks w c p.1.0 p.1.1.0 in
+    by_found (λ v o. Rests w v) w (Proposes c t memory) ((λ s. sender_rests w c _ own s), λ fault s. sender_rests w c _ own s)
 effect_rests w (Decides c) q n =
     let p = checked w (Decides c) n in sender_rests w c _ (flying_speaks w c p.1.0 p.1.1.0)
 effect_rests w (Withdraws c) q n = λ s.
@@ -129,11 +113,11 @@ effect_rests w (Cancels c t) q n =
     let p = checked w (Cancels c t) n in
     cancelled w c t (find_leftover t (speaker w c).leftovers)
     (λ k e. speaks (speaker_number w c) (connection_at w c) p.1.0 (cancelling_speaker w c k (leftover_found t (speaker w c).leftovers k e).stands))
-effect_rests w (Learns t id) q n = learned w t id (find_verdict id w.verdicts)
 effect_rests w (Takes r) q n =
-    let p = (checked w (Takes r) n).1.0 in
-    handed w r _ (reading_there (connection_at w (subscription_at w r).connection).standing (not-false _ (or_parts (Rattle.std.specs.Option.is_some (subscription_at w r).closed) _ p).1))
-effect_rests w _ q n = λ s. refl
+    let c = (subscription_at w r).connection in
+    let there = reading_there (connection_at w c).standing (not-false _ (or_parts (Rattle.std.specs.Option.is_some (subscription_at w r).closed) _ (checked w (Takes r) n).1.0).1) in
+    by_found (λ v o. Rests w v) w (Takes r) ((λ s. standing_rests w c Standing.Leaving refl there s), λ k s. refl)
+effect_rests w e q n = by_found (λ v o. Rests w v) w e ((λ s. refl), λ k s. refl)
 
 -- each such move leaves it
 pub move_rests : (w : World) (e : Move) → is_still e ≡ true → Rests w (world_after w e)

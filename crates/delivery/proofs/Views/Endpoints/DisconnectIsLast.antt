@@ -157,12 +157,8 @@ unparted topics capacity (step ∷ older) h c e =
 abbrev pub OneReceipt : List RawFrame → Type 0
 OneReceipt fs = flat_map receipts_of (filter parts_by fs) ≡ option_map_or (λ id. receipt_frame id ∷ []) (option_and_then receipt_of (find parts_by fs)) []
 
-alone : (o : Option (List ℕ)) → option_map_or (λ id. receipt_frame id ∷ []) o [] ++ [] ≡ option_map_or (λ id. receipt_frame id ∷ []) o []
-alone None = refl
-alone (Some id) = refl
-
 one_frame : (b : Bool) (f : RawFrame) → flat_map receipts_of (cond b (f ∷ []) []) ≡ option_map_or (λ id. receipt_frame id ∷ []) (option_and_then receipt_of (cond b (Some f) None)) []
-one_frame true f = alone (receipt_of f)
+one_frame true f = elim (receipt_of f) as (λ o. option_map_or (λ id. receipt_frame id ∷ []) o [] ++ [] ≡ option_map_or (λ id. receipt_frame id ∷ []) o []) [ None ↦ refl | Some id ↦ refl ]
 one_frame false f = refl
 
 one_more : (b : Bool) (x : RawFrame) (fs : List RawFrame) (o p : Option RawFrame) → cond b (Some x) o ≡ None

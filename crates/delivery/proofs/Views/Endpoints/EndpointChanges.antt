@@ -1,10 +1,8 @@
 -- Changes of one endpoint of a view, one after another.
-use Rattle.std.proofs.Common.{◌≡◌, ℕ, ◌<◌, Bool, List, ◌++◌, length, get_or, set, take, Option, None, ap, ◌∙◌}
-use Rattle.delivery.proofs.Words.Std.{Result, Ok, Err, OnErr, take-append_seam, get_or-set_same, set-set, length-set, set-get_or}
+use Rattle.delivery.proofs.Words.Std.{◌≡◌, ℕ, ◌<◌, Bool, List, ◌++◌, length, get_or, set, take, Option, None, ap, ◌∙◌, Result, Ok, Err, OnErr, take-append_seam, get_or-set_same, set-set, length-set, set-get_or, OnOk}
 use Rattle.delivery.proofs.Words.Frames.{NoMemory, error_frame, spelling_of}
 use Rattle.delivery.proofs.Words.Core.{ConnectionFault, connection_title}
 use Rattle.delivery.proofs.Words.Views.{failed_endpoint, error_text, View, EndpointView, leaving_endpoint, written_endpoint}
-use Rattle.std.specs.Prelude.{OnOk}
 use Rattle.std.specs.Result.{is_err}
 use Rattle.delivery.specs.Inner.Nexts.{shortened_endpoint}
 

@@ -1,6 +1,5 @@
 -- Steps that leave endpoints as they are, but for what the machine says of them.
-use Rattle.std.proofs.Common.{◌≡◌, ℕ, Bool, true, false, ◌==◌, ◌&&◌, List, [], ◌∷◌, ◌++◌, None, cond, refl, ap, ◌∙◌}
-use Rattle.delivery.proofs.Words.Std.{append-nil, flat_map, option_map_or}
+use Rattle.delivery.proofs.Words.Std.{◌≡◌, ℕ, Bool, true, false, ◌==◌, ◌&&◌, List, [], ◌∷◌, ◌++◌, None, cond, refl, ap, ◌∙◌, append-nil, flat_map, option_map_or}
 use Rattle.delivery.proofs.Words.Topics.{Topic, TxnId, Stamp}
 use Rattle.delivery.proofs.Words.Frames.{RawFrame, spelling_of, Unread, with_destination}
 use Rattle.delivery.proofs.Words.Machine.{World}

@@ -1,6 +1,5 @@
 -- What the machine refuses of a frame that its session and its claim let pass.
-use Rattle.std.proofs.Common.{◌≡◌, ℕ, Bool, true, false, cond, not, nat_lt, ◌&&◌, List, [], ◌∷◌, length, Option, Some, None, refl, sym, ap, subst, ◌∙◌, arith}
-use Rattle.delivery.proofs.Words.Std.{list_all, is_some, option_map_or, option_or, ltb-true}
+use Rattle.delivery.proofs.Words.Std.{◌≡◌, ℕ, Bool, true, false, cond, not, nat_lt, ◌&&◌, List, [], ◌∷◌, length, Option, Some, None, refl, sym, ap, subst, ◌∙◌, arith, list_all, is_some, option_map_or, option_or, ltb-true}
 use Rattle.delivery.proofs.Words.Topics.{Topic, SentMessage, first_refusal, last_number}
 use Rattle.delivery.proofs.Words.Frames.{RawFrame, Action, action_by, has_destination, id_of, session_fault}
 use Rattle.delivery.proofs.Words.Lemmas.{refusal_after, some_same, none_some, begins_at, ends}

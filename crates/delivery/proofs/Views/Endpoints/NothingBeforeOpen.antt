@@ -1,13 +1,11 @@
 -- Nothing came of a connection that isn't there yet.
-use Rattle.std.proofs.Common.{◌≡◌, ◌≢◌, ℕ, zero, suc, ◌+◌, ◌<◌, ◌≤◌, ◌==◌, Bool, true, false, cond, not, ◌&&◌, inl, inr, List, [], ◌∷◌, ◌++◌, length, get_or, Option, Some, None, refl, sym, ap, subst, ◌∙◌, arith, ltb}
-use Rattle.delivery.proofs.Words.Std.{eqb-true, ltb-true, or_parts, not-false, flat_map, is_some, length_push}
+use Rattle.delivery.proofs.Words.Std.{◌≡◌, ◌≢◌, ℕ, zero, suc, ◌+◌, ◌<◌, ◌≤◌, ◌==◌, Bool, true, false, cond, not, ◌&&◌, inl, inr, List, [], ◌∷◌, ◌++◌, length, get_or, Option, Some, None, refl, sym, ap, subst, ◌∙◌, arith, ltb, eqb-true, ltb-true, or_parts, not-false, flat_map, is_some, length_push}
 use Rattle.delivery.proofs.Words.Topics.{In}
 use Rattle.delivery.proofs.Words.Frames.{RawFrame, Unread, unread_of, with_piece, spelling_of}
 use Rattle.delivery.proofs.Words.Lemmas.{some_same, not_true}
-use Rattle.delivery.proofs.Words.Machine.{Objection, refusal_of, World, Subscription, no_subscription, subscription_at, Move, Answer, world_after, answer_to, move_refusal, move_effect, oldest_live, leave_answer, Run, answers_of, final_world}
+use Rattle.delivery.proofs.Words.Machine.{Objection, refusal_of, World, Subscription, no_subscription, subscription_at, Move, Answer, world_after, answer_to, move_refusal, move_effect, oldest_live, leave_answer, Run, answers_of, final_world, Decides, Withdraws, Leaves, Takes}
 use Rattle.delivery.proofs.Words.Core.{TopicList, Event, Outcome, Refusal, Beginning, no_beginning, account_of, beginning_of, next_replies, take_replies, replies_to, is_cut, text_out, Core, IsReadBy, core_of, moves, unread_at, unread_after, CoreStep, Reading, frame_in, is_fed, accepted_of, reader_limits, outcomes, unless, outcome_of, move_outcome, reading_outcomes, cut_of, IsReadAt, IsCoreRun, live_numbers}
 use Rattle.delivery.proofs.Words.Views.{IsReached}
-use Rattle.delivery.specs.Machine.Moves.Move.{Decides, Withdraws, Leaves, Takes}
 use Rattle.delivery.specs.Core.State.{left_by}
 use Rattle.delivery.proofs.Machine.SubscriptionSteps.{at_push_two}
 use Rattle.delivery.proofs.Machine.InvariantIsKept.{by_refusal, checked}

@@ -1,12 +1,10 @@
 -- What an open endpoint makes of what its reader gives.
-use Rattle.std.proofs.Common.{◌≡◌, ◌≢◌, ℕ, ◌+◌, ◌⊎◌, Bool, true, false, cond, inl, inr, List, [], ◌∷◌, ◌++◌, Option, Some, None, refl, sym, ap, subst, ◌∙◌, arith}
 use Rattle.std.proofs.lemmas.Bool.{lt-leb}
-use Rattle.delivery.proofs.Words.Std.{Result, Ok, Err}
+use Rattle.delivery.proofs.Words.Std.{◌≡◌, ◌≢◌, ℕ, ◌+◌, ◌⊎◌, Bool, true, false, cond, inl, inr, List, [], ◌∷◌, ◌++◌, Option, Some, None, refl, sym, ap, subst, ◌∙◌, arith, Result, Ok, Err, MatchOption}
 use Rattle.delivery.proofs.Words.Frames.{Check, RawFrame, fault_of, Limits, Halt, Unread, ReadsNext, Step, with_destination, held_after, state_of}
 use Rattle.delivery.proofs.Words.Lemmas.{answers_none}
 use Rattle.delivery.proofs.Words.Core.{ConnectionFault, OpenEndpoint, is_any, Reading}
 use Rattle.delivery.proofs.Words.Views.{IsRefusedAs, Judgement}
-use Rattle.std.specs.Prelude.{MatchOption}
 use Rattle.stomp_frame.specs.declared.fault.FrameFault.{FrameFault}
 use Rattle.stomp_frame.specs.Inner.Parser.{◌>>=◌, after_eols, body_at, command_of, frame_at, headers_at, line_at}
 use Rattle.stomp_frame.specs.Commands.{has_escapes}

@@ -1,17 +1,15 @@
 -- What every run makes of its connections: a step changes none but its event's own, and an accepted UNSUBSCRIBE names a live
 -- subscription.
-use Rattle.std.proofs.Common.{◌≡◌, ◌≢◌, ℕ, zero, suc, ◌==◌, Bool, true, false, cond, not, ◌&&◌, List, [], ◌∷◌, ◌++◌, length, set, get_or, Option, Some, None, refl, sym, ap, ◌∙◌, append-nil}
-use Rattle.delivery.proofs.Words.Std.{codes, slice_get, flat_map, option_map_or, option_to_list, get_or-set_other}
-use Rattle.delivery.proofs.Words.Topics.{Topic, TxnId, SentMessage, Decision, Item, ProposeFault, Entry}
+use Rattle.delivery.proofs.Words.Std.{◌≡◌, ◌≢◌, ℕ, zero, suc, ◌==◌, Bool, true, false, cond, not, ◌&&◌, List, [], ◌∷◌, ◌++◌, length, set, get_or, Option, Some, None, refl, sym, ap, ◌∙◌, append-nil, codes, flat_map, option_map_or, option_to_list, get_or-set_other}
 use Rattle.delivery.proofs.Words.Frames.{RawFrame, Unread, with_piece, spelling_of, Action, action_by, field, has_destination, id_of, is_known}
-use Rattle.delivery.proofs.Words.Machine.{World, Connection, Leftover, Standing, nobody, connection_at, subscription_at, speaker, entry_at, accepted_at, Move, Answer, world_after, move_effect, find_leftover, find_verdict, oldest_live, commit_effect, proposal_fault, propose_effect, cancel_effect, learn_effect, take_effect, leave_effect, close_effect_of, run}
+use Rattle.delivery.proofs.Words.Machine.{World, Connection, Standing, nobody, connection_at, subscription_at, Move, Answer, world_after, run, AddsTopic, Opens, Connects, Commits, Subscribes, Unsubscribes, Disconnects, Errs, Lost, Leaves, Proposes, Decides, Withdraws, Cancels, Learns, Releases, Turns, Takes}
 use Rattle.delivery.proofs.Words.Core.{Event, Outcome, account_of, beginning_of, is_cut, next_replies, replies_to, text_out, take_replies, Core, core_of, frame_move, is_faulted, is_no_memory, is_out_of_memory, moves, names_at, next_moves, session_at, topic_moves, unread_at, unread_after, claims_of, claimed_sender, CoreStep, Reading, accepted_of, frame_in, has_effect, is_fed, is_next, number_by}
 use Rattle.delivery.proofs.Words.Views.{IsReached}
 use Rattle.stomp_session.specs.declared.action.Action.TheVariants as actions
-use Rattle.delivery.specs.Machine.Moves.Move.{AddsTopic, Opens, Connects, Commits, Subscribes, Unsubscribes, Disconnects, Errs, Lost, Leaves, Proposes, Decides, Withdraws, Cancels, Learns, Releases, Turns, Takes}
 use Rattle.delivery.specs.Core.Connections.{event_connection, OpenAreLive, UnsubscribesFind, OtherConnectionsStay}
 use Rattle.delivery.specs.Core.State.{left_by}
 use Rattle.delivery.proofs.Machine.InvariantIsKept.{by_refusal}
+use Rattle.delivery.proofs.Machine.ByFound.{InEachCase, by_found, by_entry}
 use Rattle.delivery.proofs.Core.AccountOfRun.{core_is}
 use Rattle.delivery.proofs.Core.NamesKnown.{other_open}
 use Rattle.delivery.proofs.Views.Events.NextStep.{idle_reads}
@@ -47,57 +45,22 @@ pushed (y ∷ xs) x (suc c) n = pushed xs x c (λ e. n (ap suc e))
 shut : (w : World) (c d : ℕ) (x : Connection) → d ≢ c → get_or (set w.connections d x) c nobody ≡ get_or w.connections c nobody
 shut w c d x n = get_or-set_other w.connections d c x nobody (λ e. n (sym e))
 
-committed : (w : World) (d : ℕ) (sends : List SentMessage) (c : ℕ) → Stays w (commit_effect w d sends) c
-committed w d [] c = refl
-committed w d (first ∷ others) c = refl
-
-proposed : (w : World) (d : ℕ) (t : Topic) (o : Option ProposeFault) (c : ℕ) → Stays w (propose_effect w d t o) c
-proposed w d t None c = refl
-proposed w d t (Some fault) c = refl
-
-cancelled : (w : World) (d : ℕ) (t : Topic) (o : Option Leftover) (c : ℕ) → Stays w (cancel_effect w d t o) c
-cancelled w d t None c = refl
-cancelled w d t (Some k) c = refl
-
-learnt : (w : World) (t : Topic) (id : TxnId) (o : Option Decision) (c : ℕ) → Stays w (learn_effect w t id o) c
-learnt w t id None c = refl
-learnt w t id (Some v) c = refl
-
-closed : (w : World) (s : ℕ) (o : Option Entry) (c : ℕ) → Stays w (close_effect_of w s o) c
-closed w s None c = refl
-closed w s (Some e) c = refl
-
-left : (w : World) (d : ℕ) (o : Option ℕ) (c : ℕ) → d ≢ c → Stays w (leave_effect w d o) c
-left w d None c n = shut w c d (record { sender = (connection_at w d).sender; standing = Standing.Gone }) n
-left w d (Some s) c n = closed w s (entry_at w s) c
-
-taken : (w : World) (s : ℕ) (o : Option Item) (c : ℕ) → (subscription_at w s).connection ≢ c → Stays w (take_effect w s o) c
-taken w s None c n =
-    let d = (subscription_at w s).connection in
-    shut w c d (record { sender = (connection_at w d).sender; standing = Standing.Leaving }) n
-taken w s (Some item) c n = refl
-
 leaving : (w : World) (d c : ℕ) → d ≢ c → Stays w (record w { connections = set w.connections d (record { sender = (connection_at w d).sender; standing = Standing.Leaving }) }) c
 leaving w d c n = shut w c d (record { sender = (connection_at w d).sender; standing = Standing.Leaving }) n
 
-effect_stays : (w : World) (mv : Move) (c : ℕ) → Apart w mv c → Stays w (move_effect w mv) c
-effect_stays w Opens c n = pushed w.connections (record { sender = None; standing = Standing.Open }) c n
-effect_stays w (Connects d claimed) c n = shut w c d _ n
-effect_stays w (Commits d sends) c n = committed w d sends c
-effect_stays w (Unsubscribes d s) c n = closed w s (entry_at w s) c
-effect_stays w (Disconnects d) c n = leaving w d c n
-effect_stays w (Errs d) c n = leaving w d c n
-effect_stays w (Lost d) c n = leaving w d c n
-effect_stays w (Leaves d) c n = left w d (oldest_live d 0 w.subscriptions) c n
-effect_stays w (Proposes d t memory) c n = proposed w d t (proposal_fault w d t memory) c
-effect_stays w (Withdraws d) c n = leaving w d c n
-effect_stays w (Cancels d t) c n = cancelled w d t (find_leftover t (speaker w d).leftovers) c
-effect_stays w (Learns t id) c n = learnt w t id (find_verdict id w.verdicts) c
-effect_stays w (Takes s) c n = taken w s (slice_get (accepted_at w s) (subscription_at w s).taken) c n
-effect_stays w _ c n = refl
+effect_stays : (w : World) (mv : Move) (c : ℕ) → Apart w mv c → InEachCase (λ v o. Stays w v c) w mv
+effect_stays w Opens c n = let new : Connection = record { sender = None; standing = Standing.Open } in (pushed w.connections new c n, λ k. pushed w.connections new c n)
+effect_stays w (Connects d claimed) c n = (shut w c d _ n, λ k. shut w c d _ n)
+effect_stays w (Disconnects d) c n = (leaving w d c n, λ k. leaving w d c n)
+effect_stays w (Errs d) c n = (leaving w d c n, λ k. leaving w d c n)
+effect_stays w (Lost d) c n = (leaving w d c n, λ k. leaving w d c n)
+effect_stays w (Leaves d) c n = (shut w c d _ n, λ s. by_entry (λ v. Stays w v c) w s refl (λ k. refl))
+effect_stays w (Withdraws d) c n = (leaving w d c n, λ k. leaving w d c n)
+effect_stays w (Takes s) c n = (leaving w (subscription_at w s).connection c n, λ k. refl)
+effect_stays w _ c n = (refl, λ k. refl)
 
 move_stays : (w : World) (mv : Move) (c : ℕ) → Apart w mv c → Stays w (world_after w mv) c
-move_stays w mv c n = by_refusal (λ v o. Stays w v c) w mv (λ why. refl) (λ k. effect_stays w mv c n)
+move_stays w mv c n = by_refusal (λ v o. Stays w v c) w mv (λ why. refl) (λ k. by_found (λ v o. Stays w v c) w mv (effect_stays w mv c n))
 
 -- ---- the moves of an event
 

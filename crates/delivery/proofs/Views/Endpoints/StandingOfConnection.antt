@@ -1,14 +1,12 @@
 -- How each move changes the connections: one more is open, one isn't open any more, or none is changed. So a
 -- connection is closed where its standing says so, and never opens again.
-use Rattle.std.proofs.Common.{◌≡◌, ◌≢◌, ℕ, ◌<◌, ◌≤◌, ◌==◌, Bool, true, false, not, ◌||◌, ◌⊎◌, inl, inr, List, [], ◌∷◌, ◌++◌, length, get_or, set, Option, Some, None, refl, sym, ap, subst, ◌∙◌, arith}
-use Rattle.delivery.proofs.Words.Std.{eqb-true, eq-eqb, false≢true, or_parts, not-false, cases_lt, length_push}
-use Rattle.delivery.proofs.Words.Topics.{Topic, TxnId, SentMessage, Decision, Item, ProposeFault, Pending, Entry, due_part}
+use Rattle.delivery.proofs.Words.Std.{◌≡◌, ◌≢◌, ℕ, ◌<◌, ◌≤◌, ◌==◌, Bool, true, false, not, ◌||◌, ◌⊎◌, inl, inr, List, [], ◌∷◌, ◌++◌, length, get_or, set, Some, None, refl, sym, ap, subst, ◌∙◌, arith, eqb-true, eq-eqb, false≢true, or_parts, not-false, cases_lt, length_push}
 use Rattle.delivery.proofs.Words.Lemmas.{at_set, at_set_within, not_true}
-use Rattle.delivery.proofs.Words.Machine.{World, Connection, Leftover, Standing, is_reading, nobody, topic_at, subscription_at, speaker, entry_at, Move, Answer, world_after, answer_to, move_refusal, move_effect, move_answer, find_leftover, find_verdict, oldest_live, commit_effect, commit_answer, proposal_fault, propose_effect, propose_answer, cancel_effect, cancel_answer, learn_effect, release_answer, take_effect, take_answer, leave_effect, leave_answer, close_effect_of, run, Run, answers_of, final_world, closes}
+use Rattle.delivery.proofs.Words.Machine.{World, Connection, Standing, is_reading, nobody, subscription_at, Move, Answer, world_after, answer_to, move_refusal, move_effect, move_answer, leave_answer, run, Run, answers_of, final_world, closes, Opens, Connects, Disconnects, Errs, Lost, Leaves, Withdraws, Takes}
 use Rattle.delivery.proofs.Words.Core.{has_closed}
-use Rattle.delivery.specs.Machine.Moves.Move.{Opens, Connects, Commits, Unsubscribes, Disconnects, Errs, Lost, Leaves, Proposes, Withdraws, Cancels, Learns, Releases, Takes}
 use Rattle.delivery.proofs.Machine.SubscriptionSteps.{at_old, set_length, beyond}
 use Rattle.delivery.proofs.Machine.InvariantIsKept.{by_refusal, checked}
+use Rattle.delivery.proofs.Machine.ByFound.{InEachCase, by_found, by_entry}
 use Rattle.delivery.proofs.Core.ByRun.{by_run}
 use Rattle.delivery.proofs.Core.Speaking.{open_in}
 use Rattle.delivery.proofs.Core.AccountOfRun.{spoken}
@@ -77,61 +75,34 @@ differ c d n = not_true (c == d) refl (λ e. n (eqb-true c d e))
 
 -- ---- each move
 
-flown : (w : World) (c : ℕ) (sends : List SentMessage) → Stands w.connections (commit_effect w c sends).connections (commit_answer w c sends)
-flown w c [] = stay w.connections _ (λ d. refl)
-flown w c (first ∷ others) = stay w.connections _ (λ d. refl)
+abbrev After : World → Move → Type 0
+After w e = Stands w.connections (move_effect w e).connections (move_answer w e)
 
-proposed : (w : World) (c : ℕ) (t : Topic) (o : Option ProposeFault) → Stands w.connections (propose_effect w c t o).connections (propose_answer w c t o)
-proposed w c t None = stay w.connections _ (λ d. refl)
-proposed w c t (Some fault) = stay w.connections _ (λ d. refl)
-
-cancelled : (w : World) (c : ℕ) (t : Topic) (o : Option Leftover) → Stands w.connections (cancel_effect w c t o).connections (cancel_answer t o)
-cancelled w c t None = stay w.connections _ (λ d. refl)
-cancelled w c t (Some k) = stay w.connections _ (λ d. refl)
-
-learned : (w : World) (t : Topic) (id : TxnId) (o : Option Decision) → (a : Answer) → ClosesNone a → Stands w.connections (learn_effect w t id o).connections a
-learned w t id None a n = stay w.connections a n
-learned w t id (Some v) a n = stay w.connections a n
-
-closed : (w : World) (s : ℕ) (o : Option Entry) → (a : Answer) → ClosesNone a → Stands w.connections (close_effect_of w s o).connections a
-closed w s None a n = stay w.connections a n
-closed w s (Some e) a n = stay w.connections a n
-
-gone : (w : World) (c : ℕ) (o : Option ℕ) → c < length w.connections → Stands w.connections (leave_effect w c o).connections (leave_answer w c o)
-gone w c None l = shuts w.connections c _ _ l refl (λ d n. refl)
-gone w c (Some s) l = closed w s (entry_at w s) _ (λ d. refl)
-
-released : (w : World) (t : Topic) (o : Option Pending) → Stands w.connections w.connections (release_answer t o)
-released w t None = stay w.connections _ (λ d. refl)
-released w t (Some p) = stay w.connections _ (λ d. refl)
-
-taken : (w : World) (s : ℕ) (o : Option Item) → (subscription_at w s).connection < length w.connections → Stands w.connections (take_effect w s o).connections (take_answer w s o)
-taken w s None l = shuts w.connections _ _ _ l refl (λ d n. differ _ d n)
-taken w s (Some item) l = stay w.connections _ (λ d. refl)
-
-happens : (w : World) (e : Move) → move_refusal w e ≡ None → Stands w.connections (move_effect w e).connections (move_answer w e)
-happens w Opens n = inr (inr (inl (record { new = record { sender = None; standing = Standing.Open }; pushed = refl; none = λ d. refl })))
-happens w (Connects c claimed) n = inr (inr (inr (record { number = c; new = _; set_to = refl; standing = refl; none = λ d. refl })))
-happens w (Commits c sends) n = flown w c sends
-happens w (Unsubscribes c s) n = closed w s (entry_at w s) _ (λ d. refl)
-happens w (Disconnects c) n = shuts w.connections c _ _ (connection_there w c (checked w (Disconnects c) n).0) refl (λ d k. differ c d k)
-happens w (Errs c) n = shuts w.connections c _ _ (connection_there w c (checked w (Errs c) n).0) refl (λ d k. differ c d k)
-happens w (Lost c) n = shuts w.connections c _ _ (connection_there w c (checked w (Lost c) n).0) refl (λ d k. differ c d k)
-happens w (Leaves c) n = gone w c (oldest_live c 0 w.subscriptions) (connection_there w c (checked w (Leaves c) n).0)
-happens w (Proposes c t memory) n = proposed w c t (proposal_fault w c t memory)
-happens w (Withdraws c) n = shuts w.connections c _ _ (connection_there w c (checked w (Withdraws c) n).0) refl (λ d k. differ c d k)
-happens w (Cancels c t) n = cancelled w c t (find_leftover t (speaker w c).leftovers)
-happens w (Learns t id) n = learned w t id (find_verdict id w.verdicts) _ (λ d. refl)
-happens w (Releases t) n = released w t (due_part (topic_at w t))
+happens : (w : World) (e : Move) → move_refusal w e ≡ None → InEachCase (λ v o. Stands w.connections v.connections o) w e
+happens w Opens n =
+    let h : After w Opens = inr (inr (inl (record { new = record { sender = None; standing = Standing.Open }; pushed = refl; none = λ d. refl }))) in (h, λ k. h)
+happens w (Connects c claimed) n =
+    let h : After w (Connects c claimed) = inr (inr (inr (record { number = c; new = _; set_to = refl; standing = refl; none = λ d. refl }))) in (h, λ k. h)
+happens w (Disconnects c) n =
+    let h : After w (Disconnects c) = shuts w.connections c _ _ (connection_there w c (checked w (Disconnects c) n).0) refl (λ d k. differ c d k) in (h, λ k. h)
+happens w (Errs c) n = let h : After w (Errs c) = shuts w.connections c _ _ (connection_there w c (checked w (Errs c) n).0) refl (λ d k. differ c d k) in (h, λ k. h)
+happens w (Lost c) n = let h : After w (Lost c) = shuts w.connections c _ _ (connection_there w c (checked w (Lost c) n).0) refl (λ d k. differ c d k) in (h, λ k. h)
+happens w (Leaves c) n = (
+  shuts w.connections c _ _ (connection_there w c (checked w (Leaves c) n).0) refl (λ d k. refl),
+  λ s. by_entry (λ v. Stands w.connections v.connections (leave_answer w c (Some s))) w s (stay w.connections _ (λ d. refl)) (λ k. stay w.connections _ (λ d. refl)),
+)
+happens w (Withdraws c) n =
+    let h : After w (Withdraws c) = shuts w.connections c _ _ (connection_there w c (checked w (Withdraws c) n).0) refl (λ d k. differ c d k) in (h, λ k. h)
 happens w (Takes s) n =
-    let k = checked w (Takes s) n in
     let c = (subscription_at w s).connection in
-    taken w s _ (open_there w.connections c (not-false (open_in w.connections c) (or_parts _ _ k.1.0).1))
-happens w _ n = stay w.connections _ (λ d. refl)
+    let l = open_there w.connections c (not-false (open_in w.connections c) (or_parts _ _ (checked w (Takes s) n).1.0).1) in
+    (shuts w.connections c _ _ l refl (λ d k. differ c d k), λ k. stay w.connections _ (λ d. refl))
+happens w _ n = (stay w.connections _ (λ d. refl), λ k. stay w.connections _ (λ d. refl))
 
 -- each move changes connections so
 pub stands_after : (w : World) (e : Move) → Stands w.connections (world_after w e).connections (answer_to w e)
-stands_after w e = by_refusal (λ v o. Stands w.connections v.connections o) w e (λ why. stay w.connections _ (λ d. refl)) (λ n. happens w e n)
+stands_after w e = by_refusal (λ v o. Stands w.connections v.connections o) w e (λ why. stay w.connections _ (λ d. refl))
+    (λ n. by_found (λ v o. Stands w.connections v.connections o) w e (happens w e n))
 
 -- ---- there are never fewer, and none opens again
 

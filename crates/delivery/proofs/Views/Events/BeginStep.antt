@@ -1,6 +1,5 @@
 -- A transaction that begins.
-use Rattle.std.proofs.Common.{◌≡◌, ℕ, ◌+◌, ◌<◌, ◌≤◌, nat_lt, true, List, [], ◌∷◌, ◌++◌, length, get_or, set, Option, Some, None, refl, sym, ap, ◌∙◌, arith}
-use Rattle.delivery.proofs.Words.Std.{lt-ltb}
+use Rattle.delivery.proofs.Words.Std.{◌≡◌, ℕ, ◌+◌, ◌<◌, ◌≤◌, nat_lt, true, List, [], ◌∷◌, ◌++◌, length, get_or, set, Option, Some, None, refl, sym, ap, ◌∙◌, arith, lt-ltb}
 use Rattle.delivery.proofs.Words.Topics.{SentMessage, Decision, last_number}
 use Rattle.delivery.proofs.Words.Frames.{RawFrame, Unread}
 use Rattle.delivery.proofs.Words.Machine.{World, Undecided, SenderState, Standing, is_reading, connection_at, sender_at, speaker, with_sender, speaker_number, find_verdict, next_txn, commit_effect}

@@ -1,6 +1,5 @@
 -- A ticket is cancelled.
-use Rattle.std.proofs.Common.{◌≡◌, ℕ, suc, ◌+◌, ◌<◌, ◌==◌, Bool, true, false, cond, not, ◌&&◌, nat_lt, List, [], ◌∷◌, map, length, get_or, set, Option, Some, None, Result, Ok, Err, inl, inr, refl, sym, ap, subst, ◌∙◌, arith}
-use Rattle.delivery.proofs.Words.Std.{slice_get, lt-ltb, ltb-true, cases_Bool, append-nil, position, position_or_len, remove, is_some, option_or, option_map}
+use Rattle.delivery.proofs.Words.Std.{◌≡◌, ℕ, suc, ◌+◌, ◌<◌, ◌==◌, Bool, true, false, cond, not, ◌&&◌, nat_lt, List, [], ◌∷◌, map, length, get_or, set, Option, Some, None, Result, Ok, Err, inl, inr, refl, sym, ap, subst, ◌∙◌, arith, slice_get, lt-ltb, ltb-true, cases_Bool, append-nil, position, position_or_len, remove, is_some, option_or, option_map}
 use Rattle.delivery.proofs.Words.Topics.{Ticket, Topic, TxnId, Stamp, same_id, In, CancelFault, GroupState, result_of, Pending, cancel_fault, cancel_fault_of, after_cancel}
 use Rattle.delivery.proofs.Words.Lemmas.{id_itself, refusal_first, refusal_after, Waits, found_part, finds_part, none_some, some_same}
 use Rattle.delivery.proofs.Words.Machine.{Objection, refusal_of, World, Leftover, SenderState, topic_at, sender_at, speaker, with_sender, with_topic, speaker_number, Move, Answer, move_refusal, needs_connection, is_topic, find_leftover, drop_leftover, cancel_objection, cancel_objection_of, cancel_effect, cancel_answer, Run, final_world}

@@ -1,6 +1,5 @@
 -- A Next whose frame is a CONNECT: its connection speaks for the sender that it claims.
-use Rattle.std.proofs.Common.{◌≡◌, ◌≢◌, ℕ, ◌<◌, nat_lt, Bool, true, false, cond, not, List, [], ◌∷◌, ◌++◌, length, get_or, set, Option, Some, None, refl, sym, ap, subst, ◌∙◌, arith, append-nil}
-use Rattle.delivery.proofs.Words.Std.{flat_map, is_some, option_map, option_map_or, option_or, unwrap_or, lt-ltb, ltb-true, get_or-set_same, get_or-set_other, set-get_or}
+use Rattle.delivery.proofs.Words.Std.{◌≡◌, ◌≢◌, ℕ, ◌<◌, nat_lt, Bool, true, false, cond, not, List, [], ◌∷◌, ◌++◌, length, get_or, set, Option, Some, None, refl, sym, ap, subst, ◌∙◌, arith, append-nil, flat_map, is_some, option_map, option_map_or, option_or, unwrap_or, lt-ltb, ltb-true, get_or-set_same, get_or-set_other, set-get_or}
 use Rattle.delivery.proofs.Words.Topics.{first_refusal, GateState, SendersState, after_claim, claim_refusal, claimed_gate, new_gate}
 use Rattle.delivery.proofs.Words.Frames.{is_connect, RawFrame, Unread, connected_frame, spelling_of, client_of}
 use Rattle.delivery.proofs.Words.Lemmas.{some_same, none_some, not_true}

@@ -1,6 +1,5 @@
 -- Events of a connection that isn't gone: the checks that they begin with, a refused one, and one that replies.
-use Rattle.std.proofs.Common.{◌≡◌, ℕ, ◌<◌, Bool, true, false, cond, not, nat_lt, List, [], ◌∷◌, length, get_or, Option, Some, None, inl, inr, refl, sym, ap, subst, ◌∙◌}
-use Rattle.delivery.proofs.Words.Std.{slice_get, ltb-true, ltb-false, cases_Bool, slice_get-get_or, slice_get_past, is_some, option_map, option_and_then, option_to_list}
+use Rattle.delivery.proofs.Words.Std.{◌≡◌, ℕ, ◌<◌, Bool, true, false, cond, not, nat_lt, List, [], ◌∷◌, length, get_or, Option, Some, None, inl, inr, refl, sym, ap, subst, ◌∙◌, slice_get, ltb-true, ltb-false, cases_Bool, slice_get-get_or, slice_get_past, is_some, option_map, option_and_then, option_to_list}
 use Rattle.delivery.proofs.Words.Topics.{In, first_refusal}
 use Rattle.delivery.proofs.Words.Frames.{RawFrame, Unread}
 use Rattle.delivery.proofs.Words.Lemmas.{none_some, some_same}

@@ -1,6 +1,5 @@
 -- A transaction is decided.
-use Rattle.std.proofs.Common.{◌≡◌, ◌≢◌, ℕ, zero, suc, ◌-◌, ◌<◌, ◌==◌, Bool, true, false, cond, not, ◌&&◌, ◌||◌, List, [], ◌∷◌, ◌++◌, map, length, get_or, set, Option, Some, None, refl, sym, ap, ◌∙◌}
-use Rattle.delivery.proofs.Words.Std.{slice_get, eq-eqb, lt-ltb, map-append, append-nil, set-get_or, list_any, list_all, flat_map, is_some, option_map, option_map_or, option_and_then}
+use Rattle.delivery.proofs.Words.Std.{◌≡◌, ◌≢◌, ℕ, zero, suc, ◌-◌, ◌<◌, ◌==◌, Bool, true, false, cond, not, ◌&&◌, ◌||◌, List, [], ◌∷◌, ◌++◌, map, length, get_or, set, Option, Some, None, refl, sym, ap, ◌∙◌, slice_get, eq-eqb, lt-ltb, map-append, append-nil, set-get_or, list_any, list_all, flat_map, is_some, option_map, option_map_or, option_and_then}
 use Rattle.delivery.proofs.Words.Topics.{Topic, TxnId, Stamp, Decision, row_at, first_refusal, LogRow, greatest, topics_of, ProposeFault}
 use Rattle.delivery.proofs.Words.Frames.{RawFrame, Unread, receipt_of, receipt_frame, spelling_of}
 use Rattle.delivery.proofs.Words.Lemmas.{refusal_first, refusal_after}

@@ -1,6 +1,5 @@
 -- A Next whose frame is accepted: its destination has its topic before anything else is done.
-use Rattle.std.proofs.Common.{◌≡◌, ℕ, Bool, true, false, cond, not, ◌&&◌, List, [], ◌∷◌, ◌++◌, map, length, Option, refl, sym, ap, subst, ◌∙◌}
-use Rattle.delivery.proofs.Words.Std.{codes, length-map, map-append}
+use Rattle.delivery.proofs.Words.Std.{◌≡◌, ℕ, Bool, true, false, cond, not, ◌&&◌, List, [], ◌∷◌, ◌++◌, map, length, Option, refl, sym, ap, subst, ◌∙◌, codes, length-map, map-append}
 use Rattle.delivery.proofs.Words.Topics.{In, GroupState, new_topic}
 use Rattle.delivery.proofs.Words.Frames.{RawFrame, Unread, field, has_destination, with_destination, is_known, IsKnownTo}
 use Rattle.delivery.proofs.Words.Lemmas.{state-later}

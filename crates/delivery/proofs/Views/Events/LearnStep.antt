@@ -1,6 +1,5 @@
 -- A topic learns the verdict of a transaction.
-use Rattle.std.proofs.Common.{◌≡◌, ◌<◌, ◌≤◌, ◌⊎◌, inl, inr, Bool, true, false, not, List, [], ◌∷◌, map, length, get_or, set, Option, Some, None, Result, Ok, Err, refl, sym, ap, subst, ◌∙◌}
-use Rattle.delivery.proofs.Words.Std.{option_or, lt-ltb, le-ltb, map-set, set-get_or}
+use Rattle.delivery.proofs.Words.Std.{◌≡◌, ◌<◌, ◌≤◌, ◌⊎◌, inl, inr, Bool, true, false, not, List, [], ◌∷◌, map, length, get_or, set, Option, Some, None, Result, Ok, Err, refl, sym, ap, subst, ◌∙◌, option_or, lt-ltb, le-ltb, map-set, set-get_or}
 use Rattle.delivery.proofs.Words.Topics.{Topic, TxnId, Decision, first_refusal, LearnFault, GroupState, result_of, learn_fault, after_try, after_learn, decided_stamp}
 use Rattle.delivery.proofs.Words.Machine.{Objection, World, topic_at, with_topic, Move, Answer, is_topic, find_verdict, verdict_in, learn_objection, learn_objection_of, learn_effect, move_refusal}
 use Rattle.delivery.proofs.Words.Core.{Event, Outcome, Refusal, Reading, Core}

@@ -1,8 +1,7 @@
 -- The steps of a connection's leaving.
-use Rattle.std.proofs.Common.{◌≡◌, ◌≢◌, ℕ, ◌+◌, ◌<◌, ◌≤◌, ◌==◌, nat_lt, Bool, true, false, cond, not, ◌&&◌, ◌||◌, ◌⊎◌, inl, inr, List, [], ◌∷◌, ◌++◌, length, get_or, set, Option, Some, None, refl, sym, ap, subst, ◌∙◌, arith}
-use Rattle.std.proofs.Common.{eq-eqb, filter}
-use Rattle.delivery.proofs.Words.Std.{slice_get, flat_map, is_some, option_map, option_map_or, option_and_then, option_or, option_to_list, unwrap_or, lt-ltb, ltb-true, ltb-false, false≢true, cases_Bool, cases_lt, slice_get-get_or, slice_get_past, append-nil, length-map, get_or-set_same, get_or-set_other}
-use Rattle.delivery.proofs.Words.Topics.{In, first_refusal, Stamp, ProposeFault}
+use Rattle.std.proofs.Common.{filter}
+use Rattle.delivery.proofs.Words.Std.{◌≡◌, ◌≢◌, ℕ, ◌+◌, ◌<◌, ◌≤◌, ◌==◌, nat_lt, Bool, true, false, cond, not, ◌&&◌, ◌||◌, ◌⊎◌, inl, inr, List, [], ◌∷◌, ◌++◌, length, get_or, set, Option, Some, None, refl, sym, ap, subst, ◌∙◌, arith, eq-eqb, slice_get, flat_map, is_some, option_map, option_map_or, option_and_then, option_or, option_to_list, unwrap_or, lt-ltb, ltb-true, ltb-false, false≢true, cases_Bool, cases_lt, slice_get-get_or, slice_get_past, append-nil, length-map, get_or-set_same, get_or-set_other}
+use Rattle.delivery.proofs.Words.Topics.{In, first_refusal, Stamp}
 use Rattle.delivery.proofs.Words.Frames.{RawFrame, Unread, receipt_frame, spelling_of, is_disconnect}
 use Rattle.delivery.proofs.Words.Lemmas.{some_same, none_some}
 use Rattle.delivery.proofs.Words.Machine.{Objection, refusal_of, World, Undecided, SenderState, Connection, Subscription, Standing, nobody, new_sender, connection_at, sender_at, speaker, is_reading, is_gone, speaker_number, Move, Answer, move_refusal, move_refusals, oldest_live, is_live, leave_effect, leave_answer, close_effect, end_now, run}
@@ -29,13 +28,9 @@ busy_view s x =
     ap (λ (b : Bool). b || nat_lt 0 (length (sender_view s x).leftovers)) (undecided x.flight)
     ∙ ap (λ (n : ℕ). is_some x.flight || nat_lt 0 n) (length-map x.leftovers _)
   where
-    marked : (f : Undecided) (mark : Option ProposeFault) → is_undecided (undecided_view x.floor f mark) ≡ true
-    marked f None = refl
-    marked f (Some fault) = refl
-
     undecided : (flight : Option Undecided) → is_undecided (sending_view s x.seq x.floor flight) ≡ is_some flight
     undecided None = refl
-    undecided (Some f) = marked f f.mark
+    undecided (Some f) = elim f.mark as (λ mark. is_undecided (undecided_view x.floor f mark) ≡ true) [ None ↦ refl | Some fault ↦ refl ]
 
 -- of a sender that isn't there neither is
 sender_busy : (w : World) (s : ℕ)
@@ -160,15 +155,11 @@ leave_endpoint v c is = elim (cases_lt c (length v.endpoints)) [
 
 -- a closed subscription leaves as many endpoints
 pub oldest_endpoints : (v : View) (c : ℕ) → length (oldest_closed v c).endpoints ≡ length v.endpoints
-oldest_endpoints v c = go (oldest_in v c)
+oldest_endpoints v c = elim (oldest_in v c) as (λ o. length (option_map_or (λ s. closed_view s v) o v).endpoints ≡ length v.endpoints) [ None ↦ refl | Some s ↦ closed s (left_at s v) ]
   where
     closed : (s : ℕ) (left : Option LeftView) → length (closed_if_left s left v).endpoints ≡ length v.endpoints
     closed s None = refl
     closed s (Some left) = set_length v.endpoints (get_or v.subs s no_sub).connection _
-
-    go : (o : Option ℕ) → length (option_map_or (λ s. closed_view s v) o v).endpoints ≡ length v.endpoints
-    go None = refl
-    go (Some s) = closed s (left_at s v)
 
 -- a refused step changes nothing
 pub leave_refused : (k : Core) (c : ℕ) (why : Objection) (refusal : Refusal) → leave_objection (view_of k).senders (slice_get (view_of k).endpoints c) ≡ Some why

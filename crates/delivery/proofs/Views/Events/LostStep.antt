@@ -1,6 +1,5 @@
 -- The loss of a connection.
-use Rattle.std.proofs.Common.{◌≡◌, ℕ, true, ◌∷◌, get_or, set, Option, Some, None, refl, sym, ap, ◌∙◌}
-use Rattle.delivery.proofs.Words.Std.{slice_get, option_or, option_and_then}
+use Rattle.delivery.proofs.Words.Std.{◌≡◌, ℕ, true, ◌∷◌, get_or, set, Option, Some, None, refl, sym, ap, ◌∙◌, slice_get, option_or, option_and_then}
 use Rattle.delivery.proofs.Words.Frames.{RawFrame, receipt_of, is_disconnect}
 use Rattle.delivery.proofs.Words.Machine.{Objection, refusal_of, World, connection_at, is_reading, Move, Answer, move_refusal, with_leaving}
 use Rattle.delivery.proofs.Words.Core.{Event, Outcome, Refusal, Reading, accepted_of, Core}

@@ -1,6 +1,5 @@
 -- A Next that reads no whole frame, and one that ends its connection by an ERROR.
-use Rattle.std.proofs.Common.{◌≡◌, ℕ, ◌<◌, Bool, true, false, cond, inl, inr, List, [], ◌∷◌, ◌++◌, length, get_or, Option, Some, None, refl, sym, ap, subst, ◌∙◌, arith, ◌||◌}
-use Rattle.delivery.proofs.Words.Std.{Result, Ok, Err, flat_map, list_any, option_map, option_map_or, option_or, option_and_then, option_to_list, unwrap_or, append-nil, get_or-set_same, true≢false}
+use Rattle.delivery.proofs.Words.Std.{◌≡◌, ℕ, ◌<◌, Bool, true, false, cond, inl, inr, List, [], ◌∷◌, ◌++◌, length, get_or, Option, Some, None, refl, sym, ap, subst, ◌∙◌, arith, ◌||◌, Result, Ok, Err, flat_map, list_any, option_map, option_map_or, option_or, option_and_then, option_to_list, unwrap_or, append-nil, get_or-set_same, true≢false}
 use Rattle.delivery.proofs.Words.Topics.{first_refusal, In}
 use Rattle.delivery.proofs.Words.Frames.{CaseFault, RawFrame, Command, case_fault, is_connect, Unread, receipt_of, spelling_of, Step, SessionFault, Action, action_by, takes_memory, with_destination, Held, held_after, state_of, session_fault}
 use Rattle.delivery.proofs.Words.Machine.{Objection, refusal_of, World, Connection, Standing, nobody, connection_at, sender_at, speaker, is_gone, Move, needs_idle, move_refusal, with_leaving}

@@ -1,6 +1,5 @@
 -- A Next whose frame is accepted, and asks for nothing of the machine but that its connection ends.
-use Rattle.std.proofs.Common.{◌≡◌, ℕ, ◌<◌, Bool, true, false, cond, inl, List, [], ◌∷◌, ◌++◌, length, get_or, Option, Some, None, refl, sym, ap, subst, ◌∙◌}
-use Rattle.delivery.proofs.Words.Std.{codes, flat_map, option_map, option_map_or, option_or, option_and_then, option_to_list, unwrap_or, append-nil, get_or-set_same}
+use Rattle.delivery.proofs.Words.Std.{◌≡◌, ℕ, ◌<◌, Bool, true, false, cond, inl, List, [], ◌∷◌, ◌++◌, length, get_or, Option, Some, None, refl, sym, ap, subst, ◌∙◌, codes, flat_map, option_map, option_map_or, option_or, option_and_then, option_to_list, unwrap_or, append-nil, get_or-set_same}
 use Rattle.delivery.proofs.Words.Topics.{In, SentMessage, first_refusal}
 use Rattle.delivery.proofs.Words.Frames.{Command, RawFrame, is_connect, first_of, Unread, receipt_of, connected_frame, receipt_frame, spelling_of, Action, action_by, commit, with_destination, is_disconnect, send_of, transaction_of, Held, sends_in}
 use Rattle.delivery.proofs.Words.Lemmas.{In-append_left}

@@ -1,7 +1,6 @@
 -- A Next: the endpoint of its connection alone has another reader, session and text, and the rest is what the machine makes
 -- of it.
-use Rattle.std.proofs.Common.{◌≡◌, ◌≢◌, ℕ, ◌+◌, ◌<◌, ◌==◌, Bool, true, false, cond, inl, inr, List, [], ◌∷◌, ◌++◌, length, set, Option, Some, None, refl, sym, ap, subst, ◌∙◌, arith, eq-eqb}
-use Rattle.delivery.proofs.Words.Std.{flat_map, option_to_list, is_some, unwrap_or, eqb-true, ltb-true, or_parts, not-false, cases_Bool, append-nil, get_or-set_other, set-get_or}
+use Rattle.delivery.proofs.Words.Std.{◌≡◌, ◌≢◌, ℕ, ◌+◌, ◌<◌, ◌==◌, Bool, true, false, cond, inl, inr, List, [], ◌∷◌, ◌++◌, length, set, Option, Some, None, refl, sym, ap, subst, ◌∙◌, arith, eq-eqb, flat_map, option_to_list, is_some, unwrap_or, eqb-true, ltb-true, or_parts, not-false, cases_Bool, append-nil, get_or-set_other, set-get_or}
 use Rattle.delivery.proofs.Words.Topics.{first_refusal, In}
 use Rattle.delivery.proofs.Words.Frames.{RawFrame, Unread, spelling_of, held_after, state_of}
 use Rattle.delivery.proofs.Words.Lemmas.{passes}

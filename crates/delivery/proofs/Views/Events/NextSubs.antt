@@ -1,6 +1,5 @@
 -- A Next whose frame is a SUBSCRIBE or an UNSUBSCRIBE.
-use Rattle.std.proofs.Common.{◌≡◌, ◌≢◌, ℕ, ◌<◌, ◌||◌, Bool, true, false, cond, inl, inr, List, [], ◌∷◌, ◌++◌, length, get_or, Option, Some, None, codes, refl, sym, ap, subst, ◌∙◌, arith}
-use Rattle.delivery.proofs.Words.Std.{is_some, option_map, ltb-true, get_or-map, get_or-set_same, length-map}
+use Rattle.delivery.proofs.Words.Std.{◌≡◌, ◌≢◌, ℕ, ◌<◌, ◌||◌, Bool, true, false, cond, inl, inr, List, [], ◌∷◌, ◌++◌, length, get_or, Option, Some, None, codes, refl, sym, ap, subst, ◌∙◌, arith, is_some, option_map, ltb-true, get_or-map, get_or-set_same, length-map}
 use Rattle.delivery.proofs.Words.Topics.{In, Topic, Stamp, SubFault, Entry, find_entry, new_topic, subscribe_fault}
 use Rattle.delivery.proofs.Words.Frames.{Command, RawFrame, first_of, Unread, action_by, has_destination, id_of, is_disconnect, is_subscribe, transaction_of, wants_parts, Held, held_after, is_ended, state_of, sends_in}
 use Rattle.delivery.proofs.Words.Lemmas.{some_same, begins_at, ends, sent_subscribes, committed_subscribes}

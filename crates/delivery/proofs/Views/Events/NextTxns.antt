@@ -1,6 +1,5 @@
 -- A Next whose frame commits a transaction.
-use Rattle.std.proofs.Common.{◌≡◌, ℕ, ◌≤◌, Bool, true, false, cond, not, nat_lt, ◌&&◌, List, [], ◌∷◌, ◌++◌, length, Option, Some, None, refl, sym, ap, subst, ◌∙◌}
-use Rattle.delivery.proofs.Words.Std.{list_all, last_or, option_or, is_some, append-nil}
+use Rattle.delivery.proofs.Words.Std.{◌≡◌, ℕ, ◌≤◌, Bool, true, false, cond, not, nat_lt, ◌&&◌, List, [], ◌∷◌, ◌++◌, length, Option, Some, None, refl, sym, ap, subst, ◌∙◌, list_all, last_or, option_or, is_some, append-nil}
 use Rattle.delivery.proofs.Words.Topics.{first_refusal, SentMessage, TxnId, last_number}
 use Rattle.delivery.proofs.Words.Frames.{RawFrame, Unread, Action}
 use Rattle.delivery.proofs.Words.Machine.{Objection, World, is_gone, connection_at, speaker, speaker_number, Move, commit_effect, is_topic, move_refusal, needs_idle, next_txn}

@@ -1,7 +1,5 @@
 -- Steps of one move, and a refused one.
-use Rattle.std.proofs.Common.{◌≡◌, ◌≢◌, ℕ, ◌+◌, ◌<◌, ◌≤◌, Bool, true, false, not, nat_lt, List, [], ◌∷◌, ◌++◌, length, get_or, set, Option, Some, None, refl, sym, ap, ◌∙◌, arith}
-use Rattle.std.proofs.Common.{inl, inr}
-use Rattle.delivery.proofs.Words.Std.{slice_get, ltb-true, ltb-false, cases_Bool, slice_get-get_or, slice_get_past, option_map, option_to_list, unwrap_or, get_or-set_same, get_or-set_other, set-get_or}
+use Rattle.delivery.proofs.Words.Std.{◌≡◌, ◌≢◌, ℕ, ◌+◌, ◌<◌, ◌≤◌, Bool, true, false, not, nat_lt, List, [], ◌∷◌, ◌++◌, length, get_or, set, Option, Some, None, refl, sym, ap, ◌∙◌, arith, inl, inr, slice_get, ltb-true, ltb-false, cases_Bool, slice_get-get_or, slice_get_past, option_map, option_to_list, unwrap_or, get_or-set_same, get_or-set_other, set-get_or}
 use Rattle.delivery.proofs.Words.Topics.{In, first_refusal}
 use Rattle.delivery.proofs.Words.Frames.{RawFrame, Unread}
 use Rattle.delivery.proofs.Words.Machine.{Objection, refusal_of, World, Undecided, Connection, Standing, nobody, new_sender, connection_at, sender_at, speaker, is_reading, is_gone, Move, Answer, move_refusal, answer_to, needs_open, with_leaving, run}

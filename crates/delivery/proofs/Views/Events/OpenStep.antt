@@ -1,6 +1,5 @@
 -- A connection that is opened.
-use Rattle.std.proofs.Common.{◌≡◌, ℕ, zero, suc, ◌+◌, ◌<◌, List, [], ◌∷◌, ◌++◌, length, get_or, inl, inr, refl, sym, ap, ◌∙◌, arith, None}
-use Rattle.delivery.proofs.Words.Std.{get_or_append_left, unwrap_or}
+use Rattle.delivery.proofs.Words.Std.{◌≡◌, ℕ, zero, suc, ◌+◌, ◌<◌, List, [], ◌∷◌, ◌++◌, length, get_or, inl, inr, refl, sym, ap, ◌∙◌, arith, None, get_or_append_left, unwrap_or}
 use Rattle.delivery.proofs.Words.Machine.{Connection, Standing, nobody, new_sender, connection_at, sender_at, speaker_number, speaks_for, Move, move_effect}
 use Rattle.delivery.proofs.Words.Core.{Event, Outcome, Reading, accepted_of, text_out, Core, unread_at, names_at, each_number}
 use Rattle.delivery.proofs.Words.Views.{Makes, step_of, view_of, stage_view, endpoint_view, with_new_endpoint}

@@ -1,6 +1,5 @@
 -- Octets that a connection is fed.
-use Rattle.std.proofs.Common.{◌≡◌, ◌≢◌, ℕ, ◌+◌, ◌==◌, Bool, true, false, ◌&&◌, cond, List, [], ◌∷◌, get_or, set, Option, Some, None, inl, inr, refl, sym, ap, ◌∙◌, arith, eq-eqb}
-use Rattle.delivery.proofs.Words.Std.{slice_get, option_map, option_to_list, eqb-true, cases_Bool, append-nil, set-get_or}
+use Rattle.delivery.proofs.Words.Std.{◌≡◌, ◌≢◌, ℕ, ◌+◌, ◌==◌, Bool, true, false, ◌&&◌, cond, List, [], ◌∷◌, get_or, set, Option, Some, None, inl, inr, refl, sym, ap, ◌∙◌, arith, eq-eqb, slice_get, option_map, option_to_list, eqb-true, cases_Bool, append-nil, set-get_or}
 use Rattle.delivery.proofs.Words.Topics.{first_refusal}
 use Rattle.delivery.proofs.Words.Frames.{RawFrame, Unread, with_piece}
 use Rattle.delivery.proofs.Words.Machine.{Objection, refusal_of, Undecided, Connection, Standing, nobody, connection_at, speaker, is_reading, needs_open}

@@ -1,6 +1,5 @@
 -- A transaction is proposed at a topic.
-use Rattle.std.proofs.Common.{◌≡◌, ℕ, ◌<◌, ◌==◌, Bool, true, false, cond, not, ◌&&◌, ◌||◌, nat_lt, List, [], ◌∷◌, ◌++◌, map, length, get_or, set, Option, Some, None, Result, Ok, Err, is_ok, inl, inr, refl, sym, ap, subst, ◌∙◌, arith}
-use Rattle.delivery.proofs.Words.Std.{slice_get, and_parts, eq-eqb, lt-ltb, ltb-true, cases_Bool, append-nil, get_or_default, length-map, set-get_or, is_some, option_or, option_and_then}
+use Rattle.delivery.proofs.Words.Std.{◌≡◌, ℕ, ◌<◌, ◌==◌, Bool, true, false, cond, not, ◌&&◌, ◌||◌, nat_lt, List, [], ◌∷◌, ◌++◌, map, length, get_or, set, Option, Some, None, Result, Ok, Err, is_ok, inl, inr, refl, sym, ap, subst, ◌∙◌, arith, slice_get, and_parts, eq-eqb, lt-ltb, ltb-true, cases_Bool, append-nil, get_or_default, length-map, set-get_or, is_some, option_or, option_and_then}
 use Rattle.delivery.proofs.Words.Topics.{Ticket, Topic, Stamp, row_at, first_refusal, In, part_at, Slots, slot_at, held_at, with_slot, names, TopicPart, topics_of, ProposeFault, GroupState, TopicState, next_number, propose_fault, after_propose, FlightState}
 use Rattle.delivery.proofs.Words.Lemmas.{In-append_left, id_itself, refusal_first, refusal_after, none_some, some_same}
 use Rattle.delivery.proofs.Words.Machine.{Objection, refusal_of, World, Undecided, SenderState, topic_at, sender_at, speaker, is_in_use, with_sender, with_topic, speaker_number, Move, Answer, move_refusal, needs_connection, is_topic, has_ticket, insert_ticket, undecided_or_none, undecided_at, next_ticket, proposal_fault, or_out_of_memory, propose_effect, propose_answer}
@@ -17,11 +16,10 @@ use Rattle.delivery.specs.Inner.View.{flight_view}
 use Rattle.delivery.proofs.Machine.Effects.{made_world, made_answer}
 use Rattle.delivery.proofs.Theorem.AcceptedIsDue.{reached}
 use Rattle.delivery.proofs.Views.Events.DecideStep.{flying_is}
-use Rattle.delivery.proofs.Views.Runs.ByRunOfCore.{by_world}
+use Rattle.delivery.proofs.Views.Runs.ByRunOfCore.{by_world, speaks_of}
 use Rattle.delivery.proofs.Views.Endpoints.EndpointsStay.{IsQuiet, none_named, quiet_view}
 use Rattle.delivery.proofs.Views.Events.ReleaseStep.{group_at}
 use Rattle.delivery.proofs.Views.Lists.ByNumber.{length-each_number}
-use Rattle.delivery.proofs.Views.Runs.ByRunOfCore.{speaks_of}
 use Rattle.delivery.proofs.Views.Senders.HeldSenders.{unused_rests}
 use Rattle.delivery.proofs.Views.Senders.SenderChanges.{held_of, sender_of, speaker_of, sender_of_endpoint}
 use Rattle.delivery.proofs.Views.Senders.SameSeqAndReceipt.{sender_quiet, topic_quiet}
@@ -328,11 +326,7 @@ takes_by t s seq floor y part (Some f) e is = go f.mark e is
 
 floor_by : (s seq : ℕ) (floor : Stamp) (o : Option Undecided) → (gate_of (sending_view s seq floor o)).floor ≡ floor
 floor_by s seq floor None = refl
-floor_by s seq floor (Some f) = go f.mark
-  where
-    go : (m : Option ProposeFault) → (gate_of (undecided_view floor f m)).floor ≡ floor
-    go None = refl
-    go (Some fault) = refl
+floor_by s seq floor (Some f) = elim f.mark as (λ m. (gate_of (undecided_view floor f m)).floor ≡ floor) [ None ↦ refl | Some fault ↦ refl ]
 
 -- a sender that has a part is in use
 part_held : (k : Core) (s : ℕ) (t : Topic) (part : TopicPart) → IsReached k → s < length k.world.senders

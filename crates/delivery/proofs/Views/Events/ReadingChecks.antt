@@ -1,7 +1,6 @@
 -- What stands against reading a frame of a connection.
-use Rattle.std.proofs.Common.{◌≡◌, ℕ, ◌+◌, ◌<◌, ◌≤◌, Bool, true, false, not, nat_lt, cond, ◌||◌, inl, inr, List, [], ◌∷◌, length, get_or, Option, Some, None, refl, sym, ap, ◌∙◌, arith}
-use Rattle.delivery.proofs.Words.Std.{slice_get, is_some, option_or, unwrap_or, ltb-true, ltb-false, cases_Bool, cases_lt, slice_get-get_or, slice_get_past, get_or_default}
-use Rattle.delivery.proofs.Words.Topics.{first_refusal, Stamp, ProposeFault}
+use Rattle.delivery.proofs.Words.Std.{◌≡◌, ℕ, ◌+◌, ◌<◌, ◌≤◌, Bool, true, false, not, nat_lt, cond, ◌||◌, inl, inr, List, [], ◌∷◌, length, get_or, Option, Some, None, refl, sym, ap, ◌∙◌, arith, slice_get, is_some, option_or, unwrap_or, ltb-true, ltb-false, cases_Bool, cases_lt, slice_get-get_or, slice_get_past, get_or_default}
+use Rattle.delivery.proofs.Words.Topics.{first_refusal, Stamp}
 use Rattle.delivery.proofs.Words.Frames.{RawFrame, Unread}
 use Rattle.delivery.proofs.Words.Machine.{Objection, Undecided, SenderState, Standing, connection_at, sender_at, speaker, is_reading, is_gone, new_sender, speaker_number, needs_idle}
 use Rattle.delivery.proofs.Words.Core.{accepted_of, text_out, Core, unread_at, names_at, each_number}
@@ -51,13 +50,9 @@ idle_within v c free =
 
 -- ---- a core
 
-marked_is : (floor : Stamp) (f : Undecided) (mark : Option ProposeFault) → is_undecided (undecided_view floor f mark) ≡ true
-marked_is floor f None = refl
-marked_is floor f (Some fault) = refl
-
 flight_is : (s seq : ℕ) (floor : Stamp) (flight : Option Undecided) → is_undecided (sending_view s seq floor flight) ≡ is_some flight
 flight_is s seq floor None = refl
-flight_is s seq floor (Some f) = marked_is floor f f.mark
+flight_is s seq floor (Some f) = elim f.mark as (λ mark. is_undecided (undecided_view floor f mark) ≡ true) [ None ↦ refl | Some fault ↦ refl ]
 
 -- a sender of the view has an undecided transaction where that of the machine has
 pub sending_is : (k : Core) (s : ℕ) → is_sending (slice_get (view_of k).senders s) ≡ is_some (sender_at k.world s).flight

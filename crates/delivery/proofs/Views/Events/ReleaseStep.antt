@@ -1,6 +1,5 @@
 -- A release of a topic's group.
-use Rattle.std.proofs.Common.{◌≡◌, ℕ, ◌<◌, Bool, true, false, nat_lt, List, [], ◌∷◌, map, length, get_or, set, Option, Some, None, inl, inr, refl, sym, ap, subst, ◌∙◌, ◌≤◌, arith}
-use Rattle.delivery.proofs.Words.Std.{is_some, option_or, option_map, lt-ltb, ltb-true, cases_Bool, get_or-map, map-set, set-get_or}
+use Rattle.delivery.proofs.Words.Std.{◌≡◌, ℕ, ◌<◌, Bool, true, false, nat_lt, List, [], ◌∷◌, map, length, get_or, set, Option, Some, None, inl, inr, refl, sym, ap, subst, ◌∙◌, ◌≤◌, arith, not, is_some, option_or, option_map, lt-ltb, ltb-true, cases_Bool, get_or-map, map-set, set-get_or, length-map}
 use Rattle.delivery.proofs.Words.Topics.{In, TxnId, Gauge, takes_of, GroupState, TopicState, Entry, Pending, new_topic, after_release, due_part, item_of, entry_after, first_refusal, Topic}
 use Rattle.delivery.proofs.Words.Lemmas.{after_release_if, delivered_by}
 use Rattle.delivery.proofs.Words.Machine.{Objection, World, topic_at, with_topic, Move, Answer, move_refusal, queue_has_room, release_answer}
@@ -8,7 +7,6 @@ use Rattle.delivery.proofs.Words.Core.{Event, Outcome, Refusal, Reading, Core}
 use Rattle.delivery.proofs.Words.Views.{Makes, step_of, View, view_of, view_after, group_view, no_group, queue_gauge}
 use Rattle.mcast_group.specs.Counted.{takes_in}
 use Rattle.mcast_group.specs.Group.{group_after_release}
-use Rattle.std.proofs.Common.{not}
 use Rattle.delivery.proofs.Machine.Effects.{made_world, made_answer}
 use Rattle.delivery.proofs.Views.Lists.ByNumber.{map_alike}
 use Rattle.delivery.proofs.Machine.QueueSteps.{Goes, release_goes}
@@ -56,6 +54,10 @@ released_group w x =
 pub group_at : (k : Core) (t : Topic) (d : GroupState) → t.0 < length k.world.topics
     → get_or (view_of k).groups t.0 d ≡ group_view k.world (topic_at k.world t)
 group_at k t d there = get_or-map (group_view k.world) k.world.topics t.0 (new_topic t 0 0) d there
+
+-- as many groups are held as there are topics
+pub topics_held : (k : Core) (groups : List GroupState) → groups ≡ (view_of k).groups → length groups ≡ length k.world.topics
+topics_held k groups is = ap (λ (gs : List GroupState). length gs) is ∙ length-map k.world.topics (group_view k.world)
 
 -- ---- the event
 

@@ -1,6 +1,5 @@
 -- A take of a subscription.
-use Rattle.std.proofs.Common.{◌≡◌, ◌≢◌, ℕ, ◌<◌, ◌≤◌, ◌==◌, Bool, true, false, cond, not, nat_lt, ◌&&◌, ◌||◌, inl, inr, List, [], ◌∷◌, ◌++◌, map, length, get_or, set, Option, Some, None, refl, sym, ap, subst, ◌∙◌, arith, eq-eqb}
-use Rattle.delivery.proofs.Words.Std.{slice_get, flat_map, is_some, option_map, option_or, option_and_then, option_to_list, ltb-true, ltb-false, lt-ltb, le-ltb, or_parts, or_right, false≢true, not-false, cases_Bool, cases_lt, append-nil, get_or_past, slice_get-get_or, slice_get_past}
+use Rattle.delivery.proofs.Words.Std.{◌≡◌, ◌≢◌, ℕ, ◌<◌, ◌≤◌, ◌==◌, Bool, true, false, cond, not, nat_lt, ◌&&◌, ◌||◌, inl, inr, List, [], ◌∷◌, ◌++◌, map, length, get_or, set, Option, Some, None, refl, sym, ap, subst, ◌∙◌, arith, eq-eqb, slice_get, flat_map, is_some, option_map, option_or, option_and_then, option_to_list, ltb-true, ltb-false, lt-ltb, le-ltb, or_parts, or_right, false≢true, not-false, cases_Bool, cases_lt, append-nil, get_or_past, slice_get-get_or, slice_get_past}
 use Rattle.delivery.proofs.Words.Topics.{first_refusal, Item, group_after_take, GroupState, Entry, EntryEnd}
 use Rattle.delivery.proofs.Words.Frames.{RawFrame, receipt_of, error_frame, spelling_of}
 use Rattle.delivery.proofs.Words.Lemmas.{In-push, In-append_left, passes, some_same, none_some}

@@ -1,6 +1,5 @@
 -- A topic that an accepted frame makes, and its being taken back where the frame finds no memory.
-use Rattle.std.proofs.Common.{◌≡◌, ℕ, ◌-◌, ◌<◌, Bool, true, false, cond, not, ◌&&◌, List, [], ◌∷◌, ◌++◌, length, refl, sym, ap, ◌∙◌, arith}
-use Rattle.delivery.proofs.Words.Std.{codes, nat_lt, take, Option, false≢true, lt-ltb, ltb-true, and_parts, length-append, length-map}
+use Rattle.delivery.proofs.Words.Std.{◌≡◌, ℕ, ◌-◌, ◌<◌, Bool, true, false, cond, not, ◌&&◌, List, [], ◌∷◌, ◌++◌, length, refl, sym, ap, ◌∙◌, arith, codes, nat_lt, take, Option, false≢true, lt-ltb, ltb-true, and_parts, length-append, length-map}
 use Rattle.delivery.proofs.Words.Frames.{Command, RawFrame, is_connect, Unread, Action, takes_memory, field, has_destination, with_destination, is_known, max_topics, Held}
 use Rattle.delivery.proofs.Words.Core.{Core, names_at, session_at}
 use Rattle.delivery.proofs.Words.Views.{Asks, AsksNamed, AsksUnnamed, MayLack, accepted_stage, staged_endpoint, IsReached, View, EndpointView, group_view, made_group, view_of}

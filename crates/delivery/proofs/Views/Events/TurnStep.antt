@@ -1,6 +1,5 @@
 -- A turn of a topic.
-use Rattle.std.proofs.Common.{◌≡◌, ℕ, ◌<◌, ◌≤◌, ◌-◌, Bool, true, false, not, List, [], ◌∷◌, map, length, get_or, set, Option, None, refl, sym, ap, ◌∙◌}
-use Rattle.delivery.proofs.Words.Std.{option_or, lt-ltb, le-ltb, map-set}
+use Rattle.delivery.proofs.Words.Std.{◌≡◌, ℕ, ◌<◌, ◌≤◌, ◌-◌, Bool, true, false, not, List, [], ◌∷◌, map, length, get_or, set, Option, None, refl, sym, ap, ◌∙◌, option_or, lt-ltb, le-ltb, map-set}
 use Rattle.delivery.proofs.Words.Topics.{Topic, TxnId, Decision, first_refusal, takes_of, GroupState, TopicState, after_turn}
 use Rattle.delivery.proofs.Words.Machine.{Objection, World, topic_at, with_topic, Move, Answer, is_topic, queue_has_room, verdict_in, move_refusal}
 use Rattle.delivery.proofs.Words.Core.{Event, Outcome, Refusal, Reading, Core}

@@ -1,6 +1,5 @@
 -- The ERROR of a frame that its session accepted doesn't say the version.
-use Rattle.std.proofs.Common.{◌≡◌, ℕ, Bool, true, false, List, [], ◌∷◌, ◌++◌, Option, Some, None, refl, sym, ap, subst, ◌∙◌, ◌||◌}
-use Rattle.delivery.proofs.Words.Std.{list_any, option_map, option_map_or, option_or, option_to_list, true≢false, or_parts}
+use Rattle.delivery.proofs.Words.Std.{◌≡◌, ℕ, Bool, true, false, List, [], ◌∷◌, ◌++◌, Option, Some, None, refl, sym, ap, subst, ◌∙◌, ◌||◌, list_any, option_map, option_map_or, option_or, option_to_list, true≢false, or_parts}
 use Rattle.delivery.proofs.Words.Topics.{first_refusal}
 use Rattle.delivery.proofs.Words.Frames.{RawFrame, case_fault, Action, action_by, session_fault}
 use Rattle.delivery.proofs.Words.Lemmas.{any_from}
@@ -29,22 +28,14 @@ refused_untold : (f : RawFrame) (why : Option Refusal) → NoneTells f (option_t
 refused_untold f None = refl
 refused_untold f (Some why) = refl
 
-answer_untold : (f : RawFrame) (a : Answer) → NoneTells f (option_to_list (outcome_of a))
-answer_untold f (Answer.Refused why) = refused_untold f (refusal_of why)
-answer_untold f _ = refl
-
 accepted_untold : (k : Core) (c : ℕ) (f : RawFrame) → NoneTells f (accepted_outcomes k c f)
 accepted_untold k c f =
     both_untold f (frame_outcome k c f) (outcomes_without (wants_memory k c f) frame_no_memory)
-    (by_move (frame_move k c (action_by f.command (session_at k c) f))) (by_memory (wants_memory k c f))
+    (by_move (frame_move k c (action_by f.command (session_at k c) f))) (elim (wants_memory k c f) as (λ wanted. NoneTells f (outcomes_without wanted frame_no_memory)) [ true ↦ refl | false ↦ refl ])
   where
     by_move : (move : Option Move) → NoneTells f (option_map_or (move_outcome (core_for k f)) move (Outcome.Done ∷ []))
     by_move None = refl
-    by_move (Some move) = answer_untold f (answer_to (core_for k f).world move)
-
-    by_memory : (wanted : Bool) → NoneTells f (outcomes_without wanted frame_no_memory)
-    by_memory true = refl
-    by_memory false = refl
+    by_move (Some move) = elim (answer_to (core_for k f).world move) as (λ a. NoneTells f (option_to_list (outcome_of a))) [ Answer.Refused why ↦ refused_untold f (refusal_of why) | _ ↦ refl ]
 
 -- with this fault, or without one, none of what may come of it does
 abbrev Untold : Core → ℕ → RawFrame → Option ConnectionFault → Type 0

@@ -1,12 +1,11 @@
 -- Which accepted frames want memory: wherever the core answers that there was none, its frame does.
-use Rattle.delivery.proofs.Words.Std.{codes, list_any, append-nil, is_some, option_map, option_map_or, option_to_list, option_and_then, or_right, or_from}
+use Rattle.delivery.proofs.Words.Std.{◌≡◌, ℕ, Bool, true, false, cond, ◌||◌, List, [], ◌∷◌, ◌++◌, Option, Some, None, refl, sym, ap, subst, ◌∙◌, codes, list_any, append-nil, is_some, option_map, option_map_or, option_to_list, option_and_then, or_right, or_from}
 use Rattle.delivery.proofs.Words.Topics.{SentMessage, Topic, In}
 use Rattle.delivery.proofs.Words.Frames.{Command, RawFrame, case_fault, is_connect, first_of, Unread, receipt_of, connected_frame, receipt_frame, Action, action_by, commit, takes_memory, id_of, transaction_of, Held, sends_in, session_fault}
 use Rattle.delivery.proofs.Words.Lemmas.{sent_subscribes, committed_subscribes}
 use Rattle.delivery.proofs.Words.Machine.{Objection, Answer, Move, end_now, move_answer, move_refusal}
 use Rattle.delivery.proofs.Words.Core.{ConnectionFault, Outcome, claims_of, claimed_sender, Reading, number_by, next_replies, receipts_of, Core, core_for, frame_move, session_at, unread_at, accepted_outcomes, claim_fault, fault_outcomes, frame_fault, frame_no_memory, frame_outcome, is_any, move_outcome, outcome_of, outcomes_without, reading_outcomes, wants_memory}
 use Rattle.delivery.proofs.Words.Views.{Asks, MayLack, View}
-use Rattle.std.proofs.Common.{◌≡◌, ℕ, Bool, true, false, cond, ◌||◌, List, [], ◌∷◌, ◌++◌, Option, Some, None, refl, sym, ap, subst, ◌∙◌}
 use Rattle.std.proofs.lemmas.Bool.{or_left}
 use Rattle.stomp_frame.specs.declared.command.Command.TheVariants as commands
 use Rattle.stomp_session.specs.declared.action.Action.TheVariants as actions

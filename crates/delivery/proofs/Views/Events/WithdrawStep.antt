@@ -1,6 +1,5 @@
 -- A transaction is withdrawn.
-use Rattle.std.proofs.Common.{◌≡◌, ◌≢◌, ℕ, ◌<◌, Bool, true, false, cond, not, ◌&&◌, List, [], ◌∷◌, ◌++◌, map, length, get_or, set, Option, Some, None, refl, sym, ap, ◌∙◌}
-use Rattle.delivery.proofs.Words.Std.{slice_get, eq-eqb, map-append, append-nil, set-get_or, flat_map, is_some, option_or, option_and_then}
+use Rattle.delivery.proofs.Words.Std.{◌≡◌, ◌≢◌, ℕ, ◌<◌, Bool, true, false, cond, not, ◌&&◌, List, [], ◌∷◌, ◌++◌, map, length, get_or, set, Option, Some, None, refl, sym, ap, ◌∙◌, slice_get, eq-eqb, map-append, append-nil, set-get_or, flat_map, is_some, option_or, option_and_then}
 use Rattle.delivery.proofs.Words.Topics.{Ticket, TxnId, first_refusal, In, ProposeFault, propose_title}
 use Rattle.delivery.proofs.Words.Frames.{RawFrame, Unread, receipt_of, error_frame, spelling_of}
 use Rattle.delivery.proofs.Words.Lemmas.{refusal_first, refusal_after, some_same}

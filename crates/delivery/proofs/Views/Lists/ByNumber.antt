@@ -1,11 +1,9 @@
 -- Lists of values by their numbers, and new topics.
-use Rattle.std.proofs.Common.{◌≡◌, ◌≢◌, ℕ, zero, suc, ◌+◌, ◌<◌, ◌≤◌, List, [], ◌∷◌, ◌++◌, map, length, get_or, set, refl, ap, ◌∙◌, arith, ltb, inl, inr, Bool, true, false, cond, Some, None}
-use Rattle.delivery.proofs.Words.Std.{position, position_or_len, ltb-false, map-append, take_more}
+use Rattle.delivery.proofs.Words.Std.{◌≡◌, ◌≢◌, ℕ, zero, suc, ◌+◌, ◌<◌, ◌≤◌, List, [], ◌∷◌, ◌++◌, map, length, get_or, set, refl, ap, ◌∙◌, arith, ltb, inl, inr, Bool, true, false, cond, Some, None, take, position, position_or_len, ltb-false, map-append, take_more}
 use Rattle.delivery.proofs.Words.Topics.{In, TopicState, new_topic, GroupState}
 use Rattle.delivery.proofs.Words.Machine.{World, new_topics}
 use Rattle.delivery.proofs.Words.Core.{each_number}
 use Rattle.delivery.proofs.Words.Views.{group_view, new_group}
-use Rattle.std.proofs.Common.{take}
 use Rattle.std.proofs.lemmas.List.{length-take}
 
 -- one more topic

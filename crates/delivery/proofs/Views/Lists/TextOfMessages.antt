@@ -1,6 +1,5 @@
 -- The text of an item's MESSAGEs, SEND by SEND.
-use Rattle.std.proofs.Common.{◌≡◌, ℕ, ◌+◌, ◌<◌, List, [], ◌∷◌, ◌++◌, map, take, length, Some, sym, ap, ◌∙◌, arith}
-use Rattle.delivery.proofs.Words.Std.{slice_get, enumerate_from, flat_map, map-append, append-nil, append_assoc, take_more, length-enumerate_from, get_or_from_slice_get, slice_get-get_or}
+use Rattle.delivery.proofs.Words.Std.{◌≡◌, ℕ, ◌+◌, ◌<◌, List, [], ◌∷◌, ◌++◌, map, take, length, Some, sym, ap, ◌∙◌, arith, slice_get, enumerate_from, flat_map, map-append, append-nil, append_assoc, take_more, length-enumerate_from, get_or_from_slice_get, slice_get-get_or}
 use Rattle.delivery.proofs.Words.Topics.{PartMessage, Stamp}
 use Rattle.delivery.proofs.Words.Frames.{RawFrame, message_frame, message_id, part_message_frame, spelling_of}
 use Rattle.std.proofs.lemmas.List.Concat.{flat_map-append}

@@ -1,6 +1,5 @@
 -- What the account of a core that a run leads to says of its undecided transactions and its subscriptions.
-use Rattle.std.proofs.Common.{◌≡◌, ◌≢◌, ℕ, ◌<◌, cond, not, length, Option, Some, None, sym, ap, ◌∙◌}
-use Rattle.delivery.proofs.Words.Std.{slice_get, is_some, slice_get-get_or}
+use Rattle.delivery.proofs.Words.Std.{◌≡◌, ◌≢◌, ℕ, ◌<◌, cond, not, length, Option, Some, None, sym, ap, ◌∙◌, slice_get, is_some, slice_get-get_or}
 use Rattle.delivery.proofs.Words.Topics.{NoSub, Entry}
 use Rattle.delivery.proofs.Words.Lemmas.{none_some}
 use Rattle.delivery.proofs.Words.Machine.{Undecided, sender_at, speaker, subscription_at, entry_at, undecided_or_none, accepted_at, final_world}

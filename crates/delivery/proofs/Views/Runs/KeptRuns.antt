@@ -1,6 +1,5 @@
 -- What a net keeps: it is delivered, and it grows by a step.
-use Rattle.std.proofs.Common.{◌≡◌, ℕ, ◌-◌, ◌≤◌, List, [], ◌∷◌, ◌++◌, map, length, reverse, refl, sym, ap, subst, ◌∙◌, append_assoc, append-nil}
-use Rattle.delivery.proofs.Words.Std.{map-append, take}
+use Rattle.delivery.proofs.Words.Std.{◌≡◌, ℕ, ◌-◌, ◌≤◌, List, [], ◌∷◌, ◌++◌, map, length, reverse, refl, sym, ap, subst, ◌∙◌, append_assoc, append-nil, map-append, take}
 use Rattle.delivery.proofs.Words.Topics.{SendersState}
 use Rattle.delivery.proofs.Words.Frames.{max_topics}
 use Rattle.delivery.proofs.Words.Machine.{World}

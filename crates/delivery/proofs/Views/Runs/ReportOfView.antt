@@ -1,12 +1,10 @@
 -- The report of what the code holds of a core is that core's.
-use Rattle.std.proofs.Common.{◌≡◌, ℕ, zero, suc, ◌+◌, ◌<◌, ◌≤◌, List, [], ◌∷◌, map, take, length, Option, Some, None, inl, inr, refl, sym, ap, ◌∙◌, arith}
-use Rattle.delivery.proofs.Words.Std.{slice_get, enumerate_from, option_map, option_and_then, slice_get-get_or, slice_get_past, length-enumerate_from, length-map, get_or-map, cases_lt}
-use Rattle.delivery.proofs.Words.Topics.{Topic, Stamp, LogRow, Item, Gauge, GroupState, shown_with, shown_at, TopicState, Entry, EntryEnd, new_topic, find_entry}
+use Rattle.delivery.proofs.Words.Std.{◌≡◌, ℕ, zero, suc, ◌+◌, ◌<◌, ◌≤◌, List, [], ◌∷◌, map, take, length, Option, Some, None, inl, inr, refl, sym, ap, ◌∙◌, arith, slice_get, enumerate_from, option_map, option_and_then, slice_get-get_or, slice_get_past, length-enumerate_from, length-map, get_or-map, cases_lt}
+use Rattle.delivery.proofs.Words.Topics.{Topic, Stamp, LogRow, Item, Gauge, GroupState, shown_with, shown_at, TopicState, Entry, EntryEnd, new_topic, find_entry, Lag}
 use Rattle.delivery.proofs.Words.Frames.{RawFrame}
 use Rattle.delivery.proofs.Words.Machine.{World, subscription_at, topic_at, entry_at, entry_items, entry_to}
 use Rattle.delivery.proofs.Words.Core.{text_out, subscribe_frame, QueueReport, queue_report, each_number, report_of, accepted_of, Core, unread_at, names_at}
 use Rattle.delivery.proofs.Words.Views.{View, SubView, EndpointView, view_of, group_view, queue_gauge, sub_view, left_view, endpoint_view, report_in, sub_report}
-use Rattle.mcast_group.specs.declared.cause.Cause.TheVariants.{Lag}
 use Rattle.mcast_group.specs.declared.state.SubState.{SubState}
 use Rattle.mcast_group.specs.Machine.{subscription_state, state_of_entry}
 use Rattle.delivery.specs.Inner.ViewReports.{open_report, closed_report, lag_of, lag_in, queue_shown, queued_items, handed_items}
@@ -63,13 +61,9 @@ queued_with : (o : Option Entry) (gauge : Gauge) → queued_items (shown_with o 
 queued_with None gauge = refl
 queued_with (Some e) gauge = refl
 
-none_taken : (n : ℕ) → ◌≡◌ {A = List Item} [] (take n [])
-none_taken zero = refl
-none_taken (suc n) = refl
-
 handed_with : (w : World) (s : ℕ) (o : Option Entry)
     → handed_items (shown_with o (option_map (λ (e : Entry). queue_gauge w s) o)) ≡ take (subscription_at w s).taken (entry_items o)
-handed_with w s None = none_taken (subscription_at w s).taken
+handed_with w s None = elim ((subscription_at w s).taken) as (λ n. ◌≡◌ {A = List Item} [] (take n [])) [ zero ↦ refl | suc n ↦ refl ]
 handed_with w s (Some e) = refl
 
 -- a subscription without an entry has no queue

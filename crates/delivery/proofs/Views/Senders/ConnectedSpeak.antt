@@ -1,6 +1,5 @@
 -- A connection whose session is connected speaks for a sender, and no other does.
-use Rattle.std.proofs.Common.{◌≡◌, ℕ, ◌==◌, ◌||◌, Bool, true, false, cond, not, List, [], ◌∷◌, ◌++◌, Option, Some, None, refl, sym, ap, ◌∙◌}
-use Rattle.delivery.proofs.Words.Std.{codes, is_some, option_to_list, unwrap_or, true≢false, false≢true, not-true, not-false}
+use Rattle.delivery.proofs.Words.Std.{◌≡◌, ℕ, ◌==◌, ◌||◌, Bool, true, false, cond, not, List, [], ◌∷◌, ◌++◌, Option, Some, None, refl, sym, ap, ◌∙◌, codes, is_some, option_to_list, unwrap_or, true≢false, false≢true, not-true, not-false}
 use Rattle.delivery.proofs.Words.Topics.{first_refusal, SentMessage}
 use Rattle.delivery.proofs.Words.Frames.{Command, RawFrame, is_connect, SessionFault, action_by, client_of, field, Held, is_ended, is_closed, is_new, open_refusals, session_fault}
 use Rattle.delivery.proofs.Words.Lemmas.{or_third, none_some}
@@ -46,10 +45,6 @@ connected_claims c (step ∷ older) =
     by_frame d f false is true connects = sym (ap (λ (b : Bool). is_some (cond b (Some (number f)) (sender_claimed c before))) is)
     by_frame d f false is false connects = refl
 
-    quiet : (b : Bool) → (is_connected (cond b [] []) || is_some (sender_claimed c before)) ≡ is_some (sender_claimed c before)
-    quiet true = refl
-    quiet false = refl
-
     nothing : (b : Bool) → (is_connected (cond b (option_to_list None) []) || is_some (sender_claimed c before)) ≡ is_some (sender_claimed c before)
     nothing true = refl
     nothing false = refl
@@ -60,7 +55,7 @@ connected_claims c (step ∷ older) =
     by (Event.Next d) false read = refl
     by (Event.Next d) true None = nothing (d == c)
     by (Event.Next d) true (Some f) = by_frame d f (d == c) refl (is_connect f.command) refl
-    by e effect read = quiet effect
+    by e effect read = elim effect as (λ b. (is_connected (cond b [] []) || is_some (sender_claimed c before)) ≡ is_some (sender_claimed c before)) [ true ↦ refl | false ↦ refl ]
 
 -- ---- a session
 

@@ -1,6 +1,5 @@
 -- What is held of a sender: its gate is with it while a connection speaks for it, and else it is resting.
-use Rattle.std.proofs.Common.{◌≡◌, ℕ, ◌+◌, ◌<◌, Bool, true, false, cond, length, set, Option, Some, None, refl, sym, ap, ◌∙◌, arith}
-use Rattle.delivery.proofs.Words.Std.{unwrap_or, get_or-set_same, get_or-set_other}
+use Rattle.delivery.proofs.Words.Std.{◌≡◌, ℕ, ◌+◌, ◌<◌, Bool, true, false, cond, length, set, Option, Some, None, refl, sym, ap, ◌∙◌, arith, unwrap_or, get_or-set_same, get_or-set_other}
 use Rattle.delivery.proofs.Words.Machine.{World, Undecided, Connection, SenderState, Standing, is_gone, new_sender, nobody, connection_at, sender_at, speaker_number, speaks_for, is_in_use, with_sender}
 use Rattle.delivery.proofs.Words.Core.{each_number, Sending}
 use Rattle.delivery.proofs.Words.Views.{SenderView, held_sender, is_undecided, rested_sender, sender_view, sending_view}
@@ -44,25 +43,17 @@ rested_undecided (Sending.Flying flight topics) = refl
 rested_undecided (Sending.Marked gate tickets fault) = refl
 
 pub held_undecided : (w : World) (s : ℕ) → is_undecided (held_sender w s).sending ≡ is_undecided (sender_view s (sender_at w s)).sending
-held_undecided w s = by (is_in_use w s)
+held_undecided w s = elim (is_in_use w s) as (λ b. is_undecided (cond b x (rested_sender x)).sending ≡ is_undecided x.sending) [ true ↦ refl | false ↦ rested_undecided x.sending ]
   where
     x : SenderView
     x = sender_view s (sender_at w s)
-
-    by : (b : Bool) → is_undecided (cond b x (rested_sender x)).sending ≡ is_undecided x.sending
-    by true = refl
-    by false = rested_undecided x.sending
 
 -- it has the same tickets to cancel
 pub held_leftovers : (w : World) (s : ℕ) → (held_sender w s).leftovers ≡ (sender_view s (sender_at w s)).leftovers
-held_leftovers w s = by (is_in_use w s)
+held_leftovers w s = elim (is_in_use w s) as (λ b. (cond b x (rested_sender x)).leftovers ≡ x.leftovers) [ true ↦ refl | false ↦ refl ]
   where
     x : SenderView
     x = sender_view s (sender_at w s)
-
-    by : (b : Bool) → (cond b x (rested_sender x)).leftovers ≡ x.leftovers
-    by true = refl
-    by false = refl
 
 -- ---- senders of two machines
 

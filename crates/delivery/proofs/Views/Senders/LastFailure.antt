@@ -1,15 +1,14 @@
 -- The account has why an undecided transaction is marked: the last of its proposals that failed.
-use Rattle.std.proofs.Common.{◌≡◌, ℕ, ◌+◌, ◌<◌, Bool, false, cond, List, [], ◌∷◌, ◌++◌, length, set, Option, Some, None, refl, sym, ap, ◌∙◌}
-use Rattle.delivery.proofs.Words.Std.{slice_get, not-false}
-use Rattle.delivery.proofs.Words.Topics.{Topic, TxnId, SentMessage, same_id, Decision, Item, propose_title, ProposeFault, Pending, Entry, due_part}
+use Rattle.delivery.proofs.Words.Std.{◌≡◌, ℕ, ◌+◌, ◌<◌, Bool, false, cond, List, [], ◌∷◌, ◌++◌, length, set, Option, Some, None, refl, sym, ap, ◌∙◌, not-false}
+use Rattle.delivery.proofs.Words.Topics.{Topic, TxnId, SentMessage, same_id, propose_title, ProposeFault}
 use Rattle.delivery.proofs.Words.Lemmas.{at_set, at_set_within, id_equal, id_itself, some_same, none_some, not_true}
-use Rattle.delivery.proofs.Words.Machine.{World, Undecided, Leftover, SenderState, new_sender, topic_at, subscription_at, speaker, entry_at, speaker_number, accepted_at, Move, Answer, move_refusal, move_effect, move_answer, undecided_at, next_txn, next_ticket, insert_ticket, find_leftover, find_verdict, oldest_live, commit_effect, commit_answer, proposal_fault, propose_effect, propose_answer, cancel_effect, cancel_answer, learn_effect, release_answer, take_effect, take_answer, leave_effect, leave_answer, close_effect_of, claimed_senders, Run, answers_of, final_world}
+use Rattle.delivery.proofs.Words.Machine.{World, Undecided, Leftover, SenderState, new_sender, speaker, speaker_number, Move, Answer, move_refusal, move_effect, move_answer, undecided_at, next_txn, next_ticket, insert_ticket, commit_effect, commit_answer, propose_effect, propose_answer, cancel_effect, cancel_answer, claimed_senders, Run, answers_of, final_world, Connects, Commits, Leaves, Proposes, Decides, Withdraws, Cancels}
 use Rattle.delivery.proofs.Words.Core.{account_of, failed_title, Core}
 use Rattle.delivery.proofs.Words.Views.{IsReached}
-use Rattle.delivery.specs.Machine.Moves.Move.{Connects, Commits, Unsubscribes, Leaves, Proposes, Decides, Withdraws, Cancels, Learns, Releases, Takes}
 use Rattle.delivery.proofs.Machine.Invariant.{sender_in}
 use Rattle.delivery.proofs.Machine.SubscriptionSteps.{at_push_two}
 use Rattle.delivery.proofs.Machine.InvariantIsKept.{by_refusal, checked, in_flight}
+use Rattle.delivery.proofs.Machine.ByFound.{InEachCase, by_found, by_entry}
 use Rattle.delivery.proofs.Core.ByRun.{by_run}
 use Rattle.delivery.proofs.Core.Said.{said}
 use Rattle.delivery.proofs.Core.AccountOfRun.{spoken}
@@ -43,9 +42,9 @@ written past senders t x g h s f fault =
 
 -- ---- each move
 
-flown : (past : List Answer) (w : World) (c : ℕ) (sends : List SentMessage) → AreMarked past w.senders → AreMarked (commit_answer w c sends ∷ past) (commit_effect w c sends).senders
-flown past w c [] h = noted past w.senders (commit_answer w c []) (λ id. refl) h
-flown past w c (first ∷ others) h =
+flown : (past : List Answer) (w : World) (c : ℕ) (first : SentMessage) (others : List SentMessage) → AreMarked past w.senders
+    → AreMarked (commit_answer w c (first ∷ others) ∷ past) (commit_effect w c (first ∷ others)).senders
+flown past w c first others h =
     let x = speaker w c in let new : Undecided = record { txn = next_txn w c (first ∷ others); given = []; mark = None } in
     written (commit_answer w c (first ∷ others) ∷ past) w.senders (speaker_number w c) (record x { seq = x.seq + 1; flight = Some new })
     (λ f fault e m. none_some fault (ap (λ (z : Undecided). z.mark) (some_same new f e) ∙ m))
@@ -80,31 +79,10 @@ proposed r c t (Some why) l e h s f fault =
     ne (sym b ∙ (sym (ap (λ (z : TxnId). z.sender.0) (id_equal id f.txn.id same)) ∙ a)))) in
     ap (λ (b : Bool). cond b (propose_title why) (failed_title f.txn.id past)) differs ∙ h s f fault d m))
 
-cancelled : (past : List Answer) (w : World) (c : ℕ) (t : Topic) (o : Option Leftover) → AreMarked past w.senders → AreMarked (cancel_answer t o ∷ past) (cancel_effect w c t o).senders
-cancelled past w c t None h = noted past w.senders (cancel_answer t None) (λ id. refl) h
-cancelled past w c t (Some k) h =
+cancelled : (past : List Answer) (w : World) (c : ℕ) (t : Topic) (k : Leftover) → AreMarked past w.senders → AreMarked (cancel_answer t (Some k) ∷ past) (cancel_effect w c t (Some k)).senders
+cancelled past w c t k h =
     let s = speaker_number w c in let g = noted past w.senders (cancel_answer t (Some k)) (λ id. refl) h in
     written (cancel_answer t (Some k) ∷ past) w.senders s _ (g s) g
-
-learned : (past : List Answer) (w : World) (t : Topic) (id : TxnId) (o : Option Decision) → AreMarked past w.senders → AreMarked past (learn_effect w t id o).senders
-learned past w t id None h = h
-learned past w t id (Some v) h = h
-
-closed : (past : List Answer) (w : World) (s : ℕ) (o : Option Entry) → AreMarked past w.senders → AreMarked past (close_effect_of w s o).senders
-closed past w s None h = h
-closed past w s (Some e) h = h
-
-gone : (past : List Answer) (w : World) (c : ℕ) (o : Option ℕ) → AreMarked past w.senders → AreMarked (leave_answer w c o ∷ past) (leave_effect w c o).senders
-gone past w c None h = noted past w.senders (leave_answer w c None) (λ id. refl) h
-gone past w c (Some s) h = noted past (close_effect_of w s (entry_at w s)).senders (leave_answer w c (Some s)) (λ id. refl) (closed past w s (entry_at w s) h)
-
-released : (past : List Answer) (w : World) (t : Topic) (o : Option Pending) → AreMarked past w.senders → AreMarked (release_answer t o ∷ past) w.senders
-released past w t None h = noted past w.senders (release_answer t None) (λ id. refl) h
-released past w t (Some p) h = noted past w.senders (release_answer t (Some p)) (λ id. refl) h
-
-taken : (past : List Answer) (w : World) (s : ℕ) (o : Option Item) → AreMarked past w.senders → AreMarked (take_answer w s o ∷ past) (take_effect w s o).senders
-taken past w s None h = noted past w.senders (take_answer w s None) (λ id. refl) h
-taken past w s (Some item) h = noted past w.senders (take_answer w s (Some item)) (λ id. refl) h
 
 opened : (past : List Answer) (w : World) → AreMarked past w.senders → AreMarked past (w.senders ++ new_sender ∷ [])
 opened past w h s f fault =
@@ -116,34 +94,32 @@ connected past w None h = opened past w h
 connected past w (Some s) h = h
 
 happens : (r : Run) (e : Move) → AreMarked (answers_of r) (final_world r).senders → move_refusal (final_world r) e ≡ None
-    → AreMarked (move_answer (final_world r) e ∷ answers_of r) (move_effect (final_world r) e).senders
-happens r (Connects c claimed) h n = noted (answers_of r) _ (move_answer (final_world r) (Connects c claimed)) (λ id. refl) (connected (answers_of r) (final_world r) claimed h)
-happens r (Commits c sends) h n = flown (answers_of r) (final_world r) c sends h
-happens r (Unsubscribes c s) h n = let w = final_world r in noted (answers_of r) (close_effect_of w s (entry_at w s)).senders (move_answer (final_world r) (Unsubscribes c s)) (λ id. refl) (closed (answers_of r) w s (entry_at w s) h)
-happens r (Leaves c) h n = let w = final_world r in gone (answers_of r) w c (oldest_live c 0 w.subscriptions) h
+    → InEachCase (λ v o. AreMarked (o ∷ answers_of r) v.senders) (final_world r) e
+happens r (Connects c claimed) h n = let g = connected (answers_of r) (final_world r) claimed h in (g, λ k. g)
+happens r (Commits c sends) h n = (h, λ k. flown (answers_of r) (final_world r) c k.0 k.1 h)
+happens r (Leaves c) h n = (h, λ s. by_entry (λ v. AreMarked (answers_of r) v.senders) (final_world r) s h (λ k. h))
 happens r (Proposes c t memory) h n =
     let w = final_world r in let k = checked w (Proposes c t memory) n in let fl = in_flight w c k.1.1.0 in
-    let own = flying_speaker w c (not-false _ k.1.1.0) in
-    proposed r c t (proposal_fault w c t memory) ((spoken r).speaks.there c (speaker_number w c) own) (fl.is ∙ ap Some (sym fl.at)) h
+    let there = (spoken r).speaks.there c (speaker_number w c) (flying_speaker w c (not-false _ k.1.1.0)) in let is = fl.is ∙ ap Some (sym fl.at) in
+    (proposed r c t None there is h, λ why. proposed r c t (Some why) there is h)
 happens r (Decides c) h n =
     let w = final_world r in
-    written ((move_answer (final_world r) (Decides c)) ∷ answers_of r) w.senders (speaker_number w c) _ (λ f fault e m. none_some f e) (noted (answers_of r) w.senders (move_answer (final_world r) (Decides c)) (λ id. refl) h)
+    let g : AreMarked (move_answer w (Decides c) ∷ answers_of r) (move_effect w (Decides c)).senders =
+    written (move_answer w (Decides c) ∷ answers_of r) w.senders (speaker_number w c) _ (λ f fault e m. none_some f e) h in (g, λ k. g)
 happens r (Withdraws c) h n =
     let w = final_world r in
-    written ((move_answer (final_world r) (Withdraws c)) ∷ answers_of r) w.senders (speaker_number w c) _ (λ f fault e m. none_some f e) (noted (answers_of r) w.senders (move_answer (final_world r) (Withdraws c)) (λ id. refl) h)
-happens r (Cancels c t) h n = let w = final_world r in cancelled (answers_of r) w c t (find_leftover t (speaker w c).leftovers) h
-happens r (Learns t id) h n =
-    let w = final_world r in noted (answers_of r) (learn_effect w t id (find_verdict id w.verdicts)).senders (move_answer (final_world r) (Learns t id)) (λ i. refl) (learned (answers_of r) w t id (find_verdict id w.verdicts) h)
-happens r (Releases t) h n = let w = final_world r in released (answers_of r) w t (due_part (topic_at w t)) h
-happens r (Takes s) h n = let w = final_world r in taken (answers_of r) w s (slice_get (accepted_at w s) (subscription_at w s).taken) h
-happens r other h n = noted (answers_of r) (final_world r).senders (move_answer (final_world r) other) (λ id. refl) h
+    let g : AreMarked (move_answer w (Withdraws c) ∷ answers_of r) (move_effect w (Withdraws c)).senders =
+    written (move_answer w (Withdraws c) ∷ answers_of r) w.senders (speaker_number w c) _ (λ f fault e m. none_some f e) h in (g, λ k. g)
+happens r (Cancels c t) h n = (h, λ k. cancelled (answers_of r) (final_world r) c t k h)
+happens r _ h n = (h, λ k. h)
 
 -- after each run the marked ones were refused so
 pub marked : (r : Run) → AreMarked (answers_of r) (final_world r).senders
 marked =
     by_run (λ past w. AreMarked past w.senders) (λ capacity log_limit clocks s f fault e m. none_some f e)
     (λ r e h. by_refusal (λ v o. AreMarked (o ∷ answers_of r) v.senders) (final_world r) e
-    (λ why. noted (answers_of r) (final_world r).senders (Answer.Refused why) (λ id. refl) h) (λ n. happens r e h n))
+    (λ why. noted (answers_of r) (final_world r).senders (Answer.Refused why) (λ id. refl) h)
+    (λ n. by_found (λ v o. AreMarked (o ∷ answers_of r) v.senders) (final_world r) e (happens r e h n)))
 
 -- the account says why an undecided transaction is marked
 pub failed_is : (k : Core) (c : ℕ) (f : Undecided) (fault : ProposeFault) → IsReached k → (speaker k.world c).flight ≡ Some f → f.mark ≡ Some fault

@@ -1,6 +1,5 @@
 -- The room that a transaction makes as it begins: it is there, and it lasts until the transaction has ended.
-use Rattle.std.proofs.Common.{◌≡◌, ℕ, zero, suc, ◌+◌, ◌<◌, ◌≤◌, ◌==◌, Bool, true, false, cond, List, [], ◌∷◌, ◌++◌, map, length, get_or, set, Option, Some, None, refl, sym, ap, subst, ◌∙◌, arith}
-use Rattle.delivery.proofs.Words.Std.{eqb-true, length-map, option_map, option_and_then, option_to_list}
+use Rattle.delivery.proofs.Words.Std.{◌≡◌, ℕ, zero, suc, ◌+◌, ◌<◌, ◌≤◌, ◌==◌, Bool, true, false, cond, List, [], ◌∷◌, ◌++◌, map, length, get_or, set, Option, Some, None, refl, sym, ap, subst, ◌∙◌, arith, eqb-true, length-map, option_map, option_and_then, option_to_list}
 use Rattle.delivery.proofs.Words.Topics.{Topic, TxnId, SentMessage, ticket_rows, part_at, Slots, held_at, with_slot, TopicPart, topics_of, GateState, FlightState}
 use Rattle.delivery.proofs.Words.Lemmas.{some_same, none_some}
 use Rattle.delivery.proofs.Words.Core.{Sending}

@@ -1,7 +1,6 @@
 -- A sender that becomes another with the same seq and the same receipt to come, and a topic that becomes another: no endpoint
 -- and no verdict changes.
-use Rattle.std.proofs.Common.{◌≡◌, ◌≢◌, ℕ, ◌<◌, List, length, set, Option, refl, sym, ap, ◌∙◌}
-use Rattle.delivery.proofs.Words.Std.{map-set, set-get_or}
+use Rattle.delivery.proofs.Words.Std.{◌≡◌, ◌≢◌, ℕ, ◌<◌, List, length, set, Option, refl, sym, ap, ◌∙◌, map-set, set-get_or}
 use Rattle.delivery.proofs.Words.Topics.{Topic, GroupState, TopicState}
 use Rattle.delivery.proofs.Words.Frames.{RawFrame, Unread}
 use Rattle.delivery.proofs.Words.Machine.{World, Undecided, SenderState, Connection, Standing, nobody, connection_at, sender_at, speaker, with_sender, with_topic, speaker_number}

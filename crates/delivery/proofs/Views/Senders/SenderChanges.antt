@@ -1,6 +1,5 @@
 -- A sender that becomes another: what is held of it, of its endpoint and of its verdicts. No other connection that is there speaks for it.
-use Rattle.std.proofs.Common.{◌≡◌, ◌≢◌, ℕ, ◌+◌, ◌-◌, ◌<◌, ◌≤◌, nat_lt, Bool, true, false, cond, List, length, get_or, set, Option, Some, None, refl, sym, ap, ◌∙◌, arith}
-use Rattle.delivery.proofs.Words.Std.{slice_get, ltb-true, ltb-false, get_or-set_same, get_or-set_other, set-get_or, option_and_then, unwrap_or}
+use Rattle.delivery.proofs.Words.Std.{◌≡◌, ◌≢◌, ℕ, ◌+◌, ◌-◌, ◌<◌, ◌≤◌, nat_lt, Bool, true, false, cond, List, length, get_or, set, Option, Some, None, refl, sym, ap, ◌∙◌, arith, slice_get, ltb-true, ltb-false, get_or-set_same, get_or-set_other, set-get_or, option_and_then, unwrap_or}
 use Rattle.delivery.proofs.Words.Topics.{TxnId, Decision}
 use Rattle.delivery.proofs.Words.Frames.{RawFrame, Unread}
 use Rattle.delivery.proofs.Words.Machine.{World, SenderState, Connection, Standing, is_gone, is_in_use, new_sender, nobody, connection_at, sender_at, speaker, speaks_for, with_sender, speaker_number, find_verdict}

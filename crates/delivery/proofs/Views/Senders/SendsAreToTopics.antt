@@ -1,6 +1,5 @@
 -- The SENDs that an accepted frame commits are to topics that there are.
-use Rattle.std.proofs.Common.{◌≡◌, ℕ, suc, ◌+◌, ◌<◌, ◌≤◌, Bool, true, false, cond, not, ◌&&◌, ◌||◌, inl, inr, List, [], ◌∷◌, length, map, Option, Some, None, refl, sym, ap, subst, ◌∙◌, arith}
-use Rattle.delivery.proofs.Words.Std.{codes, list_all, list_any, lookup, option_map_or, unwrap_or, bytes_eq, false≢true, lt-ltb, and_from, and_parts, length-append}
+use Rattle.delivery.proofs.Words.Std.{◌≡◌, ℕ, suc, ◌+◌, ◌<◌, ◌≤◌, Bool, true, false, cond, not, ◌&&◌, ◌||◌, inl, inr, List, [], ◌∷◌, length, map, Option, Some, None, refl, sym, ap, subst, ◌∙◌, arith, codes, list_all, list_any, lookup, option_map_or, unwrap_or, bytes_eq, false≢true, lt-ltb, and_from, and_parts, length-append}
 use Rattle.delivery.proofs.Words.Topics.{In, Topic, SentMessage}
 use Rattle.delivery.proofs.Words.Frames.{Command, RawFrame, first_of, action_by, commit, field, has_destination, is_begin, is_send, is_send_in, names_transaction, send_of, topic_of, transaction_of, with_destination, is_known, Held, is_ended, transactions_left, sends_in}
 use Rattle.delivery.proofs.Words.Lemmas.{known-with_destination, topic-with_destination, with_destination-grows}
@@ -78,11 +77,7 @@ found_named w names x (f ∷ fs) many known =
 
 open_named : (w : World) (names : List (List ℕ)) (x : List ℕ) (fs : List RawFrame) → length names ≤ length w.topics
     → ((g : RawFrame) → In g fs → Knows names g) → AreNamed w (sends_in x (open_transactions names fs))
-open_named w names x fs many known = go (is_ended fs) (found_named w names x fs many known)
-  where
-    go : (b : Bool) → AreNamed w (sends_in x (transactions_left names fs)) → AreNamed w (sends_in x (cond b [] (transactions_left names fs)))
-    go true h = refl
-    go false h = h
+open_named w names x fs many known = elim (is_ended fs) as (λ b. AreNamed w (sends_in x (cond b [] (transactions_left names fs)))) [ true ↦ refl | false ↦ (found_named w names x fs many known) ]
 
 -- ---- what a frame commits
 

@@ -1,6 +1,5 @@
 -- Slots of a transaction's topics: looked up, and written.
-use Rattle.std.proofs.Common.{◌≡◌, ◌≢◌, ℕ, ◌==◌, Bool, true, false, cond, ◌||◌, List, [], ◌∷◌, map, Option, Some, None, inl, inr, refl, sym, ap, ◌∙◌, nat_lt}
-use Rattle.delivery.proofs.Words.Std.{eqb-true, eq-eqb, true≢false, or_parts, option_map, option_and_then}
+use Rattle.delivery.proofs.Words.Std.{◌≡◌, ◌≢◌, ℕ, ◌==◌, Bool, true, false, cond, ◌||◌, List, [], ◌∷◌, map, Option, Some, None, inl, inr, refl, sym, ap, ◌∙◌, nat_lt, eqb-true, eq-eqb, true≢false, or_parts, option_map, option_and_then}
 use Rattle.delivery.proofs.Words.Topics.{Topic, Stamp, row_at, Slots, slot_at, held_at, with_slot, names}
 use Rattle.delivery.proofs.Words.Lemmas.{or_third}
 use Rattle.delivery.proofs.Words.Machine.{has_ticket, insert_ticket}

@@ -1,19 +1,18 @@
 -- The tickets of an undecided transaction rise by topic and are of named topics: so they are those of its topics, in
 -- their order.
-use Rattle.std.proofs.Common.{◌≡◌, ◌≢◌, ℕ, ◌+◌, ◌<◌, ◌==◌, Bool, true, false, cond, nat_lt, ◌||◌, inl, inr, List, [], ◌∷◌, ◌++◌, map, set, Option, Some, None, refl, sym, ap, subst, ◌∙◌, arith}
-use Rattle.delivery.proofs.Words.Std.{eq-eqb, ltb-true, ltb-false, false≢true, slice_get, AllByRecursion, option_map, option_to_list}
-use Rattle.delivery.proofs.Words.Topics.{Topic, TxnId, SentMessage, Stamp, Decision, row_at, ticket_rows, In, RisesBy, Slots, Item, topics_of, names, ProposeFault, Entry}
+use Rattle.delivery.proofs.Words.Std.{◌≡◌, ◌≢◌, ℕ, ◌+◌, ◌<◌, ◌==◌, Bool, true, false, cond, nat_lt, ◌||◌, inl, inr, List, [], ◌∷◌, ◌++◌, map, set, Option, Some, None, refl, sym, ap, subst, ◌∙◌, arith, eq-eqb, ltb-true, ltb-false, false≢true, AllByRecursion, option_map, option_to_list}
+use Rattle.delivery.proofs.Words.Topics.{Topic, SentMessage, Stamp, row_at, ticket_rows, In, RisesBy, Slots, topics_of, names, ProposeFault}
 use Rattle.delivery.proofs.Words.Lemmas.{In-insert_cases, at_set, topics_rise, some_same, none_some}
-use Rattle.delivery.proofs.Words.Machine.{World, Undecided, Leftover, SenderState, new_sender, subscription_at, sender_at, speaker, entry_at, speaker_number, accepted_at, Move, move_refusal, move_effect, undecided_at, find_leftover, find_verdict, oldest_live, insert_ticket, next_ticket, next_txn, commit_effect, proposal_fault, propose_effect, cancel_effect, learn_effect, take_effect, leave_effect, close_effect_of, claimed_senders, Run, final_world}
+use Rattle.delivery.proofs.Words.Machine.{World, Undecided, SenderState, new_sender, sender_at, speaker, speaker_number, Move, move_refusal, move_effect, undecided_at, insert_ticket, next_ticket, next_txn, commit_effect, propose_effect, claimed_senders, Run, final_world, Connects, Commits, Leaves, Proposes, Decides, Withdraws, Cancels}
 use Rattle.delivery.proofs.Words.Core.{Core}
 use Rattle.delivery.proofs.Words.Views.{IsReached}
 use Rattle.std.specs.List.{find}
 use Rattle.mcast_txn.specs.Ballot.{slots_of_rows}
-use Rattle.delivery.specs.Machine.Moves.Move.{Connects, Commits, Unsubscribes, Leaves, Proposes, Decides, Withdraws, Cancels, Learns, Takes}
 use Rattle.delivery.proofs.Machine.Invariant.{sender_in}
 use Rattle.delivery.proofs.Machine.ProposeStep.{not_given}
 use Rattle.delivery.proofs.Machine.SubscriptionSteps.{at_push_two}
 use Rattle.delivery.proofs.Machine.InvariantIsKept.{Asks, asks_of, by_refusal}
+use Rattle.delivery.proofs.Machine.ByFound.{InEachCase, by_found, by_entry}
 use Rattle.delivery.proofs.Core.ByRun.{by_run}
 use Rattle.delivery.proofs.Views.Runs.ByRunOfCore.{by_world}
 use Rattle.delivery.proofs.Views.Endpoints.StandingOfConnection.{same_or, differ}
@@ -57,9 +56,8 @@ AreGiven senders = (s : ℕ) (f : Undecided) → (sender_in senders s).flight �
 written : (senders : List SenderState) (t : ℕ) (x : SenderState) → ((f : Undecided) → x.flight ≡ Some f → Given f) → AreGiven senders → AreGiven (set senders t x)
 written senders t x g h s f = at_set (λ (z : SenderState). z.flight ≡ Some f → Given f) senders t s x new_sender (λ k. g f) (h s f)
 
-flown : (w : World) (c : ℕ) (sends : List SentMessage) → AreGiven w.senders → AreGiven (commit_effect w c sends).senders
-flown w c [] h = h
-flown w c (first ∷ others) h =
+flown : (w : World) (c : ℕ) (first : SentMessage) (others : List SentMessage) → AreGiven w.senders → AreGiven (commit_effect w c (first ∷ others)).senders
+flown w c first others h =
     let x = speaker w c in let new : Undecided = record { txn = next_txn w c (first ∷ others); given = []; mark = None } in
     written w.senders (speaker_number w c) (record x { seq = x.seq + 1; flight = Some new })
     (λ f e. subst Given (some_same new f e) (record { rising = tt; named = λ a i. absurd i })) h
@@ -83,51 +81,26 @@ proposed w c t (Some fault) asks h =
     let new : Undecided = record f { mark = Some fault } in
     written w.senders s (record (speaker w c) { flight = Some new }) (λ y e. subst Given (some_same new y e) (record { rising = g.rising; named = g.named })) h
 
-cancelled : (w : World) (c : ℕ) (t : Topic) (o : Option Leftover) → AreGiven w.senders → AreGiven (cancel_effect w c t o).senders
-cancelled w c t None h = h
-cancelled w c t (Some k) h = let s = speaker_number w c in written w.senders s _ (h s) h
-
-learned : (w : World) (t : Topic) (id : TxnId) (o : Option Decision) → AreGiven w.senders → AreGiven (learn_effect w t id o).senders
-learned w t id None h = h
-learned w t id (Some v) h = h
-
-closed : (w : World) (s : ℕ) (o : Option Entry) → AreGiven w.senders → AreGiven (close_effect_of w s o).senders
-closed w s None h = h
-closed w s (Some e) h = h
-
-gone : (w : World) (c : ℕ) (o : Option ℕ) → AreGiven w.senders → AreGiven (leave_effect w c o).senders
-gone w c None h = h
-gone w c (Some s) h = closed w s (entry_at w s) h
-
-taken : (w : World) (s : ℕ) (o : Option Item) → AreGiven w.senders → AreGiven (take_effect w s o).senders
-taken w s None h = h
-taken w s (Some item) h = h
-
 opened : (w : World) → AreGiven w.senders → AreGiven (w.senders ++ new_sender ∷ [])
 opened w h s f = at_push_two (λ (z : SenderState). z.flight ≡ Some f → Given f) w.senders s new_sender new_sender (λ k e. none_some f e) (λ ne. h s f)
 
-connected : (w : World) (claimed : Option ℕ) → AreGiven w.senders → AreGiven (claimed_senders w.senders claimed)
-connected w None h = opened w h
-connected w (Some s) h = h
-
-happens : (w : World) (e : Move) → AreGiven w.senders → move_refusal w e ≡ None → AreGiven (move_effect w e).senders
-happens w (Connects c claimed) h n = connected w claimed h
-happens w (Commits c sends) h n = flown w c sends h
-happens w (Unsubscribes c s) h n = closed w s (entry_at w s) h
-happens w (Leaves c) h n = gone w c (oldest_live c 0 w.subscriptions) h
-happens w (Proposes c t memory) h n = proposed w c t (proposal_fault w c t memory) (asks_of w c t memory n) h
-happens w (Decides c) h n = written w.senders (speaker_number w c) _ (λ f e. none_some f e) h
-happens w (Withdraws c) h n = written w.senders (speaker_number w c) _ (λ f e. none_some f e) h
-happens w (Cancels c t) h n = cancelled w c t (find_leftover t (speaker w c).leftovers) h
-happens w (Learns t id) h n = learned w t id (find_verdict id w.verdicts) h
-happens w (Takes s) h n = taken w s (slice_get (accepted_at w s) (subscription_at w s).taken) h
-happens w _ h n = h
+happens : (w : World) (e : Move) → AreGiven w.senders → move_refusal w e ≡ None → InEachCase (λ v o. AreGiven v.senders) w e
+happens w (Connects c claimed) h n =
+    let g : AreGiven (claimed_senders w.senders claimed) = elim claimed as (λ o. AreGiven (claimed_senders w.senders o)) [ None ↦ opened w h | Some s ↦ h ] in (g, λ k. g)
+happens w (Commits c sends) h n = (h, λ k. flown w c k.0 k.1 h)
+happens w (Leaves c) h n = (h, λ s. by_entry (λ v. AreGiven v.senders) w s h (λ k. h))
+happens w (Proposes c t memory) h n = let asks = asks_of w c t memory n in (proposed w c t None asks h, λ fault. proposed w c t (Some fault) asks h)
+happens w (Decides c) h n = let g : AreGiven (move_effect w (Decides c)).senders = written w.senders (speaker_number w c) _ (λ f e. none_some f e) h in (g, λ k. g)
+happens w (Withdraws c) h n = let g : AreGiven (move_effect w (Withdraws c)).senders = written w.senders (speaker_number w c) _ (λ f e. none_some f e) h in (g, λ k. g)
+happens w (Cancels c t) h n = (h, λ k. written w.senders (speaker_number w c) _ (h (speaker_number w c)) h)
+happens w _ h n = (h, λ k. h)
 
 -- after each run they are so
 pub given : (r : Run) (s : ℕ) (f : Undecided) → (sender_in (final_world r).senders s).flight ≡ Some f → Given f
 given =
     by_run (λ past w. AreGiven w.senders) (λ capacity log_limit clocks s f e. none_some f e)
-    (λ r e h. by_refusal (λ v o. AreGiven v.senders) (final_world r) e (λ why. h) (λ n. happens (final_world r) e h n))
+    (λ r e h. by_refusal (λ v o. AreGiven v.senders) (final_world r) e (λ why. h)
+    (λ n. by_found (λ v o. AreGiven v.senders) (final_world r) e (happens (final_world r) e h n)))
 
 -- ---- those of its topics
 
@@ -135,7 +108,7 @@ given =
 abbrev slots : List Topic → List Stamp → Slots ℕ
 slots ts given = map (λ t. (t, row_at t given)) ts
 
-all_in : {X : Type 0} (P : X → Type 0) (xs : List X) → AllByRecursion P xs → (x : X) → In x xs → P x
+pub all_in : {X : Type 0} (P : X → Type 0) (xs : List X) → AllByRecursion P xs → (x : X) → In x xs → P x
 all_in P [] h x i = absurd i
 all_in P (y ∷ ys) h x (inl e) = subst P e h.0
 all_in P (y ∷ ys) h x (inr i) = all_in P ys h.1 x i

@@ -1,7 +1,6 @@
 -- A subscription that is closed.
-use Rattle.std.proofs.Common.{◌≡◌, ◌≢◌, ℕ, zero, suc, ◌+◌, ◌<◌, ◌≤◌, ◌==◌, Bool, true, false, cond, not, ◌&&◌, inl, inr, List, [], ◌∷◌, filter, map, length, get_or, set, Option, Some, None, refl, sym, ap, subst, ◌∙◌, arith}
-use Rattle.std.proofs.Common.{eq-eqb, nat_lt}
-use Rattle.delivery.proofs.Words.Std.{slice_get, position, position_or_len, remove, is_some, option_map, option_map_or, option_and_then, eqb-true, cases_lt, slice_get-get_or, get_or_from_slice_get, get_or-map, map-set, set-get_or, get_or-set_same, get_or-set_other}
+use Rattle.std.proofs.Common.{filter}
+use Rattle.delivery.proofs.Words.Std.{◌≡◌, ◌≢◌, ℕ, zero, suc, ◌+◌, ◌<◌, ◌≤◌, ◌==◌, Bool, true, false, cond, not, ◌&&◌, inl, inr, List, [], ◌∷◌, map, length, get_or, set, Option, Some, None, refl, sym, ap, subst, ◌∙◌, arith, eq-eqb, nat_lt, slice_get, position, position_or_len, remove, is_some, option_map, option_map_or, option_and_then, eqb-true, cases_lt, slice_get-get_or, get_or_from_slice_get, get_or-map, map-set, set-get_or, get_or-set_same, get_or-set_other}
 use Rattle.delivery.proofs.Words.Topics.{Topic, zero_stamp, Gauge, NumbersDiffer, GroupState, gauge_at, TopicState, Entry, new_topic, find_entry, end_of, after_unsubscribe}
 use Rattle.delivery.proofs.Words.Frames.{RawFrame, Unread, id_of, wants_parts}
 use Rattle.delivery.proofs.Words.Lemmas.{at_set, numbers_differ}

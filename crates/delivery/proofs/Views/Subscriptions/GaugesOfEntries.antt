@@ -1,7 +1,5 @@
 -- What is found by a subscription's number in its topic's group: its gauge, and what its queue shows.
-use Rattle.std.proofs.Common.{◌≡◌, ℕ, ◌==◌, Bool, true, false, cond, List, [], ◌∷◌, map, Option, Some, None, inl, inr, refl, sym, ap, ◌∙◌}
-use Rattle.std.proofs.Common.{eq-eqb}
-use Rattle.delivery.proofs.Words.Std.{is_some, option_map, eqb-true, true≢false, cases_Bool}
+use Rattle.delivery.proofs.Words.Std.{◌≡◌, ℕ, ◌==◌, Bool, true, false, cond, List, [], ◌∷◌, map, Option, Some, None, inl, inr, refl, sym, ap, ◌∙◌, eq-eqb, is_some, option_map, eqb-true, true≢false, cases_Bool}
 use Rattle.delivery.proofs.Words.Topics.{In, Gauge, shows, shown_with, shown_at, gauge_at, TopicState, Entry, find_entry}
 use Rattle.delivery.proofs.Words.Lemmas.{not_true}
 use Rattle.delivery.proofs.Words.Machine.{World}

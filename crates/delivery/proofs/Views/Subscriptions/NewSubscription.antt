@@ -1,7 +1,5 @@
 -- A subscription that begins.
-use Rattle.std.proofs.Common.{◌≡◌, ◌≢◌, ℕ, suc, ◌+◌, ◌<◌, nat_lt, Bool, true, false, cond, ◌&&◌, List, [], ◌∷◌, ◌++◌, map, length, get_or, set, Option, Some, None, refl, sym, ap, ◌∙◌, arith}
-use Rattle.std.proofs.Common.{eq-eqb}
-use Rattle.delivery.proofs.Words.Std.{slice_get, position, position_or_len, option_map, option_map_or, slice_get-get_or, slice_get_past, get_or-map, map-set, set-get_or, get_or_append_left, append-nil}
+use Rattle.delivery.proofs.Words.Std.{◌≡◌, ◌≢◌, ℕ, suc, ◌+◌, ◌<◌, nat_lt, Bool, true, false, cond, ◌&&◌, List, [], ◌∷◌, ◌++◌, map, length, get_or, set, Option, Some, None, refl, sym, ap, ◌∙◌, arith, eq-eqb, slice_get, position, position_or_len, option_map, option_map_or, slice_get-get_or, slice_get_past, get_or-map, map-set, set-get_or, get_or_append_left, append-nil}
 use Rattle.delivery.proofs.Words.Topics.{Topic, Stamp, Gauge, GroupState, TopicState, Entry, new_topic, insert_entry, after_subscribe}
 use Rattle.delivery.proofs.Words.Frames.{RawFrame, Unread, id_of, wants_parts}
 use Rattle.delivery.proofs.Words.Machine.{World, Connection, Subscription, no_subscription, nobody, topic_at, subscription_at, is_live}

@@ -1,8 +1,6 @@
 -- What a session has open is what is live: the open subscriptions of an open connection are its live ones, in order, each with
 -- its id and its topic, and an id that is open names its live subscription.
-use Rattle.std.proofs.Common.{◌≡◌, ◌≢◌, ℕ, suc, ◌+◌, ◌<◌, ◌≤◌, ◌==◌, Bool, true, false, cond, not, ◌&&◌, ◌||◌, inl, inr, List, [], ◌∷◌, ◌++◌, map, length, get_or, Option, Some, None, refl, sym, ap, subst, ◌∙◌, arith}
-use Rattle.std.proofs.Common.{eq-eqb, nat_lt}
-use Rattle.delivery.proofs.Words.Std.{list_any, is_some, option_map_or, option_or, option_to_list, unwrap_or, bytes_eq, eqb-true, lt-ltb, false≢true, or_parts, cases_lt, map-append, get_or_append_left, slice_get-get_or}
+use Rattle.delivery.proofs.Words.Std.{◌≡◌, ◌≢◌, ℕ, suc, ◌+◌, ◌<◌, ◌≤◌, ◌==◌, Bool, true, false, cond, not, ◌&&◌, ◌||◌, inl, inr, List, [], ◌∷◌, ◌++◌, map, length, get_or, Option, Some, None, refl, sym, ap, subst, ◌∙◌, arith, eq-eqb, nat_lt, list_any, is_some, option_map_or, option_or, option_to_list, unwrap_or, bytes_eq, eqb-true, lt-ltb, false≢true, or_parts, cases_lt, map-append, get_or_append_left, slice_get-get_or}
 use Rattle.delivery.proofs.Words.Topics.{first_refusal, Topic, In, NoSub, Entry}
 use Rattle.delivery.proofs.Words.Frames.{Command, RawFrame, Unread, SessionFault, topic_of, id_of, is_subscribe, is_unsubscribe, is_disconnect, entries_without, Held, subscriptions_left, is_ended, is_open, is_closed, session_fault, open_refusals}
 use Rattle.delivery.proofs.Words.Lemmas.{In-push_cases, at_set, none_some}

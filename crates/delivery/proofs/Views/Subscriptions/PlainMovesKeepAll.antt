@@ -1,14 +1,13 @@
 -- Moves that begin and end no subscription, but for the steps of a leaving: of a connection that is still open they
 -- change none.
-use Rattle.std.proofs.Common.{◌≡◌, ◌≢◌, ℕ, zero, suc, ◌+◌, ◌<◌, ◌≤◌, ◌==◌, true, false, cond, not, ◌&&◌, List, [], ◌∷◌, length, get_or, set, Option, Some, None, refl, sym, ap, subst, ◌∙◌, arith, ltb}
-use Rattle.delivery.proofs.Words.Std.{ltb-true, false≢true, not-false, is_some}
-use Rattle.delivery.proofs.Words.Topics.{Topic, TxnId, SentMessage, Decision, Item, ProposeFault, Entry}
+use Rattle.delivery.proofs.Words.Std.{◌≡◌, ◌≢◌, ℕ, zero, suc, ◌+◌, ◌<◌, ◌≤◌, ◌==◌, true, false, cond, not, ◌&&◌, List, [], ◌∷◌, length, get_or, set, Option, Some, None, refl, sym, ap, subst, ◌∙◌, arith, ltb, ltb-true, false≢true, not-false, is_some}
+use Rattle.delivery.proofs.Words.Topics.{Item, Entry}
 use Rattle.delivery.proofs.Words.Lemmas.{at_set}
-use Rattle.delivery.proofs.Words.Machine.{World, Leftover, Subscription, no_subscription, subscription_at, speaker, entry_at, Move, world_after, move_refusal, move_effect, is_live, find_leftover, find_verdict, oldest_live, commit_effect, proposal_fault, propose_effect, cancel_effect, learn_effect, take_effect, leave_effect, close_effect_of, run}
+use Rattle.delivery.proofs.Words.Machine.{World, Subscription, no_subscription, subscription_at, entry_at, Move, world_after, move_refusal, move_effect, is_live, oldest_live, take_effect, leave_effect, close_effect_of, run, Subscribes, Unsubscribes, Leaves, Takes}
 use Rattle.delivery.proofs.Words.Core.{live_numbers}
-use Rattle.delivery.specs.Machine.Moves.Move.{Commits, Subscribes, Unsubscribes, Leaves, Proposes, Cancels, Learns, Takes}
 use Rattle.delivery.proofs.Machine.SubscriptionSteps.{set_length}
 use Rattle.delivery.proofs.Machine.InvariantIsKept.{by_refusal, checked}
+use Rattle.delivery.proofs.Machine.ByFound.{by_found}
 use Rattle.delivery.proofs.Theorem.ClosedIsSilent.{oldest_found}
 use Rattle.delivery.proofs.Core.Speaking.{open_in}
 use Rattle.delivery.proofs.Views.Subscriptions.ClosedIsDropped.{live_of_others, live_owned}
@@ -63,22 +62,6 @@ live_alike c i (suc j) (y ∷ ys) x own closed = ap (λ (ns : List ℕ). cond (i
 
 -- ---- each move
 
-flown : (w : World) (c : ℕ) (sends : List SentMessage) → (commit_effect w c sends).subscriptions ≡ w.subscriptions
-flown w c [] = refl
-flown w c (first ∷ others) = refl
-
-proposed : (w : World) (c : ℕ) (t : Topic) (o : Option ProposeFault) → (propose_effect w c t o).subscriptions ≡ w.subscriptions
-proposed w c t None = refl
-proposed w c t (Some fault) = refl
-
-cancelled : (w : World) (c : ℕ) (t : Topic) (o : Option Leftover) → (cancel_effect w c t o).subscriptions ≡ w.subscriptions
-cancelled w c t None = refl
-cancelled w c t (Some k) = refl
-
-learned : (w : World) (t : Topic) (id : TxnId) (o : Option Decision) → (learn_effect w t id o).subscriptions ≡ w.subscriptions
-learned w t id None = refl
-learned w t id (Some v) = refl
-
 taken : (w : World) (c s : ℕ) (o : Option Item) → Keeps w (take_effect w s o) c
 taken w c s None = kept w (take_effect w s None) c refl
 taken w c s (Some item) = kept_but w (take_effect w s (Some item)) c s _ refl refl (live_alike c 0 s w.subscriptions _ refl refl)
@@ -103,7 +86,6 @@ abbrev pub IsNotShut : World → ℕ → Type 0
 IsNotShut w c = c < length w.connections → open_in w.connections c ≡ false → Prim.⊥
 
 happens : (w : World) (m : Move) (c : ℕ) → IsPlain m → IsNotShut w c → move_refusal w m ≡ None → Keeps w (move_effect w m) c
-happens w (Commits d sends) c plain shut n = kept w _ c (flown w d sends)
 happens w (Subscribes d t) c plain shut n = absurd plain
 happens w (Unsubscribes d s) c plain shut n = absurd plain
 happens w (Leaves d) c plain shut n =
@@ -111,11 +93,8 @@ happens w (Leaves d) c plain shut n =
     left w c d (oldest_live d 0 w.subscriptions) refl
     (λ same. shut (subst (λ m. m < length w.connections) same (ltb-true d (length w.connections) (not-false (ltb d (length w.connections)) k.0)))
     (subst (λ m. open_in w.connections m ≡ false) same k.1.1.0))
-happens w (Proposes d t memory) c plain shut n = kept w _ c (proposed w d t (proposal_fault w d t memory))
-happens w (Cancels d t) c plain shut n = kept w _ c (cancelled w d t (find_leftover t (speaker w d).leftovers))
-happens w (Learns t id) c plain shut n = kept w _ c (learned w t id (find_verdict id w.verdicts))
 happens w (Takes s) c plain shut n = taken w c s _
-happens w _ c plain shut n = kept w _ c refl
+happens w m c plain shut n = kept w (move_effect w m) c (by_found (λ v o. v.subscriptions ≡ w.subscriptions) w m (refl, λ k. refl))
 
 move_keeps : (w : World) (m : Move) (c : ℕ) → IsPlain m → IsNotShut w c → Keeps w (world_after w m) c
 move_keeps w m c plain shut = by_refusal (λ v o. Keeps w v c) w m (λ why. kept w w c refl) (λ n. happens w m c plain shut n)

@@ -1,6 +1,5 @@
 -- The queue of a subscription that isn't closed: in its topic's group, and after a take.
-use Rattle.std.proofs.Common.{◌≡◌, ◌≢◌, ℕ, zero, suc, ◌+◌, ◌<◌, ◌==◌, Bool, true, false, cond, inl, inr, List, [], ◌∷◌, map, length, get_or, set, Option, Some, None, refl, sym, ap, subst, ◌∙◌, arith, eq-eqb}
-use Rattle.delivery.proofs.Words.Std.{slice_get, is_some, option_map, option_map_or, eqb-true, true≢false, lt-ltb, cases_lt, get_or-set_same, get_or-set_other, get_or_past, get_or_default}
+use Rattle.delivery.proofs.Words.Std.{◌≡◌, ◌≢◌, ℕ, zero, suc, ◌+◌, ◌<◌, ◌==◌, Bool, true, false, cond, inl, inr, List, [], ◌∷◌, map, length, get_or, set, Option, Some, None, refl, sym, ap, subst, ◌∙◌, arith, eq-eqb, slice_get, is_some, option_map, option_map_or, eqb-true, true≢false, lt-ltb, cases_lt, get_or-set_same, get_or-set_other, get_or_past, get_or_default}
 use Rattle.delivery.proofs.Words.Topics.{In, Topic, Gauge, group_after_take, GroupState, shows, TopicState, Entry, EntryEnd, new_topic, find_entry, NumbersDiffer}
 use Rattle.delivery.proofs.Words.Frames.{RawFrame, id_of, wants_parts}
 use Rattle.delivery.proofs.Words.Lemmas.{numbers_differ, none_some}

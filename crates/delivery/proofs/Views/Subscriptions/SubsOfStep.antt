@@ -1,7 +1,5 @@
 -- What a step does to the subscriptions of a connection that is still open: it changes none, begins one or ends one.
-use Rattle.std.proofs.Common.{◌≡◌, ◌≢◌, ℕ, ◌+◌, ◌<◌, ◌==◌, Bool, true, false, cond, not, ◌&&◌, ◌||◌, ◌⊎◌, inl, inr, List, [], ◌∷◌, ◌++◌, length, get_or, set, Option, Some, None, refl, sym, ap, subst, ◌∙◌, arith}
-use Rattle.std.proofs.Common.{eq-eqb}
-use Rattle.delivery.proofs.Words.Std.{eqb-true, ltb-true, false≢true, and_parts, not-false, append-nil, get_or_append_left, is_some, option_map, option_map_or, option_or, option_and_then, option_to_list, unwrap_or, bytes_eq, codes}
+use Rattle.delivery.proofs.Words.Std.{◌≡◌, ◌≢◌, ℕ, ◌+◌, ◌<◌, ◌==◌, Bool, true, false, cond, not, ◌&&◌, ◌||◌, ◌⊎◌, inl, inr, List, [], ◌∷◌, ◌++◌, length, get_or, set, Option, Some, None, refl, sym, ap, subst, ◌∙◌, arith, eq-eqb, eqb-true, ltb-true, false≢true, and_parts, not-false, append-nil, get_or_append_left, is_some, option_map, option_map_or, option_or, option_and_then, option_to_list, unwrap_or, bytes_eq, codes}
 use Rattle.delivery.proofs.Words.Topics.{Topic, Stamp, SentMessage, In, first_refusal, Entry}
 use Rattle.delivery.proofs.Words.Frames.{Command, RawFrame, case_fault, first_of, Unread, Action, SessionFault, action_by, commit, field, has_destination, topic_of, id_of, transaction_of, send_of, is_subscribe, is_unsubscribe, entries_without, Held, subscriptions_left, is_open, session_fault, sends_in, is_known}
 use Rattle.delivery.proofs.Words.Lemmas.{none_some, some_same}

@@ -1,13 +1,12 @@
 -- The verdict of a transaction by its sender and seq is the one that a search finds.
-use Rattle.std.proofs.Common.{◌≡◌, ◌≢◌, ℕ, zero, suc, ◌+◌, ◌-◌, ◌<◌, ◌≤◌, ◌==◌, Bool, true, false, cond, inl, inr, List, [], ◌∷◌, length, Option, Some, None, refl, sym, ap, subst, ◌∙◌, arith}
-use Rattle.delivery.proofs.Words.Std.{eqb-true, eq-eqb, false≢true, cases_lt, slice_get-get_or, slice_get_past, slice_get, option_and_then}
-use Rattle.delivery.proofs.Words.Topics.{Topic, TxnId, SentMessage, Transaction, Decision, same_id, In, Item, topics_of, names, ProposeFault, Entry}
+use Rattle.delivery.proofs.Words.Std.{◌≡◌, ◌≢◌, ℕ, zero, suc, ◌+◌, ◌-◌, ◌<◌, ◌≤◌, ◌==◌, Bool, true, false, cond, inl, inr, List, [], ◌∷◌, length, Option, Some, None, refl, sym, ap, subst, ◌∙◌, arith, eqb-true, eq-eqb, false≢true, cases_lt, slice_get-get_or, slice_get_past, slice_get, option_and_then}
+use Rattle.delivery.proofs.Words.Topics.{Topic, TxnId, Transaction, Decision, same_id, In, topics_of, names}
 use Rattle.delivery.proofs.Words.Lemmas.{id_equal}
-use Rattle.delivery.proofs.Words.Machine.{World, Undecided, Leftover, SenderState, new_sender, subscription_at, sender_at, speaker, entry_at, speaker_number, accepted_at, Move, Answer, move_refusal, move_effect, undecided_at, find_leftover, find_verdict, oldest_live, commit_effect, proposal_fault, propose_effect, cancel_effect, learn_effect, take_effect, leave_effect, close_effect_of, Numbered, txn_of_id, txn_count, Run, answers_of, final_world}
+use Rattle.delivery.proofs.Words.Machine.{World, Undecided, SenderState, new_sender, sender_at, speaker_number, Move, Answer, move_refusal, move_effect, undecided_at, find_verdict, Numbered, txn_of_id, txn_count, Run, answers_of, final_world, Leaves, Decides}
+use Rattle.delivery.proofs.Machine.ByFound.{InEachCase, by_found, by_entry}
 use Rattle.delivery.proofs.Words.Core.{Core, each_number}
 use Rattle.delivery.proofs.Words.Views.{IsReached, verdict_at, view_of, verdict_list}
 use Rattle.std.proofs.lemmas.List.FromFn.{length-map-range_with_len, get_or-map-range_with_len}
-use Rattle.delivery.specs.Machine.Moves.Move.{Commits, Unsubscribes, Leaves, Proposes, Decides, Cancels, Learns, Takes}
 use Rattle.delivery.proofs.Machine.Invariant.{sender_in}
 use Rattle.delivery.proofs.Machine.SenderSteps.{In-append_cases}
 use Rattle.delivery.proofs.Machine.InvariantIsKept.{by_refusal, checked, in_flight, verdict_found}
@@ -39,47 +38,12 @@ flight_seq r s f e =
 
 -- ---- nor has a verdict
 
-flown : (w : World) (c : ℕ) (sends : List SentMessage) → (commit_effect w c sends).verdicts ≡ w.verdicts
-flown w c [] = refl
-flown w c (first ∷ others) = refl
-
-proposed : (w : World) (c : ℕ) (t : Topic) (o : Option ProposeFault) → (propose_effect w c t o).verdicts ≡ w.verdicts
-proposed w c t None = refl
-proposed w c t (Some fault) = refl
-
-cancelled : (w : World) (c : ℕ) (t : Topic) (o : Option Leftover) → (cancel_effect w c t o).verdicts ≡ w.verdicts
-cancelled w c t None = refl
-cancelled w c t (Some k) = refl
-
-learned : (w : World) (t : Topic) (id : TxnId) (o : Option Decision) → (learn_effect w t id o).verdicts ≡ w.verdicts
-learned w t id None = refl
-learned w t id (Some v) = refl
-
-closed : (w : World) (s : ℕ) (o : Option Entry) → (close_effect_of w s o).verdicts ≡ w.verdicts
-closed w s None = refl
-closed w s (Some e) = refl
-
-left : (w : World) (c : ℕ) (o : Option ℕ) → (leave_effect w c o).verdicts ≡ w.verdicts
-left w c None = refl
-left w c (Some s) = closed w s (entry_at w s)
-
-taken : (w : World) (s : ℕ) (o : Option Item) → (take_effect w s o).verdicts ≡ w.verdicts
-taken w s None = refl
-taken w s (Some item) = refl
-
 -- each verdict is of a transaction
 abbrev AreOf : List Answer → World → Type 0
 AreOf past w = (v : Decision) → In v w.verdicts → v.id.seq ≢ 0
 
-same_verdicts : (w v : World) → v.verdicts ≡ w.verdicts → AreOf [] w → AreOf [] v
-same_verdicts w v e h = subst (λ z. (d : Decision) → In d z → d.id.seq ≢ 0) (sym e) h
-
-happens : (r : Run) (e : Move) → AreOf [] (final_world r) → move_refusal (final_world r) e ≡ None → AreOf [] (move_effect (final_world r) e)
-happens r (Commits c sends) h n = let w = final_world r in same_verdicts w (move_effect w (Commits c sends)) (flown w c sends) h
-happens r (Unsubscribes c s) h n = let w = final_world r in same_verdicts w (move_effect w (Unsubscribes c s)) (closed w s (entry_at w s)) h
-happens r (Leaves c) h n = let w = final_world r in same_verdicts w (move_effect w (Leaves c)) (left w c (oldest_live c 0 w.subscriptions)) h
-happens r (Proposes c t memory) h n = let w = final_world r in same_verdicts w (move_effect w (Proposes c t memory)) (proposed w c t (proposal_fault w c t memory)) h
-happens r (Decides c) h n =
+decided : (r : Run) (c : ℕ) → AreOf [] (final_world r) → move_refusal (final_world r) (Decides c) ≡ None → AreOf [] (move_effect (final_world r) (Decides c))
+decided r c h n =
     let w = final_world r in let fl = in_flight w c (checked w (Decides c) n).1.1.0 in
     λ v i. elim (In-append_cases v w.verdicts (record { id = (undecided_at w c).txn.id; rows = (undecided_at w c).given } ∷ []) i) [
       | inl j ↦ h v j
@@ -88,15 +52,16 @@ happens r (Decides c) h n =
         | inr k ↦ absurd k
       ]
     ]
-happens r (Cancels c t) h n = let w = final_world r in same_verdicts w (move_effect w (Cancels c t)) (cancelled w c t (find_leftover t (speaker w c).leftovers)) h
-happens r (Learns t id) h n = let w = final_world r in same_verdicts w (move_effect w (Learns t id)) (learned w t id (find_verdict id w.verdicts)) h
-happens r (Takes s) h n = let w = final_world r in same_verdicts w (move_effect w (Takes s)) (taken w s (slice_get (accepted_at w s) (subscription_at w s).taken)) h
-happens r _ h n = h
+
+happens : (r : Run) (e : Move) → AreOf [] (final_world r) → move_refusal (final_world r) e ≡ None → InEachCase (λ v o. AreOf [] v) (final_world r) e
+happens r (Decides c) h n = (decided r c h n, λ k. decided r c h n)
+happens r (Leaves c) h n = (h, λ s. by_entry (AreOf []) (final_world r) s h (λ k. h))
+happens r _ h n = (h, λ k. h)
 
 of_transactions : (r : Run) → AreOf [] (final_world r)
 of_transactions =
     by_run (λ past w. AreOf [] w) (λ capacity log_limit clocks v i. absurd i)
-    (λ r e h. by_refusal (λ v o. AreOf [] v) (final_world r) e (λ why. h) (λ n. happens r e h n))
+    (λ r e h. by_refusal (λ v o. AreOf [] v) (final_world r) e (λ why. h) (λ n. by_found (λ v o. AreOf [] v) (final_world r) e (happens r e h n)))
 
 -- ---- where a verdict is
 

@@ -1,6 +1,5 @@
 -- A verdict among those of its sender.
-use Rattle.std.proofs.Common.{◌≡◌, ◌≢◌, ℕ, zero, suc, ◌+◌, ◌-◌, ◌<◌, ◌≤◌, ◌==◌, Bool, true, false, cond, ◌&&◌, List, [], ◌∷◌, ◌++◌, map, set, Option, Some, None, refl, sym, ap, ◌∙◌, arith}
-use Rattle.delivery.proofs.Words.Std.{range_with_len}
+use Rattle.delivery.proofs.Words.Std.{◌≡◌, ◌≢◌, ℕ, zero, suc, ◌+◌, ◌-◌, ◌<◌, ◌≤◌, ◌==◌, Bool, true, false, cond, ◌&&◌, List, [], ◌∷◌, ◌++◌, map, set, Option, Some, None, refl, sym, ap, ◌∙◌, arith, range_with_len}
 use Rattle.delivery.proofs.Words.Topics.{TxnId, Decision, same_id}
 use Rattle.delivery.proofs.Words.Lemmas.{id_itself, none_some}
 use Rattle.delivery.proofs.Words.Machine.{Undecided, sender_at, find_verdict, Run, final_world}

@@ -1,7 +1,5 @@
 -- A sender's verdicts among those of all.
-use Rattle.std.proofs.Common.{◌≡◌, ℕ, ◌<◌, ◌-◌, List, [], ◌∷◌, ◌++◌, map, length, take, get_or, set, zero, suc, Option, None, refl, sym, ap, ◌∙◌, arith}
-use Rattle.std.proofs.Common.{Vec, Box, Global}
-use Rattle.delivery.proofs.Words.Std.{map-set, map-append, get_or-map, set-get_or, take-map, length-map, length-append, take-append_seam, option_map}
+use Rattle.delivery.proofs.Words.Std.{◌≡◌, ℕ, ◌<◌, ◌-◌, List, [], ◌∷◌, ◌++◌, map, length, take, get_or, set, zero, suc, Option, None, refl, sym, ap, ◌∙◌, arith, Vec, Box, Global, map-set, map-append, get_or-map, set-get_or, take-map, length-map, length-append, take-append_seam, option_map}
 use Rattle.delivery.proofs.Words.Topics.{Decision}
 use Rattle.mcast_txn.specs.declared.ballot.verdict.Verdict.{Verdict}
 

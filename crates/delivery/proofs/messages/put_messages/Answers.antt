@@ -1,5 +1,4 @@
-use Rattle.std.proofs.Common.{◌≡◌, ◌++◌, ◌<◌, ℕ, List, Some, length, sym, ap, ◌∙◌, arith}
-use Rattle.delivery.proofs.Words.Std.{slice_get}
+use Rattle.delivery.proofs.Words.Std.{◌≡◌, ◌++◌, ◌<◌, ℕ, List, Some, length, sym, ap, ◌∙◌, arith, slice_get}
 use Rattle.delivery.proofs.Words.Topics.{Part, PartMessage, Stamp, Item}
 use Rattle.delivery.proofs.Words.Frames.{message_frame, message_id, spelling_of}
 use Rattle.delivery.proofs.Views.Lists.TextOfMessages.{message_of, text_put}

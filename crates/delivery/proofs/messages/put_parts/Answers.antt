@@ -1,5 +1,4 @@
-use Rattle.std.proofs.Common.{◌≡◌, ◌++◌, ◌<◌, ◌≤◌, ◌+◌, ℕ, List, Some, length, sym, ap, ◌∙◌, arith}
-use Rattle.delivery.proofs.Words.Std.{slice_get, enumerate_from, length-enumerate_from}
+use Rattle.delivery.proofs.Words.Std.{◌≡◌, ◌++◌, ◌<◌, ◌≤◌, ◌+◌, ℕ, List, Some, length, sym, ap, ◌∙◌, arith, slice_get, enumerate_from, length-enumerate_from}
 use Rattle.delivery.proofs.Words.Topics.{Part, PartMessage, Stamp, Item}
 use Rattle.delivery.proofs.Words.Frames.{message_id, part_message_frame, spelling_of}
 use Rattle.std.proofs.lemmas.List.{take_all}

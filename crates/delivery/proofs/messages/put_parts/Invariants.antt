@@ -1,5 +1,4 @@
-use Rattle.std.proofs.Common.{◌≡◌, ◌++◌, length, take}
-use Rattle.delivery.proofs.Words.Std.{enumerate_from}
+use Rattle.delivery.proofs.Words.Std.{◌≡◌, ◌++◌, length, take, enumerate_from}
 use Rattle.delivery.proofs.Views.Lists.TextOfMessages.{placed_of, text_of}
 use Rattle.delivery.proofs.messages.put_parts.Given as goal
 

@@ -1,5 +1,4 @@
-use Rattle.std.proofs.Common.{◌≡◌, ◌<◌, ◌∷◌, [], ◌++◌, List, length, take, get_or, sym, ap, ◌∙◌, arith}
-use Rattle.delivery.proofs.Words.Std.{append_assoc, take_more, slice_get-get_or}
+use Rattle.delivery.proofs.Words.Std.{◌≡◌, ◌<◌, ◌∷◌, [], ◌++◌, List, length, take, get_or, sym, ap, ◌∙◌, arith, append_assoc, take_more, slice_get-get_or}
 use Rattle.delivery.proofs.Words.Topics.{Ticket}
 use Rattle.delivery.proofs.Words.Lemmas.{some_same}
 use Rattle.delivery.proofs.sender_state.keep_tickets.Goals as goal

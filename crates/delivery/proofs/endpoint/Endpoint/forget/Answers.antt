@@ -1,5 +1,4 @@
-use Rattle.std.proofs.Common.{rules, ◌≡◌, ◌==◌, Some, None}
-use Rattle.delivery.proofs.Words.Std.{position}
+use Rattle.delivery.proofs.Words.Std.{rules, ◌≡◌, ◌==◌, Some, None, position}
 use Rattle.delivery.proofs.Views.Subscriptions.ClosedIsDropped.{forgotten, unforgotten}
 use Rattle.delivery.proofs.endpoint.Endpoint.forget.Goals as goal
 

@@ -1,5 +1,4 @@
-use Rattle.std.proofs.Common.{◌≡◌, ◌-◌, [], ◌∷◌, List, length, refl, sym, ap, subst, ◌∙◌, append_assoc, append-nil, length-append, arith, vec_len, vec_capacity}
-use Rattle.delivery.proofs.Words.Std.{into_iter_items, reverse}
+use Rattle.delivery.proofs.Words.Std.{◌≡◌, ◌-◌, [], ◌∷◌, List, length, refl, sym, ap, subst, ◌∙◌, append_assoc, append-nil, length-append, arith, vec_len, vec_capacity, into_iter_items, reverse}
 use Rattle.delivery.proofs.Words.Core.{Event, Kept, KeptRun, HasTaken}
 use Rattle.delivery.proofs.Words.Views.{steps_of}
 use Rattle.delivery.proofs.Views.Runs.KeptRuns.{opening_of, has_report, taken_none, taken_more}

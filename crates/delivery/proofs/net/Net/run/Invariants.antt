@@ -1,5 +1,4 @@
-use Rattle.std.proofs.Common.{◌≡◌, ◌≤◌, ◌+◌, ◌++◌, length}
-use Rattle.delivery.proofs.Words.Std.{into_iter_items}
+use Rattle.delivery.proofs.Words.Std.{◌≡◌, ◌≤◌, ◌+◌, ◌++◌, length, into_iter_items}
 use Rattle.delivery.proofs.Words.Core.{HasTaken, HasReport}
 use Rattle.std.specs.Vec.Iter.{into_iter_len}
 use Rattle.delivery.proofs.net.Net.run.Given as goal

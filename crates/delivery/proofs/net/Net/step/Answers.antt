@@ -1,5 +1,4 @@
-use Rattle.std.proofs.Common.{◌≡◌, refl, ℕ, ◌-◌, List, ◌∷◌, [], ◌++◌, ap, subst, ◌∙◌, arith, vec_len, vec_capacity}
-use Rattle.delivery.proofs.Words.Std.{length, reverse, take}
+use Rattle.delivery.proofs.Words.Std.{◌≡◌, refl, ℕ, ◌-◌, List, ◌∷◌, [], ◌++◌, ap, subst, ◌∙◌, arith, vec_len, vec_capacity, length, reverse, take}
 use Rattle.delivery.proofs.Words.Core.{KeptRun, HasAnswered}
 use Rattle.delivery.proofs.Words.Views.{steps_of}
 use Rattle.delivery.proofs.Views.Runs.KeptRuns.{opening_of, has_report, has_answered, step_kept, names_stay, capacity_stays}

@@ -1,5 +1,4 @@
-use Rattle.std.proofs.Common.{[], refl, subst, sym}
-use Rattle.delivery.proofs.Words.Std.{IfOk-weaker}
+use Rattle.delivery.proofs.Words.Std.{[], refl, subst, sym, IfOk-weaker}
 use Rattle.delivery.proofs.Words.Topics.{TraceData}
 use Rattle.delivery.proofs.Words.Core.{KeptRun, trace_of, IsTraced}
 use Rattle.delivery.proofs.Words.Views.{report_in}

@@ -1,13 +1,11 @@
-use Rattle.std.proofs.Common.{ℕ, List, ◌-◌, length, Option, sym, ap, subst, ◌∙◌, arith}
-use Rattle.delivery.proofs.Words.Std.{take, lt-ltb}
+use Rattle.delivery.proofs.Words.Std.{ℕ, List, ◌-◌, length, Option, sym, ap, subst, ◌∙◌, arith, take, lt-ltb}
 use Rattle.delivery.proofs.Words.Topics.{SendersState}
 use Rattle.delivery.proofs.Words.Core.{Event}
 use Rattle.delivery.proofs.Words.Views.{Asks, AsksUnnamed, View, MakesBoth}
-use Rattle.delivery.proofs.Views.Events.TopicTaken.{first_use_wants, grouped_asks, grouped_length, made_is, name_taken, named_room, none_taken, topic_taken}
+use Rattle.delivery.proofs.Views.Events.TopicTaken.{first_use_wants, grouped_asks, grouped_length, made_is, name_taken, named_room, none_taken, topic_taken, has_destination_of, uses_other}
 use Rattle.delivery.proofs.net_state.NetState.act.Goals.{then-made, else-made}
 use Rattle.delivery.proofs.Views.Clients.BothOfStep.{faulted_both}
 use Rattle.delivery.proofs.Views.Events.NextFaults.{may_lack, none_claimed}
-use Rattle.delivery.proofs.Views.Events.TopicTaken.{has_destination_of, uses_other}
 use Rattle.delivery.proofs.net_state.NetState.act.Goals as goal
 
 pub make_topic-requires : goal.make_topic-requires

@@ -1,5 +1,4 @@
-use Rattle.std.proofs.Common.{◌≡◌, ◌+◌, ◌<◌, ℕ, true, length, map, get_or, ap, subst, ◌∙◌, arith}
-use Rattle.delivery.proofs.Words.Std.{list_all}
+use Rattle.delivery.proofs.Words.Std.{◌≡◌, ◌+◌, ◌<◌, ℕ, true, length, map, get_or, ap, subst, ◌∙◌, arith, list_all}
 use Rattle.delivery.proofs.Words.Topics.{GroupState, TopicRow, fits}
 use Rattle.delivery.proofs.Words.Core.{traced_log}
 use Rattle.delivery.proofs.Words.Views.{View}

@@ -1,5 +1,4 @@
-use Rattle.std.proofs.Common.{sym, ap, subst, ◌∙◌}
-use Rattle.delivery.proofs.Words.Std.{slice_get}
+use Rattle.delivery.proofs.Words.Std.{sym, ap, subst, ◌∙◌, slice_get}
 use Rattle.delivery.proofs.Words.Core.{Event, Outcome}
 use Rattle.delivery.proofs.Words.Views.{there_objection, speaker_at, cancel_refusal_in, cancelled_view, Makes, View}
 use Rattle.delivery.proofs.Views.Events.CancelStep.{cancel_gone, cancel_refused, cancel_makes}

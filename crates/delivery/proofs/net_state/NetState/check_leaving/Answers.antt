@@ -1,5 +1,4 @@
-use Rattle.std.proofs.Common.{rules, ◌≡◌, true, false, List, refl, sym, ap, ◌∙◌}
-use Rattle.delivery.proofs.Words.Std.{slice_get}
+use Rattle.delivery.proofs.Words.Std.{rules, ◌≡◌, true, false, List, refl, sym, ap, ◌∙◌, slice_get}
 use Rattle.delivery.proofs.Words.Machine.{Objection}
 use Rattle.delivery.proofs.Words.Core.{Stage}
 use Rattle.delivery.proofs.Words.Views.{View, EndpointView, waits, leaving_objection, leave_objection}

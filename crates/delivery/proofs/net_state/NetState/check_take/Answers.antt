@@ -1,5 +1,4 @@
-use Rattle.std.proofs.Common.{◌≡◌, true, false, List, Some, None, refl, sym, ap, ◌∙◌}
-use Rattle.delivery.proofs.Words.Std.{slice_get, is_some}
+use Rattle.delivery.proofs.Words.Std.{◌≡◌, true, false, List, Some, None, refl, sym, ap, ◌∙◌, slice_get, is_some}
 use Rattle.delivery.proofs.Words.Machine.{Objection}
 use Rattle.delivery.proofs.Words.Views.{endpoint_objection, sub_objection, View, SubView, left_of}
 use Rattle.delivery.proofs.Views.Events.TakeStep.{sub_missing, is_some_map, sub_closed, sub_shut, sub_open}

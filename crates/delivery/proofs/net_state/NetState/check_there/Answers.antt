@@ -1,5 +1,4 @@
-use Rattle.std.proofs.Common.{◌≡◌, List, get_or, refl, sym, ap, ◌∙◌}
-use Rattle.delivery.proofs.Words.Std.{slice_get, slice_get_past}
+use Rattle.delivery.proofs.Words.Std.{◌≡◌, List, get_or, refl, sym, ap, ◌∙◌, slice_get, slice_get_past}
 use Rattle.delivery.proofs.Words.Machine.{Objection}
 use Rattle.delivery.proofs.Words.Views.{gone_objection, there_objection, View, EndpointView, no_endpoint, number_among}
 use Rattle.delivery.proofs.Views.Events.OneMove.{endpoint_read}

@@ -1,5 +1,4 @@
-use Rattle.std.proofs.Common.{ℕ, length, get_or, refl, sym, ap, subst, ◌∙◌, arith}
-use Rattle.delivery.proofs.Words.Std.{List, Option, Result, Ok}
+use Rattle.delivery.proofs.Words.Std.{ℕ, length, get_or, refl, sym, ap, subst, ◌∙◌, arith, List, Option, Result, Ok}
 use Rattle.delivery.proofs.Words.Topics.{after_claim, claim_refusal, claimed_gate}
 use Rattle.delivery.proofs.Words.Frames.{NoMemory, connected_frame, spelling_of}
 use Rattle.delivery.proofs.Words.Core.{ConnectionFault}

@@ -1,5 +1,4 @@
-use Rattle.std.proofs.Common.{◌≡◌, ◌<◌, List, length, get_or, true, sym, ap, subst, ◌∙◌}
-use Rattle.delivery.proofs.Words.Std.{slice_get, is_some}
+use Rattle.delivery.proofs.Words.Std.{◌≡◌, ◌<◌, List, length, get_or, true, sym, ap, subst, ◌∙◌, slice_get, is_some}
 use Rattle.delivery.proofs.Words.Core.{Event, Outcome}
 use Rattle.delivery.proofs.Words.Views.{there_objection, speaker_at, sender_in, decide_refusal, decided_row, decided_view, receipt_in, confirmed_view, Makes, View, EndpointView, view_of, no_endpoint}
 use Rattle.delivery.proofs.Views.Events.ConnectionIsThere.{endpoint_there}

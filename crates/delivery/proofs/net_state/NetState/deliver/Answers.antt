@@ -1,5 +1,4 @@
-use Rattle.std.proofs.Common.{◌≡◌, List, Some, None, get_or, sym, ap, ◌∙◌}
-use Rattle.delivery.proofs.Words.Std.{get_or_default}
+use Rattle.delivery.proofs.Words.Std.{◌≡◌, List, Some, None, get_or, sym, ap, ◌∙◌, get_or_default}
 use Rattle.delivery.proofs.Words.Topics.{GroupState}
 use Rattle.delivery.proofs.Words.Views.{take_objection, sub_held, next_of, next_held, after_next_item, View, SubView, no_group, no_endpoint, no_sub}
 use Rattle.delivery.proofs.Views.Events.TakeStep.{free_there, free_endpoint, next_there, item_put}

@@ -1,5 +1,4 @@
-use Rattle.std.proofs.Common.{◌≡◌, ℕ, get_or, sym, ap, ◌∙◌, arith}
-use Rattle.delivery.proofs.Words.Std.{option_map}
+use Rattle.delivery.proofs.Words.Std.{◌≡◌, ℕ, get_or, sym, ap, ◌∙◌, arith, option_map}
 use Rattle.delivery.proofs.Words.Lemmas.{none_some, some_same}
 use Rattle.delivery.proofs.Words.Core.{number_by}
 use Rattle.delivery.proofs.Words.Views.{receipt_text, left_at, LeftView, no_endpoint, written_endpoint}

@@ -1,5 +1,4 @@
-use Rattle.std.proofs.Common.{Bool, get_or, List, ℕ, sym, ap, ◌∙◌, arith}
-use Rattle.delivery.proofs.Words.Std.{option_map}
+use Rattle.delivery.proofs.Words.Std.{Bool, get_or, List, ℕ, sym, ap, ◌∙◌, arith, option_map}
 use Rattle.delivery.proofs.Words.Frames.{error_frame, spelling_of}
 use Rattle.delivery.proofs.Words.Views.{failed_endpoint, no_endpoint}
 use Rattle.delivery.proofs.Views.Endpoints.EndpointChanges.{with_endpoint, written_length, failed_view, error_is}

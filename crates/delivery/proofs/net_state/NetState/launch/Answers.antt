@@ -1,5 +1,4 @@
-use Rattle.std.proofs.Common.{◌≡◌, ◌<◌, ◌+◌, ℕ, length, get_or, set, sym, ap, subst, ◌∙◌}
-use Rattle.delivery.proofs.Words.Std.{set-get_or}
+use Rattle.delivery.proofs.Words.Std.{◌≡◌, ◌<◌, ◌+◌, ℕ, length, get_or, set, sym, ap, subst, ◌∙◌, set-get_or}
 use Rattle.delivery.proofs.Words.Views.{PromisedRows, is_flying, speaker_at, View, SenderView, no_endpoint, number_among}
 use Rattle.delivery.proofs.Views.Events.ConnectionIsThere.{endpoint_found}
 use Rattle.delivery.proofs.Views.Senders.RoomLasts.{count_launched}

@@ -1,5 +1,4 @@
-use Rattle.std.proofs.Common.{◌<◌, ℕ, true, false, List, length, get_or, sym, ap, subst, ◌∙◌}
-use Rattle.delivery.proofs.Words.Std.{slice_get, false≢true}
+use Rattle.delivery.proofs.Words.Std.{◌<◌, ℕ, true, false, List, length, get_or, sym, ap, subst, ◌∙◌, slice_get, false≢true}
 use Rattle.delivery.proofs.Words.Topics.{SendersState}
 use Rattle.delivery.proofs.Words.Core.{Event, Outcome}
 use Rattle.delivery.proofs.Words.Views.{MakesBoth, given_back, rested_view, Makes, EndpointView, View, no_endpoint, view_of, leave_objection, oldest_end, oldest_closed, has_parting, gone_view}

@@ -1,5 +1,4 @@
-use Rattle.std.proofs.Common.{get_or, set, sym, ap, subst, ◌∙◌}
-use Rattle.delivery.proofs.Words.Std.{slice_get}
+use Rattle.delivery.proofs.Words.Std.{get_or, set, sym, ap, subst, ◌∙◌, slice_get}
 use Rattle.delivery.proofs.Words.Core.{Event, Outcome}
 use Rattle.delivery.proofs.Words.Views.{Makes, endpoint_objection, View, fed_endpoint, no_endpoint}
 use Rattle.delivery.proofs.Views.Events.PieceStep.{piece_makes, piece_without, piece_refused}

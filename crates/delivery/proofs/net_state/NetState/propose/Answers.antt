@@ -1,5 +1,4 @@
-use Rattle.std.proofs.Common.{ℕ, Result, sym, ap, subst, ◌∙◌, Ok, Err}
-use Rattle.delivery.proofs.Words.Std.{slice_get}
+use Rattle.delivery.proofs.Words.Std.{ℕ, Result, sym, ap, subst, ◌∙◌, Ok, Err, slice_get}
 use Rattle.delivery.proofs.Words.Topics.{ProposeFault}
 use Rattle.delivery.proofs.Words.Core.{Event, Outcome}
 use Rattle.delivery.proofs.Words.Views.{there_objection, speaker_at, sender_in, part_in, propose_refusal_in, taken_view, IsProposed, Makes, View}

@@ -1,5 +1,4 @@
-use Rattle.std.proofs.Common.{Option, Some, None, get_or, refl, sym, ap, ◌∙◌, arith}
-use Rattle.delivery.proofs.Words.Std.{Result, Ok, Err}
+use Rattle.delivery.proofs.Words.Std.{Option, Some, None, get_or, refl, sym, ap, ◌∙◌, arith, Result, Ok, Err}
 use Rattle.delivery.proofs.Words.Frames.{Step}
 use Rattle.delivery.proofs.Words.Core.{Outcome, Refusal}
 use Rattle.delivery.proofs.Words.Views.{EndpointFault, staged_endpoint, no_endpoint}

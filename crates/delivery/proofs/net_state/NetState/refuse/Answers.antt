@@ -1,5 +1,4 @@
-use Rattle.std.proofs.Common.{Option, None, sym, ap, ◌∙◌}
-use Rattle.delivery.proofs.Words.Std.{option_map}
+use Rattle.delivery.proofs.Words.Std.{Option, None, sym, ap, ◌∙◌, option_map}
 use Rattle.delivery.proofs.Words.Frames.{RawFrame}
 use Rattle.delivery.proofs.Words.Core.{receipt_asked, says_version, is_faulted}
 use Rattle.delivery.proofs.Words.Views.{no_endpoint}

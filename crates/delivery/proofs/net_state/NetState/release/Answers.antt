@@ -1,24 +1,19 @@
-use Rattle.std.proofs.Common.{◌≡◌, ◌<◌, ◌≤◌, length, sym, ap, subst, ◌∙◌, arith}
-use Rattle.delivery.proofs.Words.Std.{length-map}
+use Rattle.delivery.proofs.Words.Std.{◌<◌, ◌≤◌, length, sym, ap, subst, ◌∙◌, arith}
 use Rattle.delivery.proofs.Words.Core.{Event, Outcome, Refusal}
-use Rattle.delivery.proofs.Words.Views.{Makes, View, group_view, no_group}
-use Rattle.delivery.proofs.Views.Events.ReleaseStep.{release_some, release_none, release_unnamed, released_at, due_id_at}
+use Rattle.delivery.proofs.Words.Views.{Makes, View, no_group}
+use Rattle.delivery.proofs.Views.Events.ReleaseStep.{topics_held, release_some, release_none, release_unnamed, released_at, due_id_at}
 use Rattle.delivery.proofs.net_state.NetState.release.Goals as goal
 
 pub returns-then-index-len : goal.returns-then-index-len
 returns-then-index-len c k reached is =
-    let many : c.len.result ≡ length c.self.inside.groups.items = omega (arith, c.self.inside.groups.ok.0, c.len.ensures) in
-    let topics : c.len.result ≡ length k.world.topics =
-    many ∙ (ap (λ (v : View). length v.groups) (c.self.view_is ∙ is) ∙ length-map k.world.topics (group_view k.world)) in
-    let none : length k.world.topics ≤ c.args.topic.0 = omega (arith, topics, c.if-index-len.true) in
+    let topics = topics_held k c.self.inside.groups.items (ap (λ (v : View). v.groups) (c.self.view_is ∙ is)) in
+    let none : length k.world.topics ≤ c.args.topic.0 = omega (arith, topics, c.self.inside.groups.ok.0, c.len.ensures, c.if-index-len.true) in
     subst (λ (v : View). Makes k (Event.Release c.args.topic) (Outcome.Refused Refusal.NotNamed) v) (sym is) (release_unnamed k c.args.topic none)
 
 pub returns-in-Some : goal.returns-in-Some
 returns-in-Some c k reached is =
-    let many : c.len.result ≡ length c.self.inside.groups.items = omega (arith, c.self.inside.groups.ok.0, c.len.ensures) in
-    let topics : c.len.result ≡ length k.world.topics =
-    many ∙ (ap (λ (v : View). length v.groups) (c.self.view_is ∙ is) ∙ length-map k.world.topics (group_view k.world)) in
-    let there : c.args.topic.0 < length k.world.topics = omega (arith, topics, c.if-index-len.false) in
+    let topics = topics_held k c.self.inside.groups.items (ap (λ (v : View). v.groups) (c.self.view_is ∙ is)) in
+    let there : c.args.topic.0 < length k.world.topics = omega (arith, topics, c.self.inside.groups.ok.0, c.len.ensures, c.if-index-len.false) in
     let h = c.in-Some.ensures in
     let new = h.groups no_group ∙ ap (λ (v : View). released_at v c.args.topic) is in
     subst (λ (v : View). Makes k (Event.Release c.args.topic) (Outcome.Released c.in-Some.id) v) (sym new)
@@ -26,10 +21,8 @@ returns-in-Some c k reached is =
 
 pub returns-in-None : goal.returns-in-None
 returns-in-None c k reached is =
-    let many : c.len.result ≡ length c.self.inside.groups.items = omega (arith, c.self.inside.groups.ok.0, c.len.ensures) in
-    let topics : c.len.result ≡ length k.world.topics =
-    many ∙ (ap (λ (v : View). length v.groups) (c.self.view_is ∙ is) ∙ length-map k.world.topics (group_view k.world)) in
-    let there : c.args.topic.0 < length k.world.topics = omega (arith, topics, c.if-index-len.false) in
+    let topics = topics_held k c.self.inside.groups.items (ap (λ (v : View). v.groups) (c.self.view_is ∙ is)) in
+    let there : c.args.topic.0 < length k.world.topics = omega (arith, topics, c.self.inside.groups.ok.0, c.len.ensures, c.if-index-len.false) in
     let h = c.in-None.ensures in
     let new = h.groups no_group ∙ ap (λ (v : View). released_at v c.args.topic) is in
     subst (λ (v : View). Makes k (Event.Release c.args.topic) (Outcome.Refused Refusal.NothingDue) v) (sym new)

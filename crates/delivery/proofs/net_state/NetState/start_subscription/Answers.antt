@@ -1,5 +1,4 @@
-use Rattle.std.proofs.Common.{ℕ, length, get_or, refl, ap, arith}
-use Rattle.delivery.proofs.Words.Std.{Result, Ok}
+use Rattle.delivery.proofs.Words.Std.{ℕ, length, get_or, refl, ap, arith, Result, Ok}
 use Rattle.delivery.proofs.Words.Topics.{Stamp}
 use Rattle.delivery.proofs.Words.Frames.{NoMemory}
 use Rattle.delivery.proofs.Words.Views.{receipt_text, View, no_endpoint, written_endpoint}

@@ -1,5 +1,4 @@
-use Rattle.std.proofs.Common.{length, sym, ap, subst, ◌∙◌}
-use Rattle.delivery.proofs.Words.Std.{is_some, option_map}
+use Rattle.delivery.proofs.Words.Std.{length, sym, ap, subst, ◌∙◌, is_some, option_map}
 use Rattle.delivery.proofs.Words.Topics.{Item}
 use Rattle.delivery.proofs.Words.Core.{Event, Outcome}
 use Rattle.delivery.proofs.Words.Views.{Makes, take_objection, next_held, after_next_item, View}

@@ -1,5 +1,4 @@
-use Rattle.std.proofs.Common.{◌≡◌, ◌<◌, ℕ, Option, length, get_or, Some, sym, ap, ◌∙◌, arith}
-use Rattle.delivery.proofs.Words.Std.{slice_get, option_and_then, slice_get-get_or}
+use Rattle.delivery.proofs.Words.Std.{◌≡◌, ◌<◌, ℕ, Option, length, get_or, Some, sym, ap, ◌∙◌, arith, slice_get, option_and_then, slice_get-get_or}
 use Rattle.delivery.proofs.Words.Views.{idle_gate, is_flying, EndpointView, SenderView, View, no_endpoint}
 use Rattle.delivery.proofs.Views.Events.ConnectionIsThere.{endpoint_found}
 use Rattle.delivery.proofs.Views.Senders.RoomLasts.{count_same}

@@ -1,5 +1,4 @@
-use Rattle.std.proofs.Common.{ℕ, List, sym, subst}
-use Rattle.delivery.proofs.Words.Std.{Result, Ok, Err, OnErr, IfOk-weaker}
+use Rattle.delivery.proofs.Words.Std.{ℕ, List, sym, subst, Result, Ok, Err, OnErr, IfOk-weaker}
 use Rattle.delivery.proofs.Words.Frames.{Action}
 use Rattle.delivery.proofs.Words.Views.{Asks}
 use Rattle.stomp_session.specs.declared.action.Action.TheVariants as actions

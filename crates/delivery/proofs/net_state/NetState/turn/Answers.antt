@@ -1,24 +1,20 @@
-use Rattle.std.proofs.Common.{◌≡◌, ◌<◌, ◌≤◌, length, get_or, sym, ap, subst, ◌∙◌, arith}
-use Rattle.delivery.proofs.Words.Std.{length-map}
+use Rattle.delivery.proofs.Words.Std.{◌<◌, ◌≤◌, length, get_or, sym, ap, subst, ◌∙◌, arith}
 use Rattle.delivery.proofs.Words.Core.{Event, Outcome, Refusal}
-use Rattle.delivery.proofs.Words.Views.{Makes, verdict_held, group_turn_count, after_turn_at, View, group_view, no_group}
+use Rattle.delivery.proofs.Words.Views.{Makes, verdict_held, group_turn_count, after_turn_at, View, no_group}
 use Rattle.delivery.proofs.Views.Events.TurnStep.{turn_unnamed, turn_makes}
+use Rattle.delivery.proofs.Views.Events.ReleaseStep.{topics_held}
 use Rattle.delivery.proofs.net_state.NetState.turn.Goals as goal
 
 pub returns-then-index-len : goal.returns-then-index-len
 returns-then-index-len c k reached is =
-    let many : c.len.result ≡ length c.self.inside.groups.items = omega (arith, c.self.inside.groups.ok.0, c.len.ensures) in
-    let topics : c.len.result ≡ length k.world.topics =
-    many ∙ (ap (λ (v : View). length v.groups) (c.self.view_is ∙ is) ∙ length-map k.world.topics (group_view k.world)) in
-    let none : length k.world.topics ≤ c.args.topic.0 = omega (arith, topics, c.if-index-len.true) in
+    let topics = topics_held k c.self.inside.groups.items (ap (λ (v : View). v.groups) (c.self.view_is ∙ is)) in
+    let none : length k.world.topics ≤ c.args.topic.0 = omega (arith, topics, c.self.inside.groups.ok.0, c.len.ensures, c.if-index-len.true) in
     subst (λ (v : View). Makes k (Event.Turn c.args.topic) (Outcome.Refused Refusal.NotNamed) v) (sym is) (turn_unnamed k c.args.topic none)
 
 pub returns : goal.returns
 returns c k reached is =
-    let many : c.len.result ≡ length c.self.inside.groups.items = omega (arith, c.self.inside.groups.ok.0, c.len.ensures) in
-    let topics : c.len.result ≡ length k.world.topics =
-    many ∙ (ap (λ (v : View). length v.groups) (c.self.view_is ∙ is) ∙ length-map k.world.topics (group_view k.world)) in
-    let there : c.args.topic.0 < length k.world.topics = omega (arith, topics, c.if-index-len.false) in
+    let topics = topics_held k c.self.inside.groups.items (ap (λ (v : View). v.groups) (c.self.view_is ∙ is)) in
+    let there : c.args.topic.0 < length k.world.topics = omega (arith, topics, c.self.inside.groups.ok.0, c.len.ensures, c.if-index-len.false) in
     let h = c.turn_at.ensures in
     let new = h.groups no_group ∙ ap (λ (v : View). after_turn_at v c.args.topic.0 no_group) is in
     subst (λ (v : View). Makes k (Event.Turn c.args.topic) (Outcome.Turned c.turn_at.result) v) (sym new)

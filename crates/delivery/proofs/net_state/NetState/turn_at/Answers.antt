@@ -1,5 +1,4 @@
-use Rattle.std.proofs.Common.{◌<◌, ◌-◌, get_or, set, length, sym, ap, subst, ◌∙◌}
-use Rattle.delivery.proofs.Words.Std.{get_or_default}
+use Rattle.delivery.proofs.Words.Std.{◌<◌, ◌-◌, get_or, set, length, sym, ap, subst, ◌∙◌, get_or_default}
 use Rattle.delivery.proofs.Words.Topics.{GroupState}
 use Rattle.delivery.proofs.Words.Views.{verdict_held, group_after_turn, group_turn_count, after_turn_at, verdict_at, View}
 use Rattle.delivery.proofs.Views.Events.TurnStep.{turn_found}

@@ -1,5 +1,4 @@
-use Rattle.std.proofs.Common.{◌≡◌, ◌<◌, List, length, get_or, true, sym, ap, subst, ◌∙◌}
-use Rattle.delivery.proofs.Words.Std.{slice_get}
+use Rattle.delivery.proofs.Words.Std.{◌≡◌, ◌<◌, List, length, get_or, true, sym, ap, subst, ◌∙◌, slice_get}
 use Rattle.delivery.proofs.Words.Topics.{propose_title}
 use Rattle.delivery.proofs.Words.Core.{Event, Outcome}
 use Rattle.delivery.proofs.Words.Views.{there_objection, speaker_at, sender_in, withdraw_refusal, failure_of, withdrawn_view, reads_frames, refused_view, Makes, View, EndpointView, view_of, no_endpoint}

@@ -1,5 +1,4 @@
-use Rattle.std.proofs.Common.{rules, ◌≡◌, Some, None}
-use Rattle.delivery.proofs.Words.Std.{position}
+use Rattle.delivery.proofs.Words.Std.{rules, ◌≡◌, Some, None, position}
 use Rattle.delivery.proofs.Words.Views.{has_sub_id}
 use Rattle.delivery.proofs.Views.Subscriptions.NewSubscription.{found_at, found_none}
 use Rattle.delivery.proofs.net_state.subscribing.number_among.Goals as goal

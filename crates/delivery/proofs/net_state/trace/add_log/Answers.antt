@@ -1,5 +1,4 @@
-use Rattle.std.proofs.Common.{◌≡◌, Some, not, ap, sym, ◌∙◌}
-use Rattle.delivery.proofs.Words.Std.{slice_get, option_map}
+use Rattle.delivery.proofs.Words.Std.{◌≡◌, Some, not, ap, sym, ◌∙◌, slice_get, option_map}
 use Rattle.delivery.proofs.Words.Topics.{TopicRow, fits}
 use Rattle.delivery.proofs.Traces.Made.{logged_fits, log_grows}
 use Rattle.delivery.proofs.net_state.trace.add_log.Goals as goal

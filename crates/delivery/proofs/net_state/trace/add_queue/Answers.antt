@@ -1,5 +1,4 @@
-use Rattle.std.proofs.Common.{◌≡◌, Some, ap, sym, ◌∙◌}
-use Rattle.delivery.proofs.Words.Std.{slice_get, option_map}
+use Rattle.delivery.proofs.Words.Std.{◌≡◌, Some, ap, sym, ◌∙◌, slice_get, option_map}
 use Rattle.delivery.proofs.Words.Topics.{Part, data_of, Item}
 use Rattle.delivery.proofs.Traces.Made.{queue_grows}
 use Rattle.delivery.proofs.net_state.trace.add_queue.Goals as goal

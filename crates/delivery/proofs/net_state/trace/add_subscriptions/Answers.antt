@@ -1,5 +1,4 @@
-use Rattle.std.proofs.Common.{◌≡◌, ◌<◌, length, Some, ap, sym, ◌∙◌, arith}
-use Rattle.delivery.proofs.Words.Std.{slice_get}
+use Rattle.delivery.proofs.Words.Std.{◌≡◌, ◌<◌, length, Some, ap, sym, ◌∙◌, arith, slice_get}
 use Rattle.delivery.proofs.Words.Topics.{TraceData, has_span}
 use Rattle.delivery.proofs.Traces.Made.{next_has_none, subs_grow}
 use Rattle.delivery.proofs.net_state.trace.add_subscriptions.Goals as goal

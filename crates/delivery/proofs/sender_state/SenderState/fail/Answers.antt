@@ -1,5 +1,4 @@
-use Rattle.std.proofs.Common.{◌≡◌, List, length, sym, ap, ◌∙◌, arith}
-use Rattle.delivery.proofs.Words.Std.{length-map}
+use Rattle.delivery.proofs.Words.Std.{◌≡◌, List, length, sym, ap, ◌∙◌, arith, length-map}
 use Rattle.delivery.proofs.Words.Topics.{Ticket, ticket_rows}
 use Rattle.delivery.proofs.Words.Core.{Sending}
 use Rattle.delivery.specs.Inner.Rooms.{tickets_to_keep}

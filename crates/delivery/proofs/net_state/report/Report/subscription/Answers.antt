@@ -1,5 +1,4 @@
-use Rattle.std.proofs.Common.{◌≡◌, List, slice_get, Option, Some, None, sym, ap, ◌∙◌}
-use Rattle.delivery.proofs.Words.Std.{option_map, slice_get_past, slice_get-get_or}
+use Rattle.delivery.proofs.Words.Std.{◌≡◌, List, slice_get, Option, Some, None, sym, ap, ◌∙◌, option_map, slice_get_past, slice_get-get_or}
 use Rattle.delivery.proofs.Words.Core.{Report}
 use Rattle.delivery.proofs.Words.Views.{View, SubView, sub_report}
 use Rattle.delivery.proofs.Views.Runs.ReportOfView.{sub_reported}
