@@ -941,6 +941,9 @@ impl<'a, R: Wait + Log + Clock, W: Side, T: Side> BrokerCalls for Calls<'a, R, W
         if lacks_room || done.is_err() {
             self.hub.room_freed(self.rt);
         }
+        if lacks_room {
+            self.hub.pass_all_over(self.rt);
+        }
         match done {
             Ok((gate, _)) => {
                 self.activity.commits();
