@@ -330,5 +330,5 @@ ROWS = [
     busy_machine,
 ]
 
-# Rows that are run again in the same server: the second time is to leave no more memory than was left by the first.
+# Rows that are run again in the same server: behind the second time memory is to be what the first one left.
 AGAIN = [sharing_a_slow_topic]
