@@ -246,7 +246,7 @@ def sharing_a_slow_topic(trial, seconds=20):
     trial.expect(filled < MOST_FILLING, f"nobody waited within {filled} s")
     trial.expect(during >= before / 2, f"a steady sender had {during:,.0f}/s, and {before:,.0f} before")
     trial.expect(read / 2 <= shared * SHARED <= 2 * read + BUFFERED, others)
-    return f"a steady sender had {during:,.0f}/s beside {trial.part(64)} that waited at another topic after {filled} s, and {before:,.0f} before; {others}"
+    return f"a steady sender had {during:,.0f}/s beside {trial.part(64)} that wait at another topic, and {before:,.0f} before; {others}"
 
 
 def wait_until_they_wait(trial, stream, said, topic):
