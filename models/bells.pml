@@ -57,7 +57,7 @@ mtype:frame = { Nothing, Subscribe, Unsubscribe, End };
 /* A taker: its bell, its desk, its socket. */
 mtype:bell bell[TAKERS] = Awake;
 byte flags[TAKERS];              /* the bell's: which subscriptions may have something */
-byte kept[TAKERS];               /* the conversation's: which queues are looked into */
+byte known[TAKERS];               /* the conversation's: which queues are looked into */
 bool stuck[TAKERS];
 bool woken[TAKERS];              /* the bell's event, in the poll */
 bool desk[TAKERS];               /* the desk's lock */
@@ -162,7 +162,7 @@ inline seat_raise(sub) {
 inline bell_take_flags(c) {
   if
   :: flags[c] == 0 -> skip
-  :: else -> d_step { kept[c] = kept[c] | flags[c]; flags[c] = 0 }
+  :: else -> d_step { known[c] = known[c] | flags[c]; flags[c] = 0 }
   fi
 }
 /* seat.rt ring: the flag, and two loads, of bell.rt is_stuck and in the ring */
@@ -304,7 +304,7 @@ inline talk_close(c, why) {
   }
   e = 0
 }
-#define LOOKS_AT(c, s) (held[s] && TAKER(s) == c && (kept[c] & FLAG(s)))
+#define LOOKS_AT(c, s) (held[s] && TAKER(s) == c && (known[c] & FLAG(s)))
 /* taking.rt drain_flagged, of each queue in turn: takes until none is there, asks for a lag where it took as many as
    the queue holds, and stops where the wire is full; one whose flag isn't set is passed by */
 inline talk_drain(c, any) {
@@ -340,7 +340,7 @@ inline talk_deliver(c, any) {
   :: exit[c] != Talks -> skip
   :: else ->
 #ifdef M_FLAGS_TAKEN_BEHIND
-     kept[c] = kept[c] | flags[c];
+     known[c] = known[c] | flags[c];
      talk_drain(c, any);
      flags[c] = 0;
 #else
@@ -352,7 +352,7 @@ inline talk_deliver(c, any) {
 #ifndef M_FLAGS_FORGOTTEN
      :: stop -> skip
 #endif
-     :: else -> kept[c] = 0
+     :: else -> known[c] = 0
      fi;
      if
      :: failed -> talk_close(c, Lagged); wire[c]++; any = true

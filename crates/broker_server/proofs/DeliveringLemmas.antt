@@ -3,7 +3,7 @@ use Rattle.std.proofs.Common.{◌≡◌, ◌⊎◌, inl, inr, ℕ, zero, suc, �
 use Rattle.std.specs.Prelude.{◌||◌, slice_get, take, if◌then◌else◌}
 use Rattle.std.proofs.lemmas.Bool.{false≢true, true≢false}
 use Rattle.std.proofs.lemmas.Bool.Decides.{nat_tests}
-use Rattle.std.proofs.lemmas.List.{drop_all, drop_more, length-take-le}
+use Rattle.std.proofs.lemmas.List.{drop_all, drop_more, length-take-le, take-append-drop}
 use Rattle.std.proofs.lemmas.Option.{get_or_from_slice_get}
 use Rattle.std.proofs.lemmas.List.Folds.{list_any-append}
 use Rattle.stomp_frame.specs.declared.raw_frame.RawFrame.{RawFrame}
@@ -255,18 +255,13 @@ all_unflagged extent capacity [] wire = (refl, refl, refl, refl, refl)
 all_unflagged extent capacity (o ∷ os) wire =
     ([], [], refl, Emptied, o, os, wire, inr (refl, refl, refl, refl, refl), refl, all_unflagged extent capacity os wire)
 
-front_and_back : (n : ℕ) (os : List OpenSubState) → take n os ++ drop n os ≡ os
-front_and_back zero os = refl
-front_and_back (suc n) [] = refl
-front_and_back (suc n) (o ∷ os) = ap (λ (more : List OpenSubState). o ∷ more) (front_and_back n os)
-
 -- so none is asked
 pub drains_none : (extent : Extent) (capacity flags next first : ℕ) (queues : List OpenSubState) (wire : List ℕ) → flags ≡ 0 → first ≡ begins_at next (length queues) → first ≤ length queues → DrainsQueues extent capacity flags next [] queues wire Emptied queues wire first
 drains_none extent capacity flags next first queues wire none begins within =
     let size = length-take-le first queues within in
     let front = take first queues in
     let back = drop first queues in
-    let whole = front_and_back first queues in
+    let whole = take-append-drop first queues in
     let left : first ≡ length front - 0 = omega (arith, size) in
     subst (λ (n : ℕ). DrainsQueues extent capacity n next [] queues wire Emptied queues wire first) (sym none)
     (subst (λ (os : List OpenSubState). DrainsQueues extent capacity 0 next [] queues wire Emptied os wire first) whole
