@@ -16,7 +16,7 @@ returns-in_default g c =
     let goes = c.saturating_sub-behind.ensures in (
       did.0,
       did.1,
-      drains_back c.args.extent c.args.capacity c.args.next c.args.queues.now front back c.split_at_mut-front.ensures.value begins did.0 c.args.wire.now end new.queues new.wire c.drain_all-left.result.1 c.saturating_sub-behind.result c.in_default.not-Emptied did.2 goes,
+      drains_back c.args.extent c.args.capacity c.args.flags c.args.next c.args.queues.now front back c.split_at_mut-front.ensures.value begins did.0 c.args.wire.now end new.queues new.wire c.drain_all-left.result.1 c.saturating_sub-behind.result c.in_default.not-Emptied did.2 goes,
       did.3,
     )
 
@@ -37,7 +37,7 @@ returns-then-drained g c =
     let any : (one.any || two.any) ≡ has_item (did.0 ++ rest.0) = either_item did.0 rest.0 one.any two.any did.3 rest.3 in (
       did.0 ++ rest.0,
       asks_on called c.args.calls.now new.calls after.calls did.0 rest.0 did.1 rest.1,
-      drains_both c.args.extent c.args.capacity c.args.next c.args.queues.now front back c.split_at_mut-front.ensures.value begins did.0 rest.0 c.args.wire.now one.end two.end new.queues after.queues new.wire after.wire c.drain_all-left.result.1 unseen c.saturating_sub-later.result c.in-Emptied.is did.2 rest.2 goes,
+      drains_both c.args.extent c.args.capacity c.args.flags c.args.next c.args.queues.now front back c.split_at_mut-front.ensures.value begins did.0 rest.0 c.args.wire.now one.end two.end new.queues after.queues new.wire after.wire c.drain_all-left.result.1 unseen c.saturating_sub-later.result c.in-Emptied.is did.2 rest.2 goes,
       c.if-drained.true ∙ (sym (ap (λ (b : Bool). b || two.any) c.if-drained.true) ∙ any),
     )
 
@@ -58,6 +58,6 @@ returns-else-drained g c =
     let any : (one.any || two.any) ≡ has_item (did.0 ++ rest.0) = either_item did.0 rest.0 one.any two.any did.3 rest.3 in (
       did.0 ++ rest.0,
       asks_on called c.args.calls.now new.calls after.calls did.0 rest.0 did.1 rest.1,
-      drains_both c.args.extent c.args.capacity c.args.next c.args.queues.now front back c.split_at_mut-front.ensures.value begins did.0 rest.0 c.args.wire.now one.end two.end new.queues after.queues new.wire after.wire c.drain_all-left.result.1 unseen c.saturating_sub-later.result c.in-Emptied.is did.2 rest.2 goes,
+      drains_both c.args.extent c.args.capacity c.args.flags c.args.next c.args.queues.now front back c.split_at_mut-front.ensures.value begins did.0 rest.0 c.args.wire.now one.end two.end new.queues after.queues new.wire after.wire c.drain_all-left.result.1 unseen c.saturating_sub-later.result c.in-Emptied.is did.2 rest.2 goes,
       sym (ap (λ (b : Bool). b || two.any) c.if-drained.false) ∙ any,
     )
