@@ -1,7 +1,8 @@
 -- What the program `serve` writes, and names that are learnt one after the other.
 use Rattle.std.proofs.Common.{◌≡◌, ◌⊎◌, ℕ, ◌+◌, ◌≤◌, ◌<◌, zero, suc, Bool, true, false, List, [], ◌∷◌, ◌++◌, length, get_or, drop, Option, Some, Result, Ok, Err, if◌then◌else◌, refl, sym, ap, ◌∙◌, inl, inr, arith}
-use Rattle.std.specs.Prelude.{IfOk, slice_get}
+use Rattle.std.specs.Prelude.{IfOk, IsErr, slice_get}
 use Rattle.std.proofs.KnownBytes.{Appends-nil}
+use Rattle.std.proofs.lemmas.Bool.{false≢true}
 use Rattle.std.proofs.lemmas.List.{length-append}
 use Rattle.std.proofs.lemmas.Option.{get_or_from_slice_get, slice_get_within}
 use Rattle.stomp_session.specs.Names.{is_known, with_name}
@@ -12,10 +13,9 @@ use Rattle.broker_server.specs.Endings.{ending_of}
 use Rattle.broker_server.specs.Listening.{IsServed, SaysLine, known_with, listening_line}
 
 -- a call that failed wrote nothing
-pub says_nothing : {A : Type 0} (line : List ℕ) (had : Option (List ℕ)) (answer : Result A ProgramFault) (why : ProgramFault)
-    → answer ≡ Err why → SaysLine {A = A} line had had answer
-says_nothing line had (Ok a) why e = absurd (grind (arith, e))
-says_nothing line had (Err fault) why e = record { sent = []; left = line; cut = refl; given = Appends-nil had; whole = tt; part = inl refl }
+pub says_nothing : {A : Type 0} (line : List ℕ) (had : Option (List ℕ)) (answer : Result A ProgramFault) → IsErr answer → SaysLine {A = A} line had had answer
+says_nothing line had (Ok a) failed = absurd (false≢true failed)
+says_nothing line had (Err fault) failed = record { sent = []; left = line; cut = refl; given = Appends-nil had; whole = tt; part = inl refl }
 
 -- all was written, whatever comes behind it
 pub says_all : {A B : Type 0} (line : List ℕ) (had has : Option (List ℕ)) (a : A) (answer : Result B ProgramFault)
