@@ -203,7 +203,6 @@ byte told[NUMBER];                 /* told, and not heard */
 bool telling[NUMBER];              /* just being told: nothing is heard */
 bool passed_over[NUMBER];          /* the seat's, for who takes */
 bool has[NUMBER];                  /* the connection has it */
-bool forgotten[NUMBER];            /* passed over by who committed without room: its seat doesn't say so */
 
 bool closing;
 byte passes, refusals, given_back, without;
@@ -723,7 +722,7 @@ inline look_at_whom(at, c) {
 }
 #define PASS_OVER_FULL(t) for (u : 0 .. SUBS - 1) { \
   if \
-  :: TOPIC(u) == t && waited[u] -> HEAR(u); if :: FITS(u, 0) -> skip :: else -> waited[u] = false; forgotten[u] = true fi \
+  :: TOPIC(u) == t && waited[u] -> HEAR(u); if :: FITS(u, 0) -> skip :: else -> waited[u] = false fi \
   :: else \
   fi } u = 0
 #define SETTLE for (u : 0 .. TOPICS - 1) { if :: want & BIT(u) -> undecided[u]-- :: else fi } u = 0; want = 0
@@ -1181,8 +1180,23 @@ enter:
      :: t < TOPICS -> line_ring(t, Any); t++
      :: t >= TOPICS -> break
      od;
-     t = 0
+     t = 0;
 #endif
+#ifndef M_BARE_FORGETS
+     do                                                          /* hub.rt pass_all_over, topic_seats.rt pass_all_over */
+     :: d_step { t < TOPICS && !seats[t] -> seats[t] = true };
+        do
+        :: d_step { u < SUBS && TOPIC(u) == t && seated[u] -> passed_over[u] = true };
+           d_step { SEAT_RING(u); u++ }
+        :: d_step { u < SUBS && !(TOPIC(u) == t && seated[u]) -> u++ }
+        :: u >= SUBS -> break
+        od;
+        d_step { u = 0; seats[t] = false; t++ }
+     :: t >= TOPICS -> break
+     od;
+     t = 0;
+#endif
+     skip
   :: !bare
   fi;
 #endif
@@ -1356,7 +1370,7 @@ proctype Monitor() {
     if
     :: has[i] && !more[TAKER(i)] ->                              /* it found its queue empty */
        assert(queue[i] == 0 && untold[i] == 0);
-       assert(forgotten[i] || waited[i] && !lagged[i])
+       assert(waited[i] && !lagged[i])
     :: else
     fi
   }

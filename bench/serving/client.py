@@ -13,10 +13,12 @@ class Ended(Exception):
 
 
 class Client:
-    def __init__(self, address, seconds=10.0, receive_room=None):
+    def __init__(self, address, seconds=10.0, receive_room=None, send_room=None):
         self.socket = socket.socket()
         if receive_room is not None:
             self.socket.setsockopt(socket.SOL_SOCKET, socket.SO_RCVBUF, receive_room)
+        if send_room is not None:
+            self.socket.setsockopt(socket.SOL_SOCKET, socket.SO_SNDBUF, send_room)
         self.socket.settimeout(seconds)
         self.socket.connect(address)
         self.came = b""

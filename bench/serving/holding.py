@@ -336,5 +336,30 @@ def commits_of_those_who_left(trial, readers=3, topics=64, times=4, most=2048):
     return f"{count} came, committed 4 MB and left; {told} of them were told 72; {held:,.0f} MiB were held"
 
 
+def queues_of_many(trial, clients=150, topics=16, sends=64, size=20_000, most=1024):
+    """150 clients, which never read, subscribe to 16 topics each, one after the other; behind each of them another client sends 64 SENDs of
+    20,000 octets to each topic. So each has other SENDs in its queues, all of them light. Those that are passed over end by 72 when
+    memory is short; the sender goes on."""
+    names, said = [b"/topic/many%d" % at for at in range(topics)], trial.server.log_size()
+    batches = [b"".join(send_frame(name, b"%05d" % at * (size // 5)) for at in range(sends)) for name in names]
+    readers = trial.open(trial.part(clients), receive_room=4096)
+    before = trial.server.memory()
+    trial.server.forget_most_memory()
+    with Client(trial.address, 60) as sender:
+        sender.connect()
+        for it in readers:
+            with contextlib.suppress(Ended, OSError):
+                it.ask(b"".join(subscribe(name, at) for at, name in enumerate(names)))
+            for batch in batches:
+                sender.ask(batch, seconds=60)
+    held = (trial.server.most_memory() - before) / KIB
+    time.sleep(LAST_WORDS)
+    ended = trial.server.log_since(said).count(b"left: ERROR 72 NoMemory")
+    close_all(readers)
+    trial.expect(held <= FIFTH * most, f"it held {held:,.0f} MiB, and {most:,} are what it may")
+    trial.expect(ended > 0, "none of those who don't read was ended by 72")
+    return f"{len(readers)} that never read had {len(names)} queues each; {ended} of them ended by 72; {held:,.0f} MiB were held"
+
+
 ROWS = [one_large_transaction, large_transactions, transactions_without_end, transactions_of_many, queues_that_nobody_takes]
-OF_THEIR_OWN = [(queues_of_one, None, False), (commits_of_those_who_left, None, False), (long_names, None, True)]
+OF_THEIR_OWN = [(queues_of_one, None, False), (queues_of_many, None, False), (commits_of_those_who_left, None, False), (long_names, None, True)]

@@ -21,10 +21,11 @@ MOST_TOPICS = 1024
 
 TOPICS = [b"/topic/T%d" % at for at in range(64)]
 MINE = b"/topic/own0"
-# Topics that one row uses alone, each /topic/ with this and 0 behind it, as the load generator names its first.
+# Topics that one row uses alone, each /topic/ with this and 0 behind it, as the load generator names its first. A server begins with some of
+# them; the others are made by who uses them. None is used twice: the purse of one where a slow subscriber was may be empty for ten minutes.
 ALONE = [f"alone{at}." for at in range(64)]
 NAMES = [*(it.decode() for it in (*TOPICS, MINE)), *(f"/topic/{it}0" for it in ALONE)]
-NOT_USED = itertools.cycle(ALONE)
+NOT_USED = (f"alone{at}." for at in itertools.count())
 
 
 class Trial:
@@ -38,7 +39,7 @@ class Trial:
         return max(1, count // self.parts)
 
     def topic_alone(self):
-        """A topic of this row, if there are enough of them: the load generator's prefix, and its name."""
+        """A topic that no row has used: the load generator's prefix, and its name."""
         prefix = next(NOT_USED)
         return prefix, b"/topic/%s0" % prefix.encode()
 

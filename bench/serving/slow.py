@@ -27,7 +27,7 @@ class Slow(threading.Thread):
         super().__init__(daemon=True)
         self.address, self.topic, self.count, self.pace = trial.address, topic, count, pace
         self.every, self.anew, self.again = every, anew, again
-        self.clients, self.came, self.refused, self.may_come, self.is_over = [], 0, 0, True, False
+        self.clients, self.came, self.refused, self.octets, self.may_come, self.is_over = [], 0, 0, 0, True, False
 
     def __enter__(self):
         self.begun = time.monotonic()
@@ -61,7 +61,7 @@ class Slow(threading.Thread):
         """Reads what one reads by now, and says what it says; False where it has ended, and closes it then."""
         try:
             if self.pace.octets:
-                it.read(self.pace, now)
+                self.octets += it.read(self.pace, now)
             if self.again or self.anew is not None:
                 it.say(UNSUBSCRIBE + subscribe(self.topic) if self.again else EMPTY_LINE, now)
             if not it.is_ended() and (self.anew is None or not self.may_come or now < it.came_at + self.anew):
@@ -84,14 +84,18 @@ class Subscriber(Client):
         self.poll.register(self.socket, select.POLLRDHUP)
 
     def read(self, pace, now):
-        """As many octets as it reads until now, of what is there."""
+        """As many octets as it reads until now, of what is there; how many these are."""
         times = int((now - self.read_at) / pace.seconds)
+        if times == 0:
+            return 0
         self.read_at += times * pace.seconds
         try:
-            if times > 0 and not self.socket.recv(times * pace.octets):
-                raise ConnectionError
+            piece = self.socket.recv(times * pace.octets)
         except BlockingIOError:
-            pass
+            return 0
+        if not piece:
+            raise ConnectionError
+        return len(piece)
 
     def say(self, frames, now):
         """Sends this each second, as far as it is taken."""

@@ -333,12 +333,19 @@ came_in_time = (λ some. omega arith, (λ some. omega arith, (λ some. omega ari
 
 -- ---- what is spared
 
--- half a second that cost nothing, and a minute that cost a sixtieth of it: a second, and no more
-pub spared_half : spared_after 0 Free 500000000 ≡ 300000000000
-spared_half = refl
+-- a tenth of a second that cost nothing; one that cost a sixtieth, where almost a second was spared: a second, and no more
+pub spared_a_tenth : spared_after 0 Free tenth ≡ 60000000000
+spared_a_tenth = refl
 
-pub spared_a_second : spared_after 300000000000 Sixtieth 60000000000 ≡ full_fund
+pub spared_a_second : spared_after 599000000000 Sixtieth tenth ≡ full_fund
 spared_a_second = refl
+
+-- a minute before anybody looked, as of a machine that stood still: two tenths of that, as the full price pays for no more
+pub spared_of_a_minute : spared_after 0 Sixtieth 60000000000 ≡ 590 * paid_time 60000000000
+spared_of_a_minute = refl
+
+pub spared_of_two_tenths : 590 * paid_time 60000000000 ≡ 118000000000
+spared_of_two_tenths = refl
 
 -- the full price spares nothing
 pub spared_nothing : spared_after 7 Full 500000000 ≡ 7
@@ -347,12 +354,16 @@ spared_nothing = refl
 abbrev new_account : Account
 new_account = record { behind = None; spared = record { 0 = 0 }; late = None }
 
--- a fast one was waited for for half a second; it owes that where it ends, with a quarter of a second more
+-- a fast one was waited for for a tenth of a second; it owes that where it ends, with a twentieth more, or two tenths of what
+-- was waited since
 abbrev looked : Account
-looked = account_at_look new_account (taking 1000000) (at 105) 500000000 false
+looked = account_at_look new_account (taking 1000000) (at 105) tenth false
 
-pub owes_what_it_was_spared : debt looked (taking 1000000) (at 105) 250000000 ≡ 450000000000
+pub owes_what_it_was_spared : debt looked (taking 1000000) (at 105) 50000000 ≡ 90000000000
 owes_what_it_was_spared = refl
+
+pub owes_what_is_paid : debt looked (taking 1000000) (at 105) 450000000 ≡ 180000000000
+owes_what_is_paid = refl
 
 -- one that has caught up owes nothing, nor does one that wasn't waited for
 pub caught_up_owes_nothing : debt looked (after_catching_up (taking 1000000) (at 105)) (at 105) 250000000 ≡ 0
@@ -361,8 +372,8 @@ caught_up_owes_nothing = refl
 pub not_waited_for : debt new_account (taking 1000000) (at 105) 250000000 ≡ 0
 not_waited_for = refl
 
--- what it was waited for before it fell behind isn't spared
-pub not_before : spared_at new_account (taking 1000000) (at 105) 900000000 ≡ 300000000000
+-- what it was waited for before it fell behind isn't spared: a twentieth of a second ago, where that costs nothing
+pub not_before : spared_at new_account (after_falling_behind proven (at 200)) (record { 0 = 20050000000 }) tenth ≡ 30000000000
 not_before = refl
 
 -- ---- threads that are late

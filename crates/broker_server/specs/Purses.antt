@@ -342,9 +342,10 @@ IsBounded purse = (before calls : List PurseCall) → AreInTime (after_calls pur
 
 -- ---- what a subscription is spared
 
--- what was spared after a time at this price, a second at most
+-- what was spared after a time at this price, a second at most: what the full price would have cost beside it,
+-- which pays for two tenths of a time at most
 abbrev pub spared_after : ℕ → Price → ℕ → ℕ
-spared_after spared price time = min (spared + (600 - rate price) * time) full_fund
+spared_after spared price time = min (spared + (600 - rate price) * paid_time time) full_fund
 
 -- They are one moment.
 abbrev pub is_one_moment : Option Moment → Option Moment → Bool

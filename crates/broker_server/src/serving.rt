@@ -25,6 +25,7 @@ mod holding;
 mod hub;
 mod intake;
 mod keepers;
+mod light_charge;
 mod line;
 mod line_rate;
 mod links;

@@ -4,7 +4,7 @@ ghost use Rattle.std.specs.Prelude.{◌≡◌, None, Some};
 ghost use Rattle.broker_server.specs.Purses.{account_at_look, debt, is_one_moment, late_since, price_at_look, spared_at};
 
 use crate::serving::cost::Cost;
-use crate::serving::fund::FULL_FUND;
+use crate::serving::fund::{FULL_FUND, MOST_PAID};
 use crate::serving::moment::Moment;
 use crate::serving::pace::Pace;
 use crate::serving::price::Price;
@@ -69,7 +69,7 @@ impl Account {
         }
     }
 
-    /// What it was spared since its connection is behind, with this time.
+    /// What it was spared since its connection is behind, with this time, as far as that is paid.
     fn spared_at(&self, now: Moment, pace: &Pace, unpaid: Span) -> Cost
         ensures { result.0 ≡ spared_at self.now pace.now now unpaid.0 }
     {
@@ -82,7 +82,8 @@ impl Account {
             Some(since) => now.since(since).0,
             None => 0,
         };
-        let more = pace.price(now).spared(Span(unpaid.0.min(most)));
+        let time = unpaid.0.min(most).min(MOST_PAID);
+        let more = pace.price(now).spared(Span(time));
         Cost(before.saturating_add(more.0).min(FULL_FUND))
     }
 

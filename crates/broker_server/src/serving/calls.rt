@@ -13,6 +13,7 @@ use crate::serving::asker::Asker;
 use crate::serving::bell::Bell;
 use crate::serving::holding::{is_refused, is_short, is_told, time_to_take};
 use crate::serving::hub::Hub;
+use crate::serving::light_charge::LightCharge;
 use crate::serving::moment::Moment;
 use crate::serving::peer::Peer;
 use crate::serving::room_made::RoomMade;
@@ -57,6 +58,9 @@ const PATIENCE: Span = Span(900_000_000);
 /// So long one waits that has none (our choice): five seconds.
 const LONGEST_WAIT: Span = Span(5_000_000_000);
 
+/// What a transaction that is light takes for itself, in octets, beside what its SENDs weigh (our choice).
+const BLOCKS: u64 = 512;
+
 /// The most octets of a topic's name: as many as a line has.
 const MOST_NAMED: usize = 4_096;
 
@@ -69,6 +73,8 @@ pub(crate) struct Calls<'a, R: Wait + Log + Clock, W: Side, T: Side> {
     bell: Arc<Bell>,
     /// What it holds, and what its transactions weigh that it committed.
     meter: Arc<Meter>,
+    /// What its light transactions count as.
+    light: LightCharge,
     unturned: Unturned,
     /// How many transactions were committed, or refused, since their topics were turned or the heads told.
     commits: u64,
@@ -124,6 +130,7 @@ impl<'a, R: Wait + Log + Clock, W: Side, T: Side> Calls<'a, R, W, T> {
             peer,
             bell,
             meter,
+            light: LightCharge::new(),
             unturned: Unturned::new(alloc),
             commits: 0,
             most: hub.running.half(),
@@ -177,6 +184,7 @@ impl<'a, R: Wait + Log + Clock, W: Side, T: Side> Calls<'a, R, W, T> {
             peer: _,
             bell: _,
             meter: _,
+            light: _,
             unturned: _,
             commits: _,
             most: _,
@@ -570,6 +578,24 @@ impl<'a, R: Wait + Log + Clock, W: Side, T: Side> Calls<'a, R, W, T> {
         self.hub.release_room(self.rt, other);
     }
 
+    /// Room at the topics of this transaction, or none yet. Where it owes turns, and there is none, these come first: there
+    /// may be some then. They come first, too, where it is to stand in for those who sleep.
+    #[inline(always)]
+    fn room_for(&mut self, txn: &Txn) -> Option<Reserved>
+        ensures { IfSome result (λ room. (room ≡ topics_of txn.now) ⊎ (room ≡ [])) }
+    {
+        if self.waiting.is_held() {
+            return self.room_after_wait(txn);
+        }
+        if self.commits == AT_ONCE && self.may_stand_in() {
+            return None;
+        }
+        if self.waiting.is_idle() {
+            return self.room_at(txn);
+        }
+        self.room_as_first(txn)
+    }
+
     /// Room at the topics of this transaction. Where there is none, and it owes no turns, it waits. Out of memory for the
     /// reservation it is room at none of them: a commit that lacks memory, too, says so, and waits for nothing.
     #[tactic(auto, using(crate::proofs::LineLemmas::first_of))]
@@ -875,19 +901,16 @@ impl<'a, R: Wait + Log + Clock, W: Side, T: Side> BrokerCalls for Calls<'a, R, W
         item
     }
 
-    /// Where it owes turns, and there is no room, these come first: there may be some then. They come first, too, where
-    /// it is to stand in for those who sleep.
-    fn reserve(&mut self, txn: &Txn) -> Option<Reserved> {
-        if self.waiting.is_held() {
-            return self.room_after_wait(txn);
+    /// There is room, so it is committed next: where it is light, it counts with others.
+    fn reserve(&mut self, txn: &Txn) -> Option<Reserved>
+        ensures whole { IfSome result (λ room. (room ≡ topics_of txn.now) ⊎ (room ≡ [])) }
+    {
+        let room = self.room_for(txn)?;
+        if txn.is_light() {
+            let weight = txn.weight().saturating_add(BLOCKS);
+            self.light.add(self.alloc, &self.meter, weight);
         }
-        if self.commits == AT_ONCE && self.may_stand_in() {
-            return None;
-        }
-        if self.waiting.is_idle() {
-            return self.room_at(txn);
-        }
-        self.room_as_first(txn)
+        Some(room)
     }
 
     fn give_room_back(&mut self, room: Reserved) {
@@ -903,11 +926,12 @@ impl<'a, R: Wait + Log + Clock, W: Side, T: Side> BrokerCalls for Calls<'a, R, W
     }
 
     fn charged(&self, txn: Txn) -> Txn {
-        if txn.is_light() {
-            return txn;
-        }
         let mut txn = txn;
-        self.charge(&mut txn);
+        if !txn.is_light() {
+            self.charge(&mut txn);
+        } else if let Some(charge) = self.light.share() {
+            txn.put_charge(charge);
+        }
         txn
     }
 
@@ -925,6 +949,9 @@ impl<'a, R: Wait + Log + Clock, W: Side, T: Side> BrokerCalls for Calls<'a, R, W
         self.count_commit();
         if lacks_room || done.is_err() {
             self.hub.room_freed(self.rt);
+        }
+        if lacks_room {
+            self.hub.pass_all_over(self.rt);
         }
         match done {
             Ok((gate, _)) => {

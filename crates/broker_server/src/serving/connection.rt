@@ -26,7 +26,7 @@ use log::{Log, info, warn};
 use std::alloc::Global;
 use std::sync::{Arc, Wait};
 use std::thread::yield_now;
-use std::time::{Clock, Duration, Instant};
+use std::time::{Clock, Duration};
 
 /// So many reads are heard in a row, at most, before what is there for the connection is looked for again (our choice).
 const MAX_READS: u32 = 4;
@@ -50,22 +50,12 @@ const LAST_POLLS: u32 = 10;
 /// So many reads are dropped of a peer that was told all, at most (our choice).
 const LAST_READS: u32 = 4_096;
 
+/// So long a peer that was told all is heard out at most, where it goes on sending (our choice): ten seconds.
+const LAST_TIME: Span = Span(10_000_000_000);
+
 /// How long a poll of a connection waits that waits for room, whose octets the system doesn't take, or that leaves.
 fn poll_time() -> Option<Duration> {
     Some(Duration::from_millis(100))
-}
-
-/// How long a peer that was told all is heard out at most, where it goes on sending (our choice).
-fn last_time() -> Duration {
-    Duration::from_secs(10)
-}
-
-/// Whether that time is over, since then. By a clock that can't be read it is.
-fn is_over<R: Clock>(rt: &R, since: Option<Instant>) -> bool {
-    match (since, Instant::now(rt).ok()) {
-        (Some(since), Some(now)) => now.duration_since(since) >= last_time(),
-        _ => true,
-    }
 }
 
 /// Where a piece ends that begins at this index of what was read, which are so many octets.
@@ -493,7 +483,7 @@ impl<'a, 'b, R: Wait + Log + Clock, W: Side, T: Side> Connection<'a, 'b, R, W, T
         if desk.socket.register_reads(&self.outfit.poll).is_err() {
             return;
         }
-        let began = Instant::now(self.rt).ok();
+        let began = Moment::now(self.rt);
         let mut polls = 0u32;
         for _ in 0..LAST_READS {
             match desk.socket.read(self.outfit.room.as_mut_slice()) {
@@ -501,7 +491,7 @@ impl<'a, 'b, R: Wait + Log + Clock, W: Side, T: Side> Connection<'a, 'b, R, W, T
                 Came::Octets(_) | Came::Again => {}
                 Came::Nothing => {
                     if polls >= LAST_POLLS
-                        || is_over(self.rt, began)
+                        || Moment::now(self.rt).since(began).0 >= LAST_TIME.0
                         || self.hub.is_closing()
                         || self.wait(poll_time()).is_err()
                     {

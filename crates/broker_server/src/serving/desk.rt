@@ -1,6 +1,6 @@
 //! What a connection's thread works at.
 
-ghost use Rattle.std.specs.Prelude.{◌≡◌, ◌<◌, ◌==◌, ◌&&◌, true, false, List, [], None, is_some};
+ghost use Rattle.std.specs.Prelude.{◌≡◌, ◌<◌, ◌-◌, ◌==◌, ◌&&◌, nat_le, true, false, List, [], IfSome, None, Some, is_some};
 ghost use Rattle.broker_server.specs.BrokerRows.{BrokerRow};
 ghost use Rattle.broker_server.specs.Delivering.{DeliversRound, may_read};
 ghost use Rattle.broker_server.specs.Sockets.{SocketReads, SocketWrites};
@@ -16,12 +16,10 @@ use crate::serving::streak::Streak;
 use broker_locks::Side;
 use log::Log;
 use std::sync::Wait;
-use std::time::{Clock, Duration, Instant};
+use std::time::Clock;
 
-/// How long a connection that has lagged may take nothing (our choice).
-fn untaken_time() -> Duration {
-    Duration::from_secs(60)
-}
+/// So long a connection that has lagged may take nothing (our choice): a minute.
+const UNTAKEN: Span = Span(60_000_000_000);
 
 /// So many waits of a connection of whose octets the system takes nothing are a second, or less where it is woken (our
 /// choice).
@@ -38,7 +36,7 @@ pub(crate) struct Desk<'a, R: Wait + Log + Clock, W: Side, T: Side> {
     pub(crate) calls: Calls<'a, R, W, T>,
     pub(crate) talk: Conversation<Calls<'a, R, W, T>>,
     /// Since when the system has taken nothing of what waits, once the thread looked for that.
-    untaken: Option<Instant>,
+    untaken: Option<Moment>,
     /// How often it waited since it looked for subscriptions that have lagged.
     waits: u32,
     /// What the system took in a row while it wasn't behind.
@@ -217,7 +215,7 @@ impl<'a, R: Wait + Log + Clock, W: Side, T: Side> Desk<'a, R, W, T> {
             return true;
         }
         let now = self.now();
-        self.is_untaken(now, Duration::from_nanos(time.0))
+        self.is_untaken(now, time)
     }
 
     /// Whether one of its subscriptions is passed over.
@@ -313,27 +311,28 @@ impl<'a, R: Wait + Log + Clock, W: Side, T: Side> Desk<'a, R, W, T> {
     /// nothing for a minute: the connection would be told of the lag behind that.
     pub(crate) fn is_lost(&mut self) -> bool {
         let now = self.now();
-        let is_untaken = self.is_untaken(now, untaken_time());
+        let is_untaken = self.is_untaken(now, UNTAKEN);
         self.waits = self.waits.wrapping_add(1) % WAITS;
         self.waits == 0 && self.end_lagged() && is_untaken
     }
 
-    /// Now, by a clock that can be read.
-    fn now(&self) -> Option<Instant> {
-        Instant::now(self.calls.rt()).ok()
+    /// Now.
+    fn now(&self) -> Moment {
+        Moment::now(self.calls.rt())
     }
 
-    /// Whether the system has taken nothing of what waits for so long, at this moment. By a clock that can't be read it has.
-    fn is_untaken(&mut self, now: Option<Instant>, time: Duration) -> bool
+    /// Whether the system has taken nothing of what waits for so long, at this moment.
+    fn is_untaken(&mut self, now: Moment, time: Span) -> bool
         ensures first { self.old.untaken ≡ None → result ≡ false }
-        ensures begins { self.old.untaken ≡ None → self.new.untaken ≡ now }
+        ensures begins { self.old.untaken ≡ None → self.new.untaken ≡ Some now }
+        ensures long { IfSome self.old.untaken (λ since. result ≡ nat_le time.0 (now.0 - since.0)) }
         ensures since { is_some self.old.untaken ≡ true → self.new ≡ self.old }
         ensures same { self.new ≡ record self.old { untaken = self.new.untaken } }
     {
         match self.untaken {
-            Some(since) => is_over(since, now, time),
+            Some(since) => now.since(since).0 >= time.0,
             None => {
-                self.untaken = now;
+                self.untaken = Some(now);
                 false
             }
         }
@@ -367,14 +366,6 @@ impl<'a, R: Wait + Log + Clock, W: Side, T: Side> Desk<'a, R, W, T> {
             octets_out: _,
         } = self;
         (socket, calls)
-    }
-}
-
-/// Whether this time is over since then, at that moment. By a clock that can't be read it is.
-fn is_over(since: Instant, now: Option<Instant>, time: Duration) -> bool {
-    match now {
-        Some(now) => now.duration_since(since) >= time,
-        None => true,
     }
 }
 

@@ -16,7 +16,7 @@ const LEAST: u64 = 60_000_000_000;
 const MOST_LACKING: u64 = FULL_FUND + LEAST;
 
 /// Of a time so much is paid at most (our choice): two tenths of a second, in nanoseconds. Who waits looks each tenth.
-const MOST_PAID: u64 = 200_000_000;
+pub(crate) const MOST_PAID: u64 = 200_000_000;
 
 /// What there is to pay waiting with.
 #[derive(Clone, Copy)]

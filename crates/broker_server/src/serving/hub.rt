@@ -275,6 +275,14 @@ impl<R: Wait, W: Side, T: Side> Hub<R, W, T> {
         }
     }
 
+    /// Somebody committed without room, for want of memory: any subscription may have been passed over.
+    #[inline(never)]
+    pub(crate) fn pass_all_over(&self, rt: &R) {
+        for seats in self.topics.iter() {
+            seats.pass_all_over(rt);
+        }
+    }
+
     /// Whether some connection is behind: the system took less than there was for it, and hasn't taken all since.
     pub(crate) fn has_behind(&self) -> bool {
         self.behind.load(Ordering::SeqCst) > 0

@@ -214,6 +214,15 @@ impl TopicSeats {
         }
     }
 
+    /// Each subscription there may have been passed over: its seat says so, and its thread is told, which looks whether
+    /// it is waited for once its queue is empty.
+    pub(crate) fn pass_all_over<R: Wait>(&self, rt: &R) {
+        for entry in self.seats.lock(rt).iter() {
+            entry.seat.set_passed_over();
+            entry.seat.ring();
+        }
+    }
+
     /// Somebody waits no longer, since this moment.
     pub(crate) fn wait_ends<R: Wait>(&self, rt: &R, now: Moment) {
         self.purse.lock(rt).ends(now);

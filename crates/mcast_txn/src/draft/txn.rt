@@ -26,7 +26,7 @@ pub struct Txn {
     sends: SealedSends,
     topics: Arc<TopicSet>,
     /// What it is counted as from now on, if it is. No contract speaks of it.
-    charge: Option<Box<Charge>>,
+    charge: Option<Arc<Charge>>,
 }
 
 impl Drop for Txn {
@@ -153,7 +153,7 @@ impl Txn {
         }
     }
 
-    /// Whether it is light, so that what it weighs isn't counted: it weighs less than 32,768; of a single SEND its body has
+    /// Whether it is light, so that what it weighs is counted with others: it weighs less than 32,768; of a single SEND its body has
     /// fewer octets than that, where 4,224 are taken for each of its headers.
     pub fn is_light(&self) -> bool
         ensures { result ≡ is_light self.now }
@@ -168,14 +168,14 @@ impl Txn {
     }
 
     /// It is counted so from now on, until the last of its parts is let go.
-    pub fn put_charge(&mut self, charge: Box<Charge>)
+    pub fn put_charge(&mut self, charge: Arc<Charge>)
         ensures { self.new ≡ self.old }
     {
         self.charge = Some(charge);
     }
 
     /// What it is counted as, which is taken out, if it is.
-    pub fn take_charge(&mut self) -> Option<Box<Charge>>
+    pub fn take_charge(&mut self) -> Option<Arc<Charge>>
         ensures { self.new ≡ self.old }
     {
         self.charge.take()

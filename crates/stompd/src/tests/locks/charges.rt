@@ -16,7 +16,13 @@ use std::sync::{Arc, Wait};
 enum Call<'a> {
     /// A transaction to these topics is committed, which weighs so much and is charged to the sender of this place.
     Send(usize, u64, &'a [u32]),
-    /// The same with a topic that isn't there: it is refused, and topic 0 is turned.
+    /// The sender of this place has a charge of so much, which its transactions share.
+    Open(usize, u64),
+    /// A transaction to topic 0 is committed that shares it.
+    Share,
+    /// The sender has it no longer.
+    Close,
+    /// As `Send`, with a topic that isn't there: it is refused, and topic 0 is turned.
     Refused(usize, u64),
     Turn(u32),
     /// The subscription of this place takes an item, and lets go of it.
@@ -25,11 +31,12 @@ enum Call<'a> {
     End(usize),
 }
 
-/// The subscriptions, the senders' meters, and the number of the next transaction's sender.
+/// The subscriptions, the senders' meters, a charge that transactions share, and the number of the next one's sender.
 #[derive(Drop)]
 struct Done {
     subs: Vec<Subscribed>,
     meters: Vec<Arc<Meter>>,
+    charge: Option<Arc<Charge>>,
     sender: u64,
 }
 
@@ -75,6 +82,24 @@ fn sends<R: Wait, W: Side, T: Side>(
     is_committed(rt, alloc, broker, worker, txn, done.sender)
 }
 
+/// Whether the sender of this place has a charge of so much from now on.
+fn opens(alloc: Global, done: &mut Done, at: usize, weight: u64) -> bool {
+    done.charge = match done.meters.get(at) {
+        Some(meter) => Charge::new(alloc, meter, weight).ok(),
+        None => None,
+    };
+    done.charge.is_some()
+}
+
+/// A transaction to topic 0 that shares this charge.
+fn sharing(alloc: Global, charge: &Option<Arc<Charge>>) -> Option<Txn> {
+    let mut txn = txn_to(alloc, &[0])?;
+    if let Some(charge) = charge {
+        txn.put_charge(charge.clone().ok()?);
+    }
+    Some(txn)
+}
+
 /// Whether the subscription of this place ends.
 fn ends<R: Wait, W: Side, T: Side>(
     rt: &R,
@@ -110,6 +135,13 @@ fn is_done<R: Wait, W: Side, T: Side>(
         Call::Send(at, weight, topics) => {
             sends(rt, alloc, broker, worker, done, (at, weight, topics))
         }
+        Call::Open(at, weight) => opens(alloc, done, at, weight),
+        Call::Share => {
+            let txn = sharing(alloc, &done.charge);
+            done.sender = done.sender.saturating_add(1);
+            is_committed(rt, alloc, broker, worker, txn, done.sender)
+        }
+        Call::Close => done.charge.take().is_some(),
         Call::Refused(at, weight) => {
             !sends(rt, alloc, broker, worker, done, (at, weight, &[0, 1_024]))
                 && broker.head_turn(rt, Topic(0)).is_ok()
@@ -178,6 +210,7 @@ fn found<R: Wait, W: Side, T: Side>(
     let mut done = Done {
         subs: Vec::from_array(alloc, [first, second]).ok()?,
         meters: two_meters(alloc).ok()?,
+        charge: None,
         sender: 0,
     };
     Some(first_other(rt, alloc, broker, &mut worker, &mut done, rows))
@@ -246,6 +279,26 @@ const BOTH: &[(Call<'static>, [u64; 2])] = &[
 #[test]
 fn one_is_charged_until_both_topics_let_go(rt: HostRuntime) {
     assert!(rt; charges(&rt, rt.alloc(), BOTH));
+}
+
+/// Two that share a charge are charged until the sender has it no longer, and both have let go of both.
+const SHARED: &[(Call<'static>, [u64; 2])] = &[
+    (Call::Open(0, 100), [100, 0]),
+    (Call::Share, [100, 0]),
+    (Call::Share, [100, 0]),
+    (Call::Turn(0), [100, 0]),
+    (Call::Take(0), [100, 0]),
+    (Call::Take(1), [100, 0]),
+    (Call::Take(0), [100, 0]),
+    (Call::Close, [100, 0]),
+    (Call::Open(1, 30), [100, 30]),
+    (Call::Take(1), [0, 30]),
+    (Call::Close, [0, 0]),
+];
+
+#[test]
+fn those_that_share_are_charged_until_the_last_is_gone(rt: HostRuntime) {
+    assert!(rt; charges(&rt, rt.alloc(), SHARED));
 }
 
 /// One that lags keeps what its queue accepted, which is charged until it takes that or ends; what it didn't accept isn't
