@@ -155,5 +155,5 @@ none_is_forgotten old asked any new (inr (was_open, told, first, rest, rows, end
   first ++ rest,
   rows,
   λ front o back place flagged.
-  still_or_empty old (bit_or old.flags told) first rest end subs wire next _ any new front o back drains settles open_yet place flagged,
+      still_or_empty old (bit_or old.flags told) first rest end subs wire next _ any new front o back drains settles open_yet place flagged,
 )
