@@ -1,9 +1,15 @@
-use Rattle.std.proofs.Common.{◌≡◌, ℕ, ◌-◌, Bool, ◌++◌, length, sym, ap, ◌∙◌}
+use Rattle.std.proofs.Common.{◌≡◌, ℕ, ◌-◌, Bool, [], ◌++◌, length, refl, sym, ap, ◌∙◌}
 use Rattle.std.specs.Prelude.{◌||◌}
 use Rattle.broker_server.specs.Delivering.{begins_at, has_item}
 use Rattle.broker_server.proofs.ConversationLemmas.{asks_on}
-use Rattle.broker_server.proofs.DeliveringLemmas.{drains_back, drains_both, either_item}
+use Rattle.broker_server.proofs.DeliveringLemmas.{drains_back, drains_both, drains_none, either_item}
 use Rattle.broker_server.proofs.conversation.taking.drain_queues.Goals as goal
+
+pub returns-then-flags-eq0 : goal.returns-then-flags-eq0
+returns-then-flags-eq0 g c =
+    let first = c.begins_at-first.result in
+    let none = drains_none c.args.extent c.args.capacity c.args.flags c.args.next first c.args.queues.now c.args.wire.now c.if-flags-eq0.true c.begins_at-first.ensures.at c.begins_at-first.ensures.there in
+    ([], refl, none, refl)
 
 pub returns-in_default : goal.returns-in_default
 returns-in_default g c =
