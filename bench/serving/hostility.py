@@ -18,6 +18,8 @@ MOST_HEADERS = 64
 MOST_BODY = 1 << 20
 MOST_IDS = 65536
 MOST_TOPICS = 1024
+# And of docs/OPERATING.md: after so many seconds of silence the system asks a client whether it is there.
+ASKED_AFTER = 60
 
 TOPICS = [b"/topic/T%d" % at for at in range(64)]
 MINE = b"/topic/own0"
@@ -83,11 +85,14 @@ def plain_use(trial, count=MOST_CONNECTIONS - 1):
 
 
 def silent(trial, seconds=10):
-    """255 connections that never say CONNECT: some say nothing, some one octet a second, some what TLS says first."""
+    """255 connections that never say CONNECT: some say nothing, some one octet a second, some what TLS says first. The system is to ask each
+    whether it is there, where nothing comes for a minute."""
     texts = [b"", b"CONNECT\n" + b"h" * 2 * seconds, b"\x16\x03\x01\x02" + b"\0" * 2 * seconds]
     begun, said = time.monotonic(), trial.server.log_size()
     clients = [Client(trial.address) for _ in range(trial.part(MOST_CONNECTIONS - 1))]
     longest = exchange(trial.address, MINE)
+    kept = [it for it in trial.server.keep_alive() if it is not None and it <= ASKED_AFTER]
+    trial.expect(len(kept) >= len(clients), f"the system asks only {len(kept)} of {len(clients)} silent ones whether they are there")
     for second in range(seconds - 1):
         for at, it in enumerate(clients):
             it.send(texts[at % 3][second : second + 1])

@@ -5,6 +5,7 @@ import collections
 import os
 import select
 import subprocess
+import time
 
 from client import Client, Ended, error_of, exchange, send_frame
 from servers import OUT, START_SECONDS, Process, Server
@@ -17,7 +18,10 @@ MOST_NEW = 1000
 WORKERS = 4
 ROUNDS = 100
 
-# How long an answer may take, in seconds.
+# How many connections a server has places for.
+PLACES = 256
+
+# How long an answer may take, and until nothing is left of who is gone, in seconds.
 PATIENCE = 10
 
 # A round's growths aren't always as many: so many rounds in which the asked one wasn't met are the end.
@@ -110,19 +114,56 @@ class Sweep:
 
     def __init__(self, stompd, library, tally):
         self.stompd, self.library, self.tally = stompd, library, tally
-        self.came, self.refused, self.rounds, self.server = collections.Counter(), 0, 0, None
+        self.came, self.refused, self.rounds, self.filled, self.server = collections.Counter(), 0, 0, 0, None
 
     def start(self):
         """A new server; none of its growths is refused yet."""
-        self.stop()
+        self.finish()
         self.tally.ask(1, 0)
         words = [self.stompd, "serve", "127.0.0.1:0"]
         self.server = Server(words, TOPICS, environment=self.environment(), kept=(self.tally.descriptor,))
         exchange(self.server.address, b"A")
-        self.threads = self.server.threads()
+        self.rest = self.least_rest()
 
     def environment(self):
         return {"LD_PRELOAD": os.path.abspath(self.library), "REFUSE": str(self.tally.descriptor)}
+
+    def least_rest(self):
+        """How many threads and descriptors the server has, at the least, within a tenth of a second."""
+        found = []
+        for _ in range(10):
+            found.append((self.server.threads(), self.server.descriptors()))
+            time.sleep(0.01)
+        return min(found)
+
+    def finish(self):
+        """Ends the server, if there is one: what a refused growth lost for good, a worker or a desk, a bell or a seat, is missed then."""
+        if self.server:
+            self.await_rest()
+            self.take_all_places()
+        self.stop()
+
+    def await_rest(self):
+        """Once all are gone no thread is left that wasn't there before, and no descriptor, of a socket, a poll or a bell."""
+        until = time.monotonic() + PATIENCE
+        while any(now > before for now, before in zip(self.least_rest(), self.rest)):
+            if time.monotonic() > until:
+                now = self.least_rest()
+                raise Fault(f"{now[0]} threads and {now[1]} descriptors are left once all are gone, and were {self.rest[0]} and {self.rest[1]}")
+
+    def take_all_places(self):
+        """As many connections as there are places for, all at once: each is served."""
+        clients = []
+        try:
+            for _ in range(PLACES):
+                clients.append(Client(self.server.address, PATIENCE))
+                clients[-1].connect()
+        except (Ended, OSError) as fault:
+            raise Fault(f"of {PLACES} places {len(clients) - 1} are left: {fault}") from fault
+        finally:
+            for it in clients:
+                it.close()
+        self.filled += 1
 
     def stop(self):
         if self.server:
@@ -136,6 +177,7 @@ class Sweep:
             self.sweep_start()
             for alone in (True, False):
                 self.sweep_work(alone)
+            self.finish()
         finally:
             self.stop()
 

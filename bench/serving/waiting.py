@@ -27,8 +27,8 @@ AGAIN_WITHIN = 70
 SLOW_BUT_READING = Pace("200 KB a second", 2000, 0.01)
 
 # Of those who share a slow topic: the octets of a SEND there; how many the system keeps of what one of them sends, since all of that is done
-# once they have left; within how many seconds the system's buffers for the slow one are filled, and how many octets these take at most later.
-SHARED, SHARED_ROOM, FILLED, BUFFERED = 1000, 65536, 3, 8 << 20
+# once they have left; within how many seconds the log is to say that they wait, and how many octets the system's buffers take at most then.
+SHARED, SHARED_ROOM, MOST_FILLING, BUFFERED = 1000, 65536, 60, 8 << 20
 
 # How many SENDs each sender of a burst has, and what else the load generator has to know of each.
 OF_A_BURST = 2000
@@ -156,6 +156,9 @@ def fast_enough_with_pauses(trial, count=4000):
     return comes_whole(trial, trial.part(count), 10_000, 2_000_000, Pauses(6, 3, 0.9))
 
 
+ALL_FAST_ENOUGH = (fast_enough, fast_enough_for_large_sends, fast_enough_with_pauses, fast_enough_where_the_server_stands_still)
+
+
 class Pauses:
     """Pauses of so many seconds, from so many seconds on, and again each so many."""
 
@@ -232,20 +235,32 @@ def sharing_a_slow_topic(trial, seconds=20):
     get on at its pace, and a steady sender at the first keeps half of its rate. The slow topic is one that nobody has used: a slow one that ends
     there while it is behind empties the purse, and the next is passed over, so that nobody waits."""
     stream, seconds, topics = ByClock(trial), max(5, trial.part(seconds)), [*TOPICS[:-1], trial.topic_alone()[1]]
-    before = stream.run(BEFORE)[0] / BEFORE
+    before, said = stream.run(BEFORE)[0] / BEFORE, trial.server.log_size()
     with Slow(trial, topics[-1], 1, SLOW_BUT_READING) as slow, contextlib.ExitStack() as block:
         for it in trial.open(trial.part(64), send_room=SHARED_ROOM):
             block.callback(hang_up, it)
             threading.Thread(target=commit_without_end, args=(it, topics), daemon=True).start()
-        first, _ = stream.run(FILLED)
+        filled = wait_until_they_wait(trial, stream, said, topics[-1])
         read = slow.octets
-        then, shared = stream.run(seconds)
+        during, shared = stream.run(seconds)
         read = slow.octets - read
     stream.close()
-    during, others = (first + then) / (FILLED + seconds), f"the others committed {shared:,} transactions, and the slow one took {read // SHARED:,}"
+    during, others = during / seconds, f"the others committed {shared:,} transactions, and the slow one took {read // SHARED:,}"
+    trial.expect(filled < MOST_FILLING, f"nobody waited within {filled} s")
     trial.expect(during >= before / 2, f"a steady sender had {during:,.0f}/s, and {before:,.0f} before")
     trial.expect(read / 2 <= shared * SHARED <= 2 * read + BUFFERED, others)
     return f"a steady sender had {during:,.0f}/s beside {trial.part(64)} that wait at another topic, and {before:,.0f} before; {others}"
+
+
+def wait_until_they_wait(trial, stream, said, topic):
+    """Goes on with a stream until the log says, behind so many octets, that senders wait at this topic: the system's buffers for who is slow there
+    are full then. Behind how many seconds that was."""
+    line = b"senders to the topic %s wait for" % topic
+    for second in range(MOST_FILLING):
+        if line in trial.server.log_since(said):
+            return second
+        stream.run(1)
+    return MOST_FILLING
 
 
 def commit_without_end(client, topics):
@@ -306,7 +321,7 @@ def bursts_of_many(trial):
 
 def busy_machine(trial, count=16):
     """All that says who is ended, beside 16 processes that never rest."""
-    rows = (bursts, bursts_of_many, waiting_for_receipts, read_after_the_last, fast_enough)
+    rows = (bursts, bursts_of_many, waiting_for_receipts, read_after_the_last, *ALL_FAST_ENOUGH)
     with busy_processes(trial.part(count)):
         return "; ".join(row(trial) for row in rows)
 
@@ -319,10 +334,7 @@ ROWS = [
     slow_subscribers_that_come_each_second,
     slow_subscribers_that_subscribe_again,
     slow_for_a_minute,
-    fast_enough,
-    fast_enough_for_large_sends,
-    fast_enough_with_pauses,
-    fast_enough_where_the_server_stands_still,
+    *ALL_FAST_ENOUGH,
     read_after_the_last,
     waiting_for_receipts,
     sharing_a_slow_topic,
@@ -330,5 +342,5 @@ ROWS = [
     busy_machine,
 ]
 
-# Rows that are run again in the same server: the second time is to leave no more memory than was left by the first.
+# Rows that are run again in the same server: behind the second time memory is to be what the first one left.
 AGAIN = [sharing_a_slow_topic]

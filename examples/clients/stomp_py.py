@@ -3,6 +3,7 @@
 # What it needs: Connection12 (STOMP 1.2), heartbeats=(0, 0), and ack='auto' or none. Anything is right as host.
 import queue
 import sys
+import time
 
 import stomp
 
@@ -60,6 +61,17 @@ sender.send("B", "two", headers={"transaction": "t"})
 sender.commit(transaction="t", headers={"receipt": "committed"})
 show("sender", at_sender)
 show("subscriber", at_subscriber, 2)
+
+# 200 transactions, as stomp.py's manual writes one, each behind the receipt of the one before, and without TCP_NODELAY.
+begun, in_time = time.monotonic(), 0
+for _ in range(200):
+    transaction = sender.begin()
+    sender.send("A", "one", transaction=transaction)
+    sender.send("B", "two", transaction=transaction)
+    sender.commit(transaction, receipt="of " + transaction)
+    in_time += at_sender.get(timeout=10)[:2] == ("RECEIPT", "of " + transaction) and time.monotonic() < begun + 1
+print("sender", in_time, "RECEIPTs within a second", flush=True)
+print("subscriber", [at_subscriber.get(timeout=10)[0] for _ in range(400)].count("MESSAGE"), "MESSAGEs", flush=True)
 
 # There is no such transaction: the ERROR is the last that the server says, and it closes the connection.
 sender.commit(transaction="u", headers={"receipt": "never"})

@@ -1,5 +1,6 @@
 //! The server on loopback, each test with a port that the system chooses.
 
+mod capacity;
 mod client;
 mod drawn;
 mod ending;
@@ -21,6 +22,7 @@ mod served;
 mod sizes;
 mod slow;
 mod subscribed;
+mod turnstiles;
 mod unconnected;
 mod unread;
 mod waiting;

@@ -10,6 +10,7 @@ use mcast_group::SubFault;
 use mcast_txn::{Part, Released, Sender, Stamp, Ticket, Topic, Txn};
 use sender_gate::{ClaimFault, Flying, Gate};
 use std::alloc::Global;
+use std::cell::Cell;
 use std::sync::Arc;
 use stomp_frame::ClientFrame;
 use stomp_session::{Names, Session, Step};
@@ -77,7 +78,7 @@ pub(super) struct FakeRoom {
 #[derive(Drop)]
 pub(super) struct Fake {
     alloc: Global,
-    plan: Plan,
+    pub(super) plan: Plan,
     pub(super) rows: Vec<Row>,
     /// So many times there is no room, from now on.
     pub(super) refusals: u64,
@@ -91,6 +92,8 @@ pub(super) struct Fake {
     clock: u64,
     taken: u64,
     asked: bool,
+    /// What the transactions weigh that were charged.
+    pub(super) weighs: Cell<u64>,
 }
 
 impl Fake {
@@ -107,6 +110,7 @@ impl Fake {
             clock: 0,
             taken: 0,
             asked: false,
+            weighs: Cell::new(0),
         }
     }
 
@@ -303,6 +307,8 @@ impl BrokerCalls for Fake {
     }
 
     fn charged(&self, txn: Txn) -> Txn {
+        self.weighs
+            .set(self.weighs.get().saturating_add(txn.weight()));
         txn
     }
 

@@ -12,7 +12,13 @@ use std::alloc::Global;
 const SEND_R: &str = "SEND\ndestination:A\nreceipt:r\n\nhi\0";
 
 /// Whether the connection writes this once the text came, and asks this of the broker, and hears nothing behind it.
-fn ends_with(alloc: Global, plan: Plan, text: &str, wrote: &[&str], asked: &[Row]) -> bool {
+pub(super) fn ends_with(
+    alloc: Global,
+    plan: Plan,
+    text: &str,
+    wrote: &[&str],
+    asked: &[Row],
+) -> bool {
     let Some(mut talk) = Talk::new(alloc, plan, 64) else {
         return false;
     };

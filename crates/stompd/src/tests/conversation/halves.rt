@@ -303,29 +303,33 @@ fn ends_behind_a_frame(octets: &[u8], whole: &[u8], end: &[u8]) -> bool {
     }
 }
 
-/// Whether a connection that lacks memory for a MESSAGE, or for anything else, is told so behind those that are out, each
-/// whole; else it is written all. `None` where there was no memory for what the test expects.
-fn is_told(alloc: Global) -> Option<bool> {
-    let whole = expected(alloc, &[AT_A]).ok()?;
+/// Whether a connection that is to be written this, and lacks memory for a frame of it, or for anything else, is told so
+/// behind those that are out, each whole; else it is written all. `None` where there was no memory for what comes.
+pub(super) fn is_told_so(alloc: Global, talk: &mut Talk, whole: &[u8]) -> Option<bool> {
     let mut peer = Peer {
         came: Vec::with_capacity(alloc, whole.len().saturating_mul(2)).ok()?,
         room: 0,
     };
-    let mut talk = committed(alloc, &["A"])?;
-    let right = goes_on(&mut talk, &mut peer, 20_000);
+    let right = goes_on(talk, &mut peer, 20_000);
     peer.room = whole.len();
     talk.talk.drain(&mut peer).ok()?;
     let octets = peer.came.as_slice();
     match talk.talk.exit() {
-        None => Some(right && octets == whole.as_bytes()),
-        Some(Exit::Error(_)) if talk.talk.is_cut() => {
-            Some(ends_behind_a_frame(octets, whole.as_bytes(), b""))
-        }
+        None => Some(right && octets == whole),
+        Some(Exit::Error(_)) if talk.talk.is_cut() => Some(ends_behind_a_frame(octets, whole, b"")),
         Some(Exit::Error(ConversationFault::NoReply)) => {
-            Some(ends_behind_a_frame(octets, whole.as_bytes(), NO_MEMORY.as_bytes()))
+            Some(ends_behind_a_frame(octets, whole, NO_MEMORY.as_bytes()))
         }
         Some(_) => Some(octets.ends_with(b"\0\n")),
     }
+}
+
+/// Whether a connection is told so that has committed such a transaction. `None` where there was no memory for what the
+/// test expects.
+fn is_told(alloc: Global) -> Option<bool> {
+    let whole = expected(alloc, &[AT_A]).ok()?;
+    let mut talk = committed(alloc, &["A"])?;
+    is_told_so(alloc, &mut talk, whole.as_bytes())
 }
 
 /// Holds whichever one growth is refused.

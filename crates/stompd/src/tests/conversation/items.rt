@@ -113,6 +113,27 @@ fn one_that_has_not_lagged_goes_on(rt: HostRuntime) {
     assert!(rt; goes_on(rt.alloc()));
 }
 
+/// Whether a queue of two that was found empty once, and then lags, does so behind as many items as were taken since.
+fn counts_since_empty(alloc: Global) -> bool {
+    let Some(mut talk) = Talk::new(alloc, WILLING, 2) else {
+        return false;
+    };
+    talk.hear(CONNECT);
+    talk.hear(SUBSCRIBE);
+    talk.hear(SEND);
+    talk.deliver();
+    talk.fake.plan.lags = true;
+    talk.hear(SEND);
+    talk.hear(SEND);
+    talk.deliver();
+    talk.leaves_by(lagged(2))
+}
+
+#[test]
+fn a_lag_is_behind_what_came_since_the_queue_was_empty(rt: HostRuntime) {
+    assert!(rt; counts_since_empty(rt.alloc()));
+}
+
 /// A transaction that asks for a receipt of so many octets.
 fn begin(alloc: Global, name: u8, length: usize) -> Result<String, AllocError> {
     let mut text = format!(in alloc; "BEGIN\ntransaction:{name}\nreceipt:")?;

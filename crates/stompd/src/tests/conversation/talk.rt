@@ -41,6 +41,11 @@ impl Talk {
         self.talk.go_on(&mut self.fake);
     }
 
+    /// It makes room for others.
+    pub(super) fn make_room(&mut self) {
+        self.talk.make_room(&mut self.fake);
+    }
+
     /// Whether a transaction waits for room, and so nothing is to be read.
     pub(super) fn waits(&self) -> bool {
         self.talk.is_held() && !self.talk.may_read() && self.fake.reserved == 0

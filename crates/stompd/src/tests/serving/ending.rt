@@ -1,4 +1,4 @@
-//! A server that can't begin.
+//! How the program's server ends.
 
 use super::served::quiet;
 use broker_server::{Notice, ProgramFault, Request, run_server};
@@ -41,25 +41,33 @@ impl Write for Closed {
     }
 }
 
-/// How a server of these words ends that can't say that it listens.
-fn ends<R>(rt: &R, alloc: Global, words: &[String]) -> Option<(u8, Option<Notice>)>
+/// How a server at this port ends that serves so many connections, where there is a limit, and says by this writer that it
+/// listens; 0 is a port that is free.
+pub(super) fn ends<R, O>(
+    rt: &R,
+    alloc: Global,
+    port: u16,
+    limit: Option<u64>,
+    writer: &mut O,
+) -> Option<(u8, Option<Notice>)>
 where
     R: Threads + Wait + Net + Clock + Log + Send + Sync,
+    O: Write,
 {
-    let Ok(Request::Serve(asked)) = Request::parse(words) else {
+    let words = words(alloc, port).ok()?;
+    let Ok(Request::Serve(asked)) = Request::parse(words.as_slice()) else {
         return None;
     };
-    let ending = run_server(rt, alloc, asked, None, &mut Closed);
+    let ending = run_server(rt, alloc, asked, limit, writer);
     Some((ending.status, ending.notice))
 }
 
-/// The same of a server at this port; 0 is one that is free.
+/// The same of one that can't say so.
 pub(super) fn at_port<R>(rt: &R, alloc: Global, port: u16) -> Option<(u8, Option<Notice>)>
 where
     R: Threads + Wait + Net + Clock + Log + Send + Sync,
 {
-    let words = words(alloc, port).ok()?;
-    ends(rt, alloc, words.as_slice())
+    ends(rt, alloc, port, None, &mut Closed)
 }
 
 /// How the server ends at an address where another listens.

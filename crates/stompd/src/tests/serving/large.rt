@@ -18,7 +18,7 @@ const BODY: usize = 1_048_576;
 const HEAD: &str = "SEND\ndestination:A\ntransaction:x\n\n";
 
 /// A SEND of the transaction.
-fn send(alloc: Global) -> Option<String> {
+pub(super) fn send(alloc: Global) -> Option<String> {
     let mut text = String::from_str(alloc, HEAD).ok()?;
     for _ in 0..BODY {
         text.push('x').ok()?;
@@ -28,7 +28,7 @@ fn send(alloc: Global) -> Option<String> {
 }
 
 /// Whether a client sends the transaction, whose SENDs are these.
-fn sends(client: &mut Client, send: &str) -> bool {
+pub(super) fn sends(client: &mut Client, send: &str) -> bool {
     if !client.sends("BEGIN\ntransaction:x\n\n\0") {
         return false;
     }

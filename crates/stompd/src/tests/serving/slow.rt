@@ -124,8 +124,15 @@ impl Peers for Slow {
     }
 }
 
-/// How many SENDs one sends to itself at once: more than its queue holds, and than one read brings.
+/// How many SENDs one sends to itself at once: more than its queue holds, and together more octets than one read brings, which
+/// doesn't end where a frame does.
 const TO_ITSELF: u64 = 1_000;
+
+/// One of them, and its body with the NULL behind it.
+const OWN: (&str, &[u8]) = (
+    "SEND\ndestination:A\n\nso many come at once that no read has them all, however wide, and few reads end where one does\0",
+    b"so many come at once that no read has them all, however wide, and few reads end where one does\0",
+);
 
 /// One that has sent before subscribes, and sends to its own subscription, all at once, and reads all the time.
 #[derive(Drop)]
@@ -141,7 +148,7 @@ const FIRST: (&str, &str) = (
 fn all_at_once(alloc: Global) -> Option<String> {
     let mut text = String::from_str(alloc, "SUBSCRIBE\nid:s\ndestination:A\n\n\0").ok()?;
     for _ in 0..TO_ITSELF {
-        text.push_str("SEND\ndestination:A\n\nx\0").ok()?;
+        text.push_str(OWN.0).ok()?;
     }
     Some(text)
 }
@@ -160,7 +167,7 @@ impl Peers for ToItself {
         };
         client.asks(FIRST.0, FIRST.1)
             && client.sends(text.as_str())
-            && (2..=TO_ITSELF + 1).all(|number| hears_number(&mut client, alloc, number, b"x\0"))
+            && (2..=TO_ITSELF + 1).all(|number| hears_number(&mut client, alloc, number, OWN.1))
     }
 }
 

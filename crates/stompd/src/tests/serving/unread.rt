@@ -56,8 +56,8 @@ fn commits(sender: &mut Client, text: &str) -> bool {
     )
 }
 
-/// Whether each of these reads the MESSAGE of this index next.
-fn all_hear(clients: &mut Vec<Client>, text: &str) -> bool {
+/// Whether each of these reads this next.
+pub(super) fn all_hear(clients: &mut Vec<Client>, text: &str) -> bool {
     for client in clients.iter_mut() {
         if !client.hears(text) {
             return false;

@@ -73,7 +73,7 @@ fn fills(client: &mut Client, alloc: Global) -> bool {
 }
 
 /// So many clients.
-fn clients(alloc: Global, lines: &mut Lines, count: u64) -> Option<Vec<Client>> {
+pub(super) fn clients(alloc: Global, lines: &mut Lines, count: u64) -> Option<Vec<Client>> {
     let mut clients = Vec::new(alloc);
     for _ in 0..count {
         clients.push(Client::connected(alloc, lines)?).ok()?;
@@ -82,7 +82,7 @@ fn clients(alloc: Global, lines: &mut Lines, count: u64) -> Option<Vec<Client>> 
 }
 
 /// Whether each of them sends this.
-fn all_send(clients: &mut [Client], text: &str) -> bool {
+pub(super) fn all_send(clients: &mut [Client], text: &str) -> bool {
     for client in clients {
         if !client.sends(text) {
             return false;
