@@ -43,8 +43,12 @@
 #ifndef STRANGERS                /* stand-ins at desk 0 by a seat of the connection that had that number before */
 #define STRANGERS 0
 #endif
+#ifndef FLAGS                    /* bits of a connection's word: fewer than subscriptions where some of one connection share one */
+#define FLAGS SUBS
+#endif
 #define TOPIC(s) ((s) % TOPICS)
 #define TAKER(s) ((s) % TAKERS)
+#define FLAG(s) (1 << ((s) % FLAGS))
 
 mtype:bell = { Awake, Told, Asleep };
 mtype:exit = { Talks, Lagged, Lost };
@@ -52,6 +56,8 @@ mtype:frame = { Nothing, Subscribe, Unsubscribe, End };
 
 /* A taker: its bell, its desk, its socket. */
 mtype:bell bell[TAKERS] = Awake;
+byte flags[TAKERS];              /* the bell's: which subscriptions may have something */
+byte known[TAKERS];               /* the conversation's: which queues are looked into */
 bool stuck[TAKERS];
 bool woken[TAKERS];              /* the bell's event, in the poll */
 bool desk[TAKERS];               /* the desk's lock */
@@ -145,12 +151,36 @@ inline bell_set_stuck(c, is) {
   :: else
   fi
 }
-/* seat.rt ring: two loads, of bell.rt is_stuck and in the ring */
+/* bell.rt raise, by seat.rt raise: a load, and an or where the flag isn't set */
+inline seat_raise(sub) {
+  if
+  :: flags[TAKER(sub)] & FLAG(sub) -> skip
+  :: else -> flags[TAKER(sub)] = flags[TAKER(sub)] | FLAG(sub)
+  fi
+}
+/* bell.rt take_flags: a load, and a swap where one is set */
+inline bell_take_flags(c) {
+  if
+  :: flags[c] == 0 -> skip
+  :: else -> d_step { known[c] = known[c] | flags[c]; flags[c] = 0 }
+  fi
+}
+/* seat.rt ring: the flag, and two loads, of bell.rt is_stuck and in the ring */
 inline seat_ring(sub) {
+#if !defined(M_FLAG_BEHIND_RING) && !defined(M_FLAG_NOT_OF_STUCK) && !defined(M_FLAG_BEFORE_TURN)
+  seat_raise(sub);
+#endif
   if
   :: stuck[TAKER(sub)] -> skip
-  :: else -> bell_ring(TAKER(sub))
+  :: else ->
+#ifdef M_FLAG_NOT_OF_STUCK
+     seat_raise(sub);
+#endif
+     bell_ring(TAKER(sub))
   fi
+#ifdef M_FLAG_BEHIND_RING
+  ; seat_raise(sub)
+#endif
 }
 /* seat.rt is_asleep */
 inline seat_is_asleep(sub, is) {
@@ -195,8 +225,16 @@ inline topic_turn(at, some) {
   od;
   UNLOCK(topic[at])
 }
+#ifdef M_FLAG_BEFORE_TURN
+#define RAISES_FIRST(at) LOCK(seats[at]); \
+  d_step { for (s : 0 .. SUBS - 1) { if :: TOPIC(s) == at && seated[s] -> flags[TAKER(s)] = flags[TAKER(s)] | FLAG(s) :: else fi } s = 0 }; \
+  UNLOCK(seats[at])
+#else
+#define RAISES_FIRST(at) skip
+#endif
 /* hub.rt turn_now: who has a seat is told after the turn */
 inline turn_now(at) {
+  RAISES_FIRST(at);
 #ifdef M_RINGS_BEFORE_TURN
   seats_ring(at); topic_turn(at, some); some = false
 #else
@@ -266,13 +304,14 @@ inline talk_close(c, why) {
   }
   e = 0
 }
-/* taking.rt drain_queue, of each queue in turn: takes until none is there, asks for a lag where it took as many as
-   the queue holds, and stops where the wire is full */
+#define LOOKS_AT(c, s) (held[s] && TAKER(s) == c && (known[c] & FLAG(s)))
+/* taking.rt drain_flagged, of each queue in turn: takes until none is there, asks for a lag where it took as many as
+   the queue holds, and stops where the wire is full; one whose flag isn't set is passed by */
 inline talk_drain(c, any) {
   do
-  :: s < SUBS && !(held[s] && TAKER(s) == c) -> s++
-  :: s < SUBS && held[s] && TAKER(s) == c && wire[c] >= WIRE -> stop = true; break
-  :: s < SUBS && held[s] && TAKER(s) == c && wire[c] < WIRE ->
+  :: s < SUBS && !LOOKS_AT(c, s) -> s++
+  :: s < SUBS && LOOKS_AT(c, s) && wire[c] >= WIRE -> stop = true; break
+  :: s < SUBS && LOOKS_AT(c, s) && wire[c] < WIRE ->
      d_step { item = (pushed[s] > taken[s]); if :: item -> taken[s]++ :: else fi };
      if
      :: item -> d_step { any = true; wire[c]++; if :: until_lag[s] > 0 -> until_lag[s]-- :: else fi }
@@ -300,8 +339,21 @@ inline talk_deliver(c, any) {
   if
   :: exit[c] != Talks -> skip
   :: else ->
+#ifdef M_FLAGS_TAKEN_BEHIND
+     known[c] = known[c] | flags[c];
      talk_drain(c, any);
+     flags[c] = 0;
+#else
+     bell_take_flags(c);
+     talk_drain(c, any);
+#endif
      more[c] = stop;
+     if                                                          /* drained.rt flags_left */
+#ifndef M_FLAGS_FORGOTTEN
+     :: stop -> skip
+#endif
+     :: else -> known[c] = 0
+     fi;
      if
      :: failed -> talk_close(c, Lagged); wire[c]++; any = true
      :: else
@@ -439,6 +491,9 @@ proctype Sender() {
                    for (s : 0 .. SUBS - 1) {
                      if
                      :: TOPIC(s) == t && seated[s] ->
+#ifndef M_FLAG_NOT_OF_SLEEPERS
+                        seat_raise(s);
+#endif
                         seat_is_asleep(s, asleep);
                         if
                         :: asleep -> sleeps[s] = true
@@ -606,6 +661,9 @@ round:                                                           /* connection.r
              if
              :: lag && !over[e] ->
                 sub_end(e);
+#ifndef M_LAG_UNFLAGGED
+                seat_raise(e);
+#endif
 #ifndef M_LAG_UNTOLD
                 bell_ring(c)
 #endif

@@ -161,6 +161,8 @@ bool stuck[CONNS];
 bool desk[CONNS];                /* the desk's lock */
 bool at_desk[CONNS];             /* Some(desk) behind it */
 bool more[CONNS];                /* has_more */
+byte flags[CONNS];               /* the bell's: which subscriptions may have something */
+byte known[CONNS];               /* the conversation's: which queues are looked into */
 bool leaving[CONNS];
 #ifdef HALVES
 bool half[CONNS];                /* an item is half out */
@@ -209,7 +211,13 @@ bool served;                     /* the first sender's were entered */
 #endif
 
 #define RING(b) if :: bell[b] == Asleep -> woken[b] = true :: else fi; bell[b] = Told
-#define SEAT_RING(sub) if :: stuck[TAKER(sub)] -> skip :: else -> RING(TAKER(sub)) fi
+#ifdef M_PASSED_UNFLAGGED
+#define PASSED_RING(sub) if :: stuck[TAKER(sub)] -> skip :: else -> RING(TAKER(sub)) fi
+#else
+#define PASSED_RING(sub) SEAT_RING(sub)
+#endif
+#define RAISE(sub) flags[TAKER(sub)] = flags[TAKER(sub)] | BIT(sub)
+#define SEAT_RING(sub) RAISE(sub); if :: stuck[TAKER(sub)] -> skip :: else -> RING(TAKER(sub)) fi
 
 /* What is due at a topic, what a subscription is known to hold, and whether that leaves room for so many. */
 #ifdef M_RESERVED_UNCOUNTED
@@ -462,8 +470,9 @@ inline talk_close(c) {
 #else
 #define MAY_BE_HALF(c) skip
 #endif
-/* taking.rt drain_queue, of each queue in turn, calls.rt take */
+/* calls.rt take_flags, and taking.rt drain_flagged, of each queue in turn, calls.rt take */
 inline talk_drain(c, waits) {
+  d_step { known[c] = known[c] | flags[c]; flags[c] = 0 };
 #ifdef HALVES
   if                                                             /* taking.rt put_left */
   :: d_step { half[c] && wire[c] < WIRE -> half[c] = false; wire[c]++; sent = true; more[c] = true }
@@ -478,7 +487,7 @@ inline talk_drain(c, waits) {
   do
   :: d_step { s < SUBS ->
        if
-       :: TAKER(s) != c || !has[s] || leaving[c] -> got = Other
+       :: TAKER(s) != c || !has[s] || leaving[c] || !(known[c] & BIT(s)) -> got = Other
        :: else ->
           if
           :: wire[c] >= WIRE -> got = Full; more[c] = true
@@ -516,7 +525,8 @@ inline talk_drain(c, waits) {
      got = 0
   :: s >= SUBS -> break
   od;
-  s = 0; got = 0;
+  s = 0;
+  d_step { got = 0; if :: more[c] || (waits) || OWES(c) -> skip :: else -> known[c] = 0 fi };   /* drained.rt flags_left */
   if
   :: over -> over = false; talk_close(c)
   :: else
@@ -611,7 +621,7 @@ inline hub_turned(at, stands_in) {
           if
           :: u < SUBS ->
              if
-             :: stands_in && SLEEPS(u) -> sleepers = sleepers | BIT(u)
+             :: stands_in && SLEEPS(u) -> RAISE(u); sleepers = sleepers | BIT(u)
              :: else -> SEAT_RING(u)
              fi;
              u++; TO_THE_NEXT(SITS(at))
@@ -687,7 +697,7 @@ inline look_at_whom(at, c) {
         d_step { !seats[at] -> seats[at] = true; if :: seated[x] -> passed_over[x] = true :: else fi };
         d_step {
 #ifndef M_PASSED_UNRUNG
-          if :: seated[x] -> SEAT_RING(x) :: else fi;
+          if :: seated[x] -> PASSED_RING(x) :: else fi;
 #endif
           seats[at] = false };
 #endif
@@ -1381,7 +1391,8 @@ init {
     for (i : 0 .. SUBS - 1) {
       if
       :: LATE && i == SUBS - 1 -> skip
-      :: else -> seated[i] = true; open_[i] = true; waited[i] = true; has[i] = true; queue[i] = FILLED
+      :: else -> seated[i] = true; open_[i] = true; waited[i] = true; has[i] = true; queue[i] = FILLED;
+         if :: FILLED > 0 -> RAISE(i) :: else fi
       fi
     }
     for (i : 0 .. CONNS - 1) {

@@ -1,5 +1,5 @@
 -- Worked examples of what a connection asks of the broker, and what it takes of its queues.
-use Rattle.std.proofs.Common.{◌≡◌, ℕ, ◌<◌, ◌≤◌, nat_lt, Bool, true, false, List, [], ◌∷◌, ◌++◌, length, map, codes, Option, Some, None, Ok, inl, inr, refl, ap, ◌∙◌, arith}
+use Rattle.std.proofs.Common.{◌≡◌, ℕ, ◌<◌, ◌≤◌, ◌^◌, nat_lt, Bool, true, false, List, [], ◌∷◌, ◌++◌, length, map, codes, Option, Some, None, Ok, inl, inr, refl, ap, ◌∙◌, arith}
 use Rattle.std.proofs.lemmas.Bool.Decides.{nat_tests}
 use Rattle.mcast_txn.specs.Span.{Item}
 use Rattle.mcast_txn.specs.declared.stamp.Stamp.{Stamp}
@@ -13,18 +13,18 @@ use Rattle.delivery.specs.Core.Output.{messages_for}
 use Rattle.delivery.specs.declared.connection_fault.ConnectionFault.TheVariants as connection
 use Rattle.broker_server.specs.declared.conversation.conversation_fault.ConversationFault.{ConversationFault}
 use Rattle.broker_server.specs.declared.conversation.conversation_fault.ConversationFault.TheVariants as fault
-use Rattle.broker_server.specs.declared.conversation.extent.Extent.TheVariants.{All, Rest}
+use Rattle.broker_server.specs.declared.conversation.extent.Extent.TheVariants.{All, ButLags, Rest}
 use Rattle.broker_server.specs.declared.conversation.drained.Taking.TheVariants.{Emptied, Stopped, Halfway, Failed}
 use Rattle.broker_server.specs.BrokerRows.{AsksLag, GivesBack, IsGateAfter, SubName, Takes, Unsubscribes}
 use Rattle.broker_server.specs.ConversationFaults.{tells_version}
 use Rattle.broker_server.specs.Conversations.{ConversationState, EndsSub, OpenSubState, begun_sub, closing_rows, gate_rows, next_without}
-use Rattle.broker_server.specs.Delivering.{Drains, DrainsAll, DrainsOn, DrainsQueues, IsLag, begins_at, full_wire, has_room, left_behind, taken_messages, with_messages}
+use Rattle.broker_server.specs.Delivering.{Drains, DrainsAll, DrainsOn, DrainsQueues, IsLag, begins_at, flags_left, full_wire, has_room, left_behind, taken_messages, with_messages}
 use Rattle.broker_server.specs.Judging.{Grows}
 use Rattle.broker_server.specs.Wires.{spelling_with_eol}
 
--- the subscription of this number at topic 0
+-- the subscription of this number at topic 0, whose flag is the bit of its number
 abbrev named : ℕ → SubName
-named n = record { topic = record { 0 = 0 }; number = n }
+named n = record { topic = record { 0 = 0 }; number = n; flag = 2 ^ n }
 
 -- three subscriptions, whose queues hold two items
 abbrev a : OpenSubState
@@ -69,21 +69,36 @@ empty_queue : (n : ℕ) (id : List ℕ) → DrainsOn All 2 (Takes (named n) None
 empty_queue n id = inl (refl, (omega arith, refl, inr (refl, omega arith, refl, refl), refl))
 
 -- of three queues, from the second on, the first is the last that is looked at
-pub second_first : DrainsQueues All 2 1 (Takes (named 1) None ∷ Takes (named 2) None ∷ Takes (named 0) None ∷ []) (a ∷ b ∷ c ∷ []) [] Emptied (a ∷ b ∷ c ∷ []) [] 1
+pub second_first : DrainsQueues All 2 7 1 (Takes (named 1) None ∷ Takes (named 2) None ∷ Takes (named 0) None ∷ []) (a ∷ b ∷ c ∷ []) [] Emptied (a ∷ b ∷ c ∷ []) [] 1
 second_first =
-    let last : DrainsAll All 2 (Takes (named 2) None ∷ []) (c ∷ []) [] Emptied (c ∷ []) [] 0 =
-    (Takes (named 2) None ∷ [], [], refl, Emptied, c, [], [], empty_queue 2 (codes "c"), refl, (refl, refl, refl, refl, refl)) in
-    let back : DrainsAll All 2 (Takes (named 1) None ∷ Takes (named 2) None ∷ []) (b ∷ c ∷ []) [] Emptied (b ∷ c ∷ []) [] 0 =
-    (Takes (named 1) None ∷ [], Takes (named 2) None ∷ [], refl, Emptied, b, c ∷ [], [], empty_queue 1 (codes "b"), refl, last) in
-    let front : DrainsAll All 2 (Takes (named 0) None ∷ []) (a ∷ []) [] Emptied (a ∷ []) [] 0 =
-    (Takes (named 0) None ∷ [], [], refl, Emptied, a, [], [], empty_queue 0 (codes "a"), refl, (refl, refl, refl, refl, refl)) in
+    let last : DrainsAll All 2 7 (Takes (named 2) None ∷ []) (c ∷ []) [] Emptied (c ∷ []) [] 0 =
+    (Takes (named 2) None ∷ [], [], refl, Emptied, c, [], [], inl (refl, empty_queue 2 (codes "c")), refl, (refl, refl, refl, refl, refl)) in
+    let back : DrainsAll All 2 7 (Takes (named 1) None ∷ Takes (named 2) None ∷ []) (b ∷ c ∷ []) [] Emptied (b ∷ c ∷ []) [] 0 =
+    (Takes (named 1) None ∷ [], Takes (named 2) None ∷ [], refl, Emptied, b, c ∷ [], [], inl (refl, empty_queue 1 (codes "b")), refl, last) in
+    let front : DrainsAll All 2 7 (Takes (named 0) None ∷ []) (a ∷ []) [] Emptied (a ∷ []) [] 0 =
+    (Takes (named 0) None ∷ [], [], refl, Emptied, a, [], [], inl (refl, empty_queue 0 (codes "a")), refl, (refl, refl, refl, refl, refl)) in
     (a ∷ [], b ∷ c ∷ [], refl, refl, Takes (named 1) None ∷ Takes (named 2) None ∷ [], Takes (named 0) None ∷ [], refl, Emptied, b ∷ c ∷ [], a ∷ [], [], 0, 0, back, refl, (front, refl))
 
+-- where the flag of the third alone is set, that is asked alone
+pub third_alone : DrainsQueues All 2 4 1 (Takes (named 2) None ∷ []) (a ∷ b ∷ c ∷ []) [] Emptied (a ∷ b ∷ c ∷ []) [] 1
+third_alone =
+    let last : DrainsAll All 2 4 (Takes (named 2) None ∷ []) (c ∷ []) [] Emptied (c ∷ []) [] 0 =
+    (Takes (named 2) None ∷ [], [], refl, Emptied, c, [], [], inl (refl, empty_queue 2 (codes "c")), refl, (refl, refl, refl, refl, refl)) in
+    let back : DrainsAll All 2 4 (Takes (named 2) None ∷ []) (b ∷ c ∷ []) [] Emptied (b ∷ c ∷ []) [] 0 =
+    ([], Takes (named 2) None ∷ [], refl, Emptied, b, c ∷ [], [], inr (refl, refl, refl, refl, refl), refl, last) in
+    let front : DrainsAll All 2 4 [] (a ∷ []) [] Emptied (a ∷ []) [] 0 =
+    ([], [], refl, Emptied, a, [], [], inr (refl, refl, refl, refl, refl), refl, (refl, refl, refl, refl, refl)) in
+    (a ∷ [], b ∷ c ∷ [], refl, refl, Takes (named 2) None ∷ [], [], refl, Emptied, b ∷ c ∷ [], a ∷ [], [], 0, 0, back, refl, (front, refl))
+
+-- its flag is forgotten then; where a transaction waits, it is kept, and where another queue stopped, too
+pub flag_is_forgotten : (flags_left All Emptied 4 ≡ 0) × (flags_left ButLags Emptied 4 ≡ 4) × (flags_left All Stopped 4 ≡ 4)
+flag_is_forgotten = (refl, refl, refl)
+
 -- where the second of three isn't emptied, since 65,536 octets wait, the third is next
-pub third_next : (wire : List ℕ) → full_wire ≤ length wire → DrainsQueues All 2 1 [] (a ∷ b ∷ c ∷ []) wire Stopped (a ∷ b ∷ c ∷ []) wire 2
+pub third_next : (wire : List ℕ) → full_wire ≤ length wire → DrainsQueues All 2 7 1 [] (a ∷ b ∷ c ∷ []) wire Stopped (a ∷ b ∷ c ∷ []) wire 2
 third_next wire full =
-    let back : DrainsAll All 2 [] (b ∷ c ∷ []) wire Stopped (b ∷ c ∷ []) wire 1 =
-    ([], [], refl, Stopped, b, c ∷ [], wire, inl (refl, (inl full, refl, refl, refl)), refl, (refl, refl, refl, refl, refl)) in
+    let back : DrainsAll All 2 7 [] (b ∷ c ∷ []) wire Stopped (b ∷ c ∷ []) wire 1 =
+    ([], [], refl, Stopped, b, c ∷ [], wire, inl (refl, inl (refl, (inl full, refl, refl, refl))), refl, (refl, refl, refl, refl, refl)) in
     (a ∷ [], b ∷ c ∷ [], refl, refl, [], [], refl, Stopped, b ∷ c ∷ [], a ∷ [], wire, 1, 0, back, refl, (refl, refl, refl, refl, refl))
 
 -- of a, b and c, where c is next, it is still next when a has gone
@@ -124,12 +139,12 @@ pub third_comes_alone : (h : RawFrame) (wire : List ℕ) → has_room wire ≡ t
 third_comes_alone h wire room = inl (rw room refl, rw room (refl, refl, refl, refl))
 
 -- where the second of three queues has one MESSAGE left, and no room, nothing is asked, and that queue is next again
-pub second_next_again : (h : RawFrame) (wire : List ℕ) → has_room wire ≡ false → DrainsQueues All 2 1 [] (a ∷ record b { left = h ∷ [] } ∷ c ∷ []) wire Halfway (a ∷ record b { left = h ∷ [] } ∷ c ∷ []) wire 1
+pub second_next_again : (h : RawFrame) (wire : List ℕ) → has_room wire ≡ false → DrainsQueues All 2 2 1 [] (a ∷ record b { left = h ∷ [] } ∷ c ∷ []) wire Halfway (a ∷ record b { left = h ∷ [] } ∷ c ∷ []) wire 1
 second_next_again h wire full =
     let second = record b { left = h ∷ [] } in
     let off : DrainsOn All 2 [] second wire Halfway second wire = inr (refl, inl (refl, (rw full refl, rw full refl), refl, refl)) in
-    let back : DrainsAll All 2 [] (second ∷ c ∷ []) wire Halfway (second ∷ c ∷ []) wire 2 =
-    ([], [], refl, Halfway, second, c ∷ [], wire, off, refl, (refl, refl, refl, refl, refl)) in
+    let back : DrainsAll All 2 2 [] (second ∷ c ∷ []) wire Halfway (second ∷ c ∷ []) wire 2 =
+    ([], [], refl, Halfway, second, c ∷ [], wire, inl (refl, off), refl, (refl, refl, refl, refl, refl)) in
     (a ∷ [], second ∷ c ∷ [], refl, refl, [], [], refl, Halfway, second ∷ c ∷ [], a ∷ [], wire, 2, 0, back, refl, (refl, refl, refl, refl, refl))
 
 -- ---- ERROR 22

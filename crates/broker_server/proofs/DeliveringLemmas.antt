@@ -1,9 +1,9 @@
 -- What is taken of one queue, call by call.
 use Rattle.std.proofs.Common.{◌≡◌, ◌⊎◌, inl, inr, ℕ, zero, suc, ◌+◌, ◌-◌, ◌<◌, ◌≤◌, nat_lt, drop, Option, IfSome, Bool, true, false, List, [], ◌∷◌, ◌++◌, length, Result, Ok, Err, OnOk, OnErr, IsTrue, is_err, Some, None, refl, sym, ap, subst, ◌∙◌, append_assoc, append-nil, arith}
-use Rattle.std.specs.Prelude.{◌||◌, slice_get, if◌then◌else◌}
+use Rattle.std.specs.Prelude.{◌||◌, slice_get, take, if◌then◌else◌}
 use Rattle.std.proofs.lemmas.Bool.{false≢true, true≢false}
 use Rattle.std.proofs.lemmas.Bool.Decides.{nat_tests}
-use Rattle.std.proofs.lemmas.List.{drop_all, drop_more}
+use Rattle.std.proofs.lemmas.List.{drop_all, drop_more, length-take-le, take-append-drop}
 use Rattle.std.proofs.lemmas.Option.{get_or_from_slice_get}
 use Rattle.std.proofs.lemmas.List.Folds.{list_any-append}
 use Rattle.stomp_frame.specs.declared.raw_frame.RawFrame.{RawFrame}
@@ -16,7 +16,7 @@ use Rattle.broker_server.specs.declared.conversation.drained.Taking.{Taking}
 use Rattle.broker_server.specs.declared.conversation.drained.Taking.TheVariants.{Emptied, Stopped, Halfway, Failed}
 use Rattle.broker_server.specs.BrokerRows.{AsksLag, BrokerRow, SubName, Takes}
 use Rattle.broker_server.specs.Conversations.{ConversationState, OpenSubState}
-use Rattle.broker_server.specs.Delivering.{BreaksOff, Drains, DrainsAll, DrainsBehind, DrainsOn, DrainsQueues, FailsIn, IfEmptied, Settles, StopsIn, WritesAll, nearer_lag, begins_at, full_wire, has_item, has_room, is_halfway, is_item, is_stopped, left_behind, left_from, messages_of, with_messages}
+use Rattle.broker_server.specs.Delivering.{BreaksOff, Drains, DrainsAll, DrainsBehind, DrainsFlagged, DrainsOn, DrainsQueues, FailsIn, IfEmptied, Settles, StopsIn, WritesAll, nearer_lag, begins_at, full_wire, has_item, has_room, is_halfway, is_item, is_stopped, left_behind, left_from, messages_of, with_messages}
 use Rattle.broker_server.specs.Wires.{spelling_with_eol}
 
 -- what was asked, and then more
@@ -221,38 +221,56 @@ pub if_emptied : (t : Taking) (A B : Type 0) → t ≡ Emptied → A → IfEmpti
 if_emptied t A B e a = subst (λ (s : Taking). IfEmptied s A B) (sym e) a
 
 -- The calls so far emptied the first queues, and are a beginning: whatever is taken of the rest is taken behind them.
-abbrev pub GoesOn : Extent → ℕ → List BrokerRow → List OpenSubState → List OpenSubState → List OpenSubState → List ℕ → List ℕ → Type 0
-GoesOn extent capacity asked queues done rest before wire =
+abbrev pub GoesOn : Extent → ℕ → ℕ → List BrokerRow → List OpenSubState → List OpenSubState → List OpenSubState → List ℕ → List ℕ → Type 0
+GoesOn extent capacity flags asked queues done rest before wire =
     (rows : List BrokerRow) (end : Taking) (others : List OpenSubState) (after : List ℕ) (left : ℕ)
-    → DrainsAll extent capacity rows rest wire end others after left
-    → DrainsAll extent capacity (asked ++ rows) queues before end (done ++ others) after left
+    → DrainsAll extent capacity flags rows rest wire end others after left
+    → DrainsAll extent capacity flags (asked ++ rows) queues before end (done ++ others) after left
 
 -- the next one is emptied, too
-pub goes_on : (extent : Extent) (capacity : ℕ) (asked more : List BrokerRow) (queues done rest : List OpenSubState) (o new : OpenSubState) (before wire between : List ℕ) (one : Taking) → one ≡ Emptied → DrainsOn extent capacity more o wire one new between → GoesOn extent capacity asked queues done (o ∷ rest) before wire → GoesOn extent capacity (asked ++ more) queues (done ++ new ∷ []) rest before between
-goes_on extent capacity asked more queues done rest o new before wire between one emptied drains so_far rows end others after left follow =
-    subst (λ (all : List BrokerRow). DrainsAll extent capacity all queues before end ((done ++ new ∷ []) ++ others) after left) (sym (append_assoc asked more rows))
-    (subst (λ (all : List OpenSubState). DrainsAll extent capacity (asked ++ (more ++ rows)) queues before end all after left) (sym (append_assoc done (new ∷ []) others))
+pub goes_on : (extent : Extent) (capacity flags : ℕ) (asked more : List BrokerRow) (queues done rest : List OpenSubState) (o new : OpenSubState) (before wire between : List ℕ) (one : Taking) → one ≡ Emptied → DrainsFlagged extent capacity flags more o wire one new between → GoesOn extent capacity flags asked queues done (o ∷ rest) before wire → GoesOn extent capacity flags (asked ++ more) queues (done ++ new ∷ []) rest before between
+goes_on extent capacity flags asked more queues done rest o new before wire between one emptied drains so_far rows end others after left follow =
+    subst (λ (all : List BrokerRow). DrainsAll extent capacity flags all queues before end ((done ++ new ∷ []) ++ others) after left) (sym (append_assoc asked more rows))
+    (subst (λ (all : List OpenSubState). DrainsAll extent capacity flags (asked ++ (more ++ rows)) queues before end all after left) (sym (append_assoc done (new ∷ []) others))
     (so_far (more ++ rows) end (new ∷ others) after left (more, rows, refl, one, new, others, between, drains, refl, if_emptied one _ _ emptied follow)))
 
 -- the next one isn't, and the rest stay
-pub goes_no_further : (extent : Extent) (capacity : ℕ) (asked more : List BrokerRow) (queues done rest : List OpenSubState) (o new : OpenSubState) (before wire between : List ℕ) (one : Taking) → (one ≡ Emptied → ⊥) → DrainsOn extent capacity more o wire one new between → GoesOn extent capacity asked queues done (o ∷ rest) before wire → DrainsAll extent capacity (asked ++ more) queues before one (done ++ new ∷ rest) between (left_from one rest)
-goes_no_further extent capacity asked more queues done rest o new before wire between one never drains so_far =
+pub goes_no_further : (extent : Extent) (capacity flags : ℕ) (asked more : List BrokerRow) (queues done rest : List OpenSubState) (o new : OpenSubState) (before wire between : List ℕ) (one : Taking) → (one ≡ Emptied → ⊥) → DrainsFlagged extent capacity flags more o wire one new between → GoesOn extent capacity flags asked queues done (o ∷ rest) before wire → DrainsAll extent capacity flags (asked ++ more) queues before one (done ++ new ∷ rest) between (left_from one rest)
+goes_no_further extent capacity flags asked more queues done rest o new before wire between one never drains so_far =
     so_far more one (new ∷ rest) between (left_from one rest) (more, [], sym (append-nil more), one, new, rest, between, drains, refl, if_stopped one _ _ never (refl, refl, refl, refl, refl))
 
 -- the back ones are emptied, and then the front ones are taken
-pub drains_both : (extent : Extent) (capacity next : ℕ) (queues front back : List OpenSubState) → queues ≡ front ++ back → length front ≡ begins_at next (length queues) → (first rest : List BrokerRow) (wire : List ℕ) (one end : Taking) (changed others : List OpenSubState) (between after : List ℕ) (left unseen later : ℕ) → one ≡ Emptied → DrainsAll extent capacity first back wire one changed between left → DrainsAll extent capacity rest front between end others after unseen → later ≡ length front - unseen → DrainsQueues extent capacity next (first ++ rest) queues wire end (others ++ changed) after later
-drains_both extent capacity next queues front back cut begins first rest wire one end changed others between after left unseen later emptied did follow goes =
+pub drains_both : (extent : Extent) (capacity flags next : ℕ) (queues front back : List OpenSubState) → queues ≡ front ++ back → length front ≡ begins_at next (length queues) → (first rest : List BrokerRow) (wire : List ℕ) (one end : Taking) (changed others : List OpenSubState) (between after : List ℕ) (left unseen later : ℕ) → one ≡ Emptied → DrainsAll extent capacity flags first back wire one changed between left → DrainsAll extent capacity flags rest front between end others after unseen → later ≡ length front - unseen → DrainsQueues extent capacity flags next (first ++ rest) queues wire end (others ++ changed) after later
+drains_both extent capacity flags next queues front back cut begins first rest wire one end changed others between after left unseen later emptied did follow goes =
     (front, back, cut, begins, first, rest, refl, one, changed, others, between, left, unseen, did, refl, if_emptied one _ _ emptied (follow, goes))
 
 -- the back ones aren't all emptied, and the front ones stay
-pub drains_back : (extent : Extent) (capacity next : ℕ) (queues front back : List OpenSubState) → queues ≡ front ++ back → length front ≡ begins_at next (length queues) → (asked : List BrokerRow) (wire : List ℕ) (end : Taking) (changed : List OpenSubState) (after : List ℕ) (left later : ℕ) → (end ≡ Emptied → ⊥) → DrainsAll extent capacity asked back wire end changed after left → later ≡ length queues - left → DrainsQueues extent capacity next asked queues wire end (front ++ changed) after later
-drains_back extent capacity next queues front back cut begins asked wire end changed after left later never did goes =
+pub drains_back : (extent : Extent) (capacity flags next : ℕ) (queues front back : List OpenSubState) → queues ≡ front ++ back → length front ≡ begins_at next (length queues) → (asked : List BrokerRow) (wire : List ℕ) (end : Taking) (changed : List OpenSubState) (after : List ℕ) (left later : ℕ) → (end ≡ Emptied → ⊥) → DrainsAll extent capacity flags asked back wire end changed after left → later ≡ length queues - left → DrainsQueues extent capacity flags next asked queues wire end (front ++ changed) after later
+drains_back extent capacity flags next queues front back cut begins asked wire end changed after left later never did goes =
     (front, back, cut, begins, asked, [], sym (append-nil asked), end, changed, front, after, left, zero, did, refl, if_stopped end _ _ never (refl, refl, refl, refl, goes))
 
+-- none is flagged
+all_unflagged : (extent : Extent) (capacity : ℕ) (os : List OpenSubState) (wire : List ℕ) → DrainsAll extent capacity 0 [] os wire Emptied os wire 0
+all_unflagged extent capacity [] wire = (refl, refl, refl, refl, refl)
+all_unflagged extent capacity (o ∷ os) wire =
+    ([], [], refl, Emptied, o, os, wire, inr (refl, refl, refl, refl, refl), refl, all_unflagged extent capacity os wire)
+
+-- so none is asked
+pub drains_none : (extent : Extent) (capacity flags next first : ℕ) (queues : List OpenSubState) (wire : List ℕ) → flags ≡ 0 → first ≡ begins_at next (length queues) → first ≤ length queues → DrainsQueues extent capacity flags next [] queues wire Emptied queues wire first
+drains_none extent capacity flags next first queues wire none begins within =
+    let size = length-take-le first queues within in
+    let front = take first queues in
+    let back = drop first queues in
+    let whole = take-append-drop first queues in
+    let left : first ≡ length front - 0 = omega (arith, size) in
+    subst (λ (n : ℕ). DrainsQueues extent capacity n next [] queues wire Emptied queues wire first) (sym none)
+    (subst (λ (os : List OpenSubState). DrainsQueues extent capacity 0 next [] queues wire Emptied os wire first) whole
+    (drains_both extent capacity 0 next queues front back (sym whole) (size ∙ begins) [] [] wire Emptied Emptied back front wire wire 0 0 first refl (all_unflagged extent capacity back wire) (all_unflagged extent capacity front wire) left))
+
 -- what is said of the queues as they were lent, said of the connection's own
-pub drains_whole : (still extent : Extent) (held capacity first next : ℕ) (asked : List BrokerRow) (lent queues : List OpenSubState) (before wire : List ℕ) (end : Taking) (new : List OpenSubState) (after : List ℕ) (later : ℕ) → still ≡ extent → held ≡ capacity → first ≡ next → lent ≡ queues → before ≡ wire → DrainsQueues still held first asked lent before end new after later → DrainsQueues extent capacity next asked queues wire end new after later
-drains_whole still extent held capacity first next asked lent queues before wire end new after later h c t q w drains =
-    subst (λ (x : Extent). DrainsQueues x capacity next asked queues wire end new after later) h (subst (λ (n : ℕ). DrainsQueues still n next asked queues wire end new after later) c (subst (λ (n : ℕ). DrainsQueues still held n asked queues wire end new after later) t (subst (λ (os : List OpenSubState). DrainsQueues still held first asked os wire end new after later) q (subst (λ (s : List ℕ). DrainsQueues still held first asked lent s end new after later) w drains))))
+pub drains_whole : (still extent : Extent) (held capacity flags known first next : ℕ) (asked : List BrokerRow) (lent queues : List OpenSubState) (before wire : List ℕ) (end : Taking) (new : List OpenSubState) (after : List ℕ) (later : ℕ) → still ≡ extent → held ≡ capacity → flags ≡ known → first ≡ next → lent ≡ queues → before ≡ wire → DrainsQueues still held flags first asked lent before end new after later → DrainsQueues extent capacity known next asked queues wire end new after later
+drains_whole still extent held capacity flags known first next asked lent queues before wire end new after later h c f t q w drains =
+    subst (λ (x : Extent). DrainsQueues x capacity known next asked queues wire end new after later) h (subst (λ (n : ℕ). DrainsQueues still n known next asked queues wire end new after later) c (subst (λ (n : ℕ). DrainsQueues still held n next asked queues wire end new after later) f (subst (λ (n : ℕ). DrainsQueues still held flags n asked queues wire end new after later) t (subst (λ (os : List OpenSubState). DrainsQueues still held flags first asked os wire end new after later) q (subst (λ (s : List ℕ). DrainsQueues still held flags first asked lent s end new after later) w drains)))))
 
 -- ---- a round
 

@@ -14,7 +14,7 @@ use Rattle.broker_server.specs.declared.conversation.extent.Extent.TheVariants.{
 use Rattle.broker_server.specs.declared.conversation.held.Held.{Held}
 use Rattle.broker_server.specs.declared.conversation.held.Held.TheVariants.{Waits, Owes}
 use Rattle.broker_server.specs.declared.conversation.drained.Taking.TheVariants.{Emptied}
-use Rattle.broker_server.specs.BrokerRows.{AsksRoom, Commits, GivesRoomBack, SubName, Takes, Unsubscribes}
+use Rattle.broker_server.specs.BrokerRows.{AsksRoom, Commits, GivesRoomBack, SubName, Takes, TakesFlags, Unsubscribes}
 use Rattle.broker_server.specs.Conversations.{Acts, CommitsBy, ConversationState, Done, OpenSubState}
 use Rattle.broker_server.specs.Delivering.{Drains, may_read}
 use Rattle.broker_server.specs.Hearing.{GoesOn, TakesAll}
@@ -100,7 +100,7 @@ room_comes_back gate sends = inl (refl, refl, refl)
 -- A SEND waits, its connection's queue is taken, what waits is written, it is refused again, and then it finds room, and
 -- an UNSUBSCRIBE behind it ends its subscription: but for room, the flight and the end are all that was asked, in this order.
 pub asked_once : (piece : List ℕ) (sends : List SentMessage) (flight : FlightState) (gate : GateState) (n : SubName)
-    → but_room (asked_for_frames (Heard piece (AsksRoom (topics_of sends) false ∷ []) ∷ Delivered (Takes n None ∷ []) ∷ Wrote ∷ WentOn (AsksRoom (topics_of sends) false ∷ []) ∷ WentOn (AsksRoom (topics_of sends) true ∷ Commits flight (Ok gate) ∷ Unsubscribes n ∷ []) ∷ []))
+    → but_room (asked_for_frames (Heard piece (AsksRoom (topics_of sends) false ∷ []) ∷ Delivered (TakesFlags n.flag ∷ Takes n None ∷ []) ∷ Wrote ∷ WentOn (AsksRoom (topics_of sends) false ∷ []) ∷ WentOn (AsksRoom (topics_of sends) true ∷ Commits flight (Ok gate) ∷ Unsubscribes n ∷ []) ∷ []))
     ≡ Commits flight (Ok gate) ∷ Unsubscribes n ∷ []
 asked_once piece sends flight gate n = refl
 

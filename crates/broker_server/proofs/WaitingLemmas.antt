@@ -3,7 +3,7 @@ use Rattle.std.proofs.Common.{◌≡◌, inl, inr, ℕ, ◌+◌, Bool, true, fal
 use Rattle.std.proofs.lemmas.List.{map-append}
 use Rattle.std.proofs.lemmas.List.Folds.{list_any-append}
 use Rattle.std.specs.List.{list_any}
-use Rattle.std.specs.Prelude.{MatchOption, ◌||◌}
+use Rattle.std.specs.Prelude.{MatchOption, ◌||◌, bit_or}
 use Rattle.mcast_txn.specs.declared.draft.sent_message.SentMessage.{SentMessage}
 use Rattle.stomp_frame.specs.declared.case_fault.CaseFault.{CaseFault}
 use Rattle.stomp_frame.specs.declared.raw_frame.RawFrame.{RawFrame}
@@ -25,7 +25,7 @@ use Rattle.sender_gate.specs.Gate.{GateState}
 use Rattle.broker_server.specs.BrokerRows.{AsksLag, BrokerRow, Takes, Unsubscribes}
 use Rattle.broker_server.specs.ConversationFaults.{fault_of_reader, tells_version}
 use Rattle.broker_server.specs.Conversations.{Acts, Answers, CommitsBy, Concludes, ConversationState, Does, Done, EndsSaying, OpenSubState, Performs, closing_rows, gate_rows, replies}
-use Rattle.broker_server.specs.Delivering.{BreaksOff, DeliversRound, Drains, DrainsAll, DrainsBehind, DrainsOn, DrainsQueues, IfEmptied, Settles}
+use Rattle.broker_server.specs.Delivering.{BreaksOff, DeliversRound, Drains, DrainsAll, DrainsBehind, DrainsFlagged, DrainsOn, DrainsQueues, IfEmptied, Settles, delivered}
 use Rattle.broker_server.specs.Hearing.{Finishes, GoesOnHalfway, Hears, IfHalf, JudgesFrame, Looks, RefusesFrame, TakesAll, TakesFrame, TakesFrames}
 use Rattle.broker_server.specs.Waiting.{FindsRoomAtOnce, GoesThrough, HearsEach, IsAsOrBefore, Round, WaitsInOrder, asked_for_frames, asks_room, but_items, but_room, finds_none, pieces, untaken}
 use Rattle.broker_server.specs.Waiting.{Heard, WentOn, Delivered, Wrote}
@@ -57,23 +57,27 @@ drains_on_kept : (extent : Extent) (capacity : ℕ) (asked : List BrokerRow) (o 
 drains_on_kept extent capacity asked o wire end new after (inl (whole, drains)) = behind_kept extent capacity asked (record o { left = [] }) _ end new after drains
 drains_on_kept extent capacity asked o wire end new after (inr (none, off)) = off_kept o.left _ wire end new after off
 
+flagged_kept : (extent : Extent) (capacity flags : ℕ) (asked : List BrokerRow) (o : OpenSubState) (wire : List ℕ) (end : Taking) (new : OpenSubState) (after : List ℕ) → DrainsFlagged extent capacity flags asked o wire end new after → untaken new ≡ untaken o
+flagged_kept extent capacity flags asked o wire end new after (inl (is, drains)) = drains_on_kept extent capacity asked o wire end new after drains
+flagged_kept extent capacity flags asked o wire end new after (inr (not_so, none, ends, same, left)) = ap untaken same
+
 emptied_or : (t : Taking) (A B C : Type 0) → IfEmptied t A B → (A → C) → (B → C) → C
 emptied_or Emptied A B C it one other = one it
 emptied_or Stopped A B C it one other = other it
 emptied_or Halfway A B C it one other = other it
 emptied_or (Failed why) A B C it one other = other it
 
-all_kept : (extent : Extent) (capacity : ℕ) (asked : List BrokerRow) (os : List OpenSubState) (wire : List ℕ) (end : Taking) (new : List OpenSubState) (after : List ℕ) (left : ℕ) → DrainsAll extent capacity asked os wire end new after left → map untaken new ≡ map untaken os
-all_kept extent capacity asked [] wire end new after left (none, ends, same, out, many) = ap (map untaken) same
-all_kept extent capacity asked (o ∷ os) wire end new after left (first, rest, cut, one, changed, others, between, drains, is, more) =
-    let head = drains_on_kept extent capacity first o wire one changed between drains in
-    let tail : map untaken others ≡ map untaken os = emptied_or one _ _ _ more (λ goes. all_kept extent capacity rest os between end others after left goes) (λ stops. ap (map untaken) stops.2) in
+all_kept : (extent : Extent) (capacity flags : ℕ) (asked : List BrokerRow) (os : List OpenSubState) (wire : List ℕ) (end : Taking) (new : List OpenSubState) (after : List ℕ) (left : ℕ) → DrainsAll extent capacity flags asked os wire end new after left → map untaken new ≡ map untaken os
+all_kept extent capacity flags asked [] wire end new after left (none, ends, same, out, many) = ap (map untaken) same
+all_kept extent capacity flags asked (o ∷ os) wire end new after left (first, rest, cut, one, changed, others, between, drains, is, more) =
+    let head = flagged_kept extent capacity flags first o wire one changed between drains in
+    let tail : map untaken others ≡ map untaken os = emptied_or one _ _ _ more (λ goes. all_kept extent capacity flags rest os between end others after left goes) (λ stops. ap (map untaken) stops.2) in
     ap (map untaken) is ∙ ap₂ (λ (q : OpenSubState) (qs : List OpenSubState). q ∷ qs) head tail
 
-queues_kept : (extent : Extent) (capacity next : ℕ) (asked : List BrokerRow) (os : List OpenSubState) (wire : List ℕ) (end : Taking) (new : List OpenSubState) (after : List ℕ) (later : ℕ) → DrainsQueues extent capacity next asked os wire end new after later → map untaken new ≡ map untaken os
-queues_kept extent capacity next asked os wire end new after later (front, back, cut, begins, first, rest, rows, one, changed, others, between, left, unseen, drains, is, more) =
-    let backs = all_kept extent capacity first back wire one changed between left drains in
-    let fronts : map untaken others ≡ map untaken front = emptied_or one _ _ _ more (λ goes. all_kept extent capacity rest front between end others after unseen goes.0) (λ stops. ap (map untaken) stops.2) in
+queues_kept : (extent : Extent) (capacity flags next : ℕ) (asked : List BrokerRow) (os : List OpenSubState) (wire : List ℕ) (end : Taking) (new : List OpenSubState) (after : List ℕ) (later : ℕ) → DrainsQueues extent capacity flags next asked os wire end new after later → map untaken new ≡ map untaken os
+queues_kept extent capacity flags next asked os wire end new after later (front, back, cut, begins, first, rest, rows, one, changed, others, between, left, unseen, drains, is, more) =
+    let backs = all_kept extent capacity flags first back wire one changed between left drains in
+    let fronts : map untaken others ≡ map untaken front = emptied_or one _ _ _ more (λ goes. all_kept extent capacity flags rest front between end others after unseen goes.0) (λ stops. ap (map untaken) stops.2) in
     ap (map untaken) is ∙ map-append untaken others changed ∙ ap₂ (λ (xs ys : List OpenSubState). xs ++ ys) fronts backs ∙ sym (map-append untaken front back) ∙ ap (map untaken) (sym cut)
 
 ends_leave : (version : Bool) (why : ConversationFault) (receipt : Option (List ℕ)) (old new : ConversationState) → EndsSaying version why receipt old new → new.exit ≡ None → ⊥
@@ -88,10 +92,10 @@ settles_like Halfway any old asked result new (none, is, same) open_yet = ap but
 
 delivers_like : (old : ConversationState) (asked : List BrokerRow) (any : Bool) (new : ConversationState) → DeliversRound old asked any new → new.exit ≡ old.exit → Like new old
 delivers_like old asked any new (inl (leaves, none, nothing, same)) stays = ap but_items same
-delivers_like old asked any new (inr (open_yet, first, rest, cut, end, subs, wire, next, drains, settles)) stays =
-    let drained = record old { subs = subs; wire = wire; next = next } in
+delivers_like old asked any new (inr (open_yet, told, first, rest, cut, end, subs, wire, next, drains, settles)) stays =
+    let drained = delivered old end (bit_or old.flags told) subs wire next in
     settles_like end _ drained rest any new settles (stays ∙ open_yet)
-    ∙ ap (λ (os : List OpenSubState). record (but_items old) { subs = os }) (queues_kept _ old.capacity old.next first old.subs old.wire end subs wire next drains)
+    ∙ ap (λ (os : List OpenSubState). record (but_items old) { subs = os }) (queues_kept _ old.capacity _ old.next first old.subs old.wire end subs wire next drains)
 
 -- ---- no transaction waits behind what is done
 

@@ -8,10 +8,12 @@ use Rattle.sender_gate.specs.declared.fault.ClaimFault.{ClaimFault}
 use Rattle.sender_gate.specs.Gate.{FlightState, GateState, gate_after}
 use Rattle.broker_locks.specs.declared.fault.CommitFault.{CommitFault}
 
--- which subscription of the broker: its topic, and its number there
+-- which subscription of the broker: its topic, its number there, and its flag, a bit of the word by which its
+-- connection is told which of its subscriptions may have something
 pub record SubName : Type 0 where
   pub topic : Topic
   pub number : ℕ
+  pub flag : ℕ
 
 -- A call of the broker, with what it answered. So `Claims None (Ok gate)` is a CONNECT without client-id that
 -- got the gate of a new sender.
@@ -26,6 +28,8 @@ pub data BrokerRow : Type 0 where
   Subscribes : Topic → Result SubName SubFault → BrokerRow
   -- the subscription was ended
   Unsubscribes : SubName → BrokerRow
+  -- which subscriptions may have something since this was asked last was asked: their flags, in one word
+  TakesFlags : ℕ → BrokerRow
   -- whether the subscription has lagged was asked
   AsksLag : SubName → Bool → BrokerRow
   -- the next item of the subscription's queue was asked for

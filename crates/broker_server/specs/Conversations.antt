@@ -53,7 +53,8 @@ unwritten parts id (Some rest) = drop rest.next (messages_for parts id rest.item
 -- room, or whose answer is owed behind an item that is half out, if one is, the octets that wait to be written
 -- to it, why it leaves, once it does, whether a reply was left out since there was no memory for it, whether
 -- items may be left in its queues since too many octets waited, whether an item is half out, how many items
--- each queue holds, and the index of the one that is taken next
+-- each queue holds, the index of the one that is taken next, and the flags of those that may have something, as
+-- far as the broker was asked
 pub record ConversationState : Type 0 where
   pub reader : Unread
   pub session : SessionState
@@ -68,6 +69,7 @@ pub record ConversationState : Type 0 where
   pub half : Bool
   pub capacity : ℕ
   pub next : ℕ
+  pub flags : ℕ
 
 -- a connection that has said nothing, of a broker whose queues hold so many items
 pub record IsNew (capacity : ℕ) (c : ConversationState) : Type 0 where
@@ -84,6 +86,7 @@ pub record IsNew (capacity : ℕ) (c : ConversationState) : Type 0 where
   pub half : c.half ≡ false
   pub capacity_is : c.capacity ≡ capacity
   pub next : c.next ≡ 0
+  pub flags : c.flags ≡ 0
 
 -- ---- what is written
 

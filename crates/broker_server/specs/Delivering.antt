@@ -1,5 +1,5 @@
 -- What one connection of the server takes of its queues.
-use Rattle.std.specs.Prelude.{◌≡◌, ◌⊎◌, ℕ, ◌+◌, ◌-◌, ◌<◌, ◌≤◌, nat_lt, Bool, true, false, not, ◌&&◌, ◌||◌, List, [], ◌∷◌, ◌++◌, length, Option, Some, None, IsSome, if◌then◌else◌}
+use Rattle.std.specs.Prelude.{◌≡◌, ◌⊎◌, ℕ, ◌+◌, ◌-◌, ◌<◌, ◌≤◌, ◌==◌, nat_lt, bit_and, bit_or, Bool, true, false, not, ◌&&◌, ◌||◌, List, [], ◌∷◌, ◌++◌, length, Option, Some, None, IsSome, if◌then◌else◌}
 use Rattle.std.specs.List.{flat_map, list_any}
 use Rattle.std.specs.Option.{is_none}
 use Rattle.stomp_frame.specs.declared.raw_frame.RawFrame.{RawFrame}
@@ -14,7 +14,7 @@ use Rattle.broker_server.specs.declared.conversation.held.Held.{Held}
 use Rattle.broker_server.specs.declared.conversation.held.Held.TheVariants.{Waits, Owes}
 use Rattle.broker_server.specs.declared.conversation.drained.Taking.{Taking}
 use Rattle.broker_server.specs.declared.conversation.drained.Taking.TheVariants.{Emptied, Stopped, Halfway, Failed}
-use Rattle.broker_server.specs.BrokerRows.{BrokerRow, AsksLag, Takes}
+use Rattle.broker_server.specs.BrokerRows.{BrokerRow, AsksLag, Takes, TakesFlags}
 use Rattle.broker_server.specs.Conversations.{ConversationState, EndsByError, OpenSubState, closing_rows}
 use Rattle.broker_server.specs.Wires.{spelling_with_eol}
 
@@ -165,6 +165,19 @@ DrainsOn extent capacity asked o wire end new after =
 
 -- ---- queue after queue
 
+-- Whether these flags say that the queue may have something: its own is one of them. So of subscriptions whose flags
+-- are 1, 2 and 4, those of 1 and 4 where the flags are 5.
+abbrev pub is_flagged : ℕ → OpenSubState → Bool
+is_flagged flags o = not (bit_and flags o.sub.flag == 0)
+
+-- The same of a queue that is taken only where it is flagged; of another one nothing is asked, and it is as one that
+-- was found empty.
+abbrev pub DrainsFlagged
+    : Extent → ℕ → ℕ → List BrokerRow → OpenSubState → List ℕ → Taking → OpenSubState → List ℕ → Type 0
+DrainsFlagged extent capacity flags asked o wire end new after =
+    ((is_flagged flags o ≡ true) × DrainsOn extent capacity asked o wire end new after)
+    ⊎ ((is_flagged flags o ≡ false) × (asked ≡ []) × (end ≡ Emptied) × (new ≡ o) × (after ≡ wire))
+
 -- the one where nothing is left of a queue, else the other
 abbrev pub IfEmptied : Taking → Type 0 → Type 0 → Type 0
 IfEmptied Emptied goes_on stops = goes_on
@@ -175,18 +188,18 @@ abbrev pub left_from : Taking → List OpenSubState → ℕ
 left_from Halfway behind = length behind + 1
 left_from _ behind = length behind
 
--- These queues are taken, one after the other, up to the first that isn't emptied, and so many are left from
--- there on; where there are none, nothing is left of them.
+-- Those of these queues that are flagged are taken, one after the other, up to the first that isn't emptied, and
+-- so many are left from there on; where there are none, nothing is left of them.
 abbrev pub DrainsAll
-    : Extent → ℕ → List BrokerRow → List OpenSubState → List ℕ → Taking → List OpenSubState → List ℕ → ℕ
+    : Extent → ℕ → ℕ → List BrokerRow → List OpenSubState → List ℕ → Taking → List OpenSubState → List ℕ → ℕ
     → Type 0
-DrainsAll extent capacity asked [] wire end new after left =
+DrainsAll extent capacity flags asked [] wire end new after left =
     (asked ≡ []) × (end ≡ Emptied) × (new ≡ []) × (after ≡ wire) × (left ≡ 0)
-DrainsAll extent capacity asked (o ∷ os) wire end new after left =
+DrainsAll extent capacity flags asked (o ∷ os) wire end new after left =
     (first rest : List BrokerRow) × (asked ≡ first ++ rest)
     × (one : Taking) × (changed : OpenSubState) × (others : List OpenSubState) × (between : List ℕ)
-    × DrainsOn extent capacity first o wire one changed between × (new ≡ changed ∷ others)
-    × IfEmptied one (DrainsAll extent capacity rest os between end others after left)
+    × DrainsFlagged extent capacity flags first o wire one changed between × (new ≡ changed ∷ others)
+    × IfEmptied one (DrainsAll extent capacity flags rest os between end others after left)
     ((rest ≡ []) × (end ≡ one) × (others ≡ os) × (after ≡ between) × (left ≡ left_from one os))
 
 -- whether an item was taken by this call
@@ -207,18 +220,19 @@ begins_at next count = if nat_lt next count then next else 0
 -- item of it is half out, and else the same one. So of three queues of which the second is next, they are taken
 -- as second, third and first; and where the second isn't emptied, the third is next later, so that none waits
 -- for another for ever. But where the second stopped halfway in an item, the second is next again, so that
--- nothing comes between.
+-- nothing comes between. Of those that aren't flagged none is asked: where the second alone is, it is taken, and
+-- the order of the others stays.
 abbrev pub DrainsQueues
-    : Extent → ℕ → ℕ → List BrokerRow → List OpenSubState → List ℕ → Taking → List OpenSubState → List ℕ → ℕ
-    → Type 0
-DrainsQueues extent capacity next asked queues wire end new after later =
+    : Extent → ℕ → ℕ → ℕ → List BrokerRow → List OpenSubState → List ℕ → Taking → List OpenSubState → List ℕ
+    → ℕ → Type 0
+DrainsQueues extent capacity flags next asked queues wire end new after later =
     (front back : List OpenSubState) × (queues ≡ front ++ back)
     × (length front ≡ begins_at next (length queues))
     × (first rest : List BrokerRow) × (asked ≡ first ++ rest)
     × (one : Taking) × (changed others : List OpenSubState) × (between : List ℕ) × (left unseen : ℕ)
-    × DrainsAll extent capacity first back wire one changed between left × (new ≡ others ++ changed)
+    × DrainsAll extent capacity flags first back wire one changed between left × (new ≡ others ++ changed)
     × IfEmptied one
-    (DrainsAll extent capacity rest front between end others after unseen × (later ≡ length front - unseen))
+    (DrainsAll extent capacity flags rest front between end others after unseen × (later ≡ length front - unseen))
     ((rest ≡ []) × (end ≡ one) × (others ≡ front) × (after ≡ between) × (later ≡ length queues - left))
 
 -- ---- a round of the connection
@@ -234,9 +248,23 @@ abbrev pub is_halfway : Taking → Bool
 is_halfway Halfway = true
 is_halfway _ = false
 
+-- Which flags are kept once the queues were taken: none where nothing is left of a flagged queue, and each lag was
+-- told; else all of them. So where a queue was found empty, and another one stopped, both are asked again; and a queue
+-- whose lag is told once a transaction waits no more is asked again then.
+abbrev pub flags_left : Extent → Taking → ℕ → ℕ
+flags_left All Emptied flags = 0
+flags_left extent end flags = flags
+
 -- whether MESSAGEs of the item that is half out are written: an item is, and there is room
 abbrev pub writes_on : ConversationState → Bool
 writes_on c = c.half && nat_lt (length c.wire) full_wire
+
+-- The connection once its queues were taken by these flags: these are its subscriptions then, this waits to be
+-- written, and the queue of this index is next.
+abbrev pub delivered
+    : ConversationState → Taking → ℕ → List OpenSubState → List ℕ → ℕ → ConversationState
+delivered old end flags subs wire next =
+    record old { subs = subs; wire = wire; next = next; flags = flags_left (extent_of old.held) end flags }
 
 -- What follows, once these items were taken or not: where it failed, the connection leaves by that, and a
 -- lag's 74 is so the last that is written; else it stays, and knows whether items may be left, and whether one
@@ -248,20 +276,34 @@ Settles (Failed why) any old asked result new =
 Settles end any old asked result new =
     (asked ≡ []) × (result ≡ any) × (new ≡ record old { more = is_stopped end; half = is_halfway end })
 
--- Its queues are taken, and what comes is written; the result is whether something came of it. One that
--- leaves takes nothing. So where `a` holds an item and `b` has lagged, a's MESSAGE is written, what `b` holds
+-- The broker is asked which queues may have something; these, and those of which that was said before, are taken,
+-- and what comes is written; the result is whether something came of it. One that leaves takes nothing. So where `a` holds an item and `b` has lagged, a's MESSAGE is written, what `b` holds
 -- is taken to its end, and the last that is written is 74. Where an answer is owed, only the rest of the item
 -- that is half out is written.
 abbrev pub DeliversRound : ConversationState → List BrokerRow → Bool → ConversationState → Type 0
 DeliversRound old asked result new =
     (IsSome old.exit × (asked ≡ []) × (result ≡ false) × (new ≡ old))
-    ⊎ ((old.exit ≡ None) × (first rest : List BrokerRow) × (asked ≡ first ++ rest)
+    ⊎ ((old.exit ≡ None) × (told : ℕ) × (first rest : List BrokerRow) × (asked ≡ TakesFlags told ∷ first ++ rest)
     × (end : Taking) × (subs : List OpenSubState) × (wire : List ℕ) × (next : ℕ)
-    × DrainsQueues (extent_of old.held) old.capacity old.next first old.subs old.wire end subs wire next
-    × Settles end (has_item first || writes_on old) (record old { subs = subs; wire = wire; next = next }) rest
-    result new)
+    × DrainsQueues (extent_of old.held) old.capacity (bit_or old.flags told) old.next first old.subs old.wire end
+    subs wire next
+    × Settles end (has_item first || writes_on old)
+    (delivered old end (bit_or old.flags told) subs wire next) rest result new)
 
--- ---- a law
+-- ---- laws
+
+-- Where a connection stays, each queue that was flagged in a round, by what the broker told then or before, is
+-- flagged still, or was asked for an item by a call of that round, and had none. So none that has something is left
+-- out for ever: what has an item isn't found empty before that is taken.
+abbrev pub NoneIsForgotten : Type 0
+NoneIsForgotten =
+    (old : ConversationState) (asked : List BrokerRow) (any : Bool) (new : ConversationState)
+    → DeliversRound old asked any new → new.exit ≡ None
+    → (told : ℕ) × (rows : List BrokerRow) × (asked ≡ TakesFlags told ∷ rows)
+    × ((front : List OpenSubState) (o : OpenSubState) (back : List OpenSubState) → old.subs ≡ front ++ o ∷ back
+    → is_flagged (bit_or old.flags told) o ≡ true
+    → (is_flagged new.flags o ≡ true)
+    ⊎ ((before behind : List BrokerRow) × (rows ≡ before ++ Takes o.sub None ∷ behind)))
 
 -- the MESSAGEs of the items that these calls took, for a subscription of this id, which asked for parts or
 -- didn't

@@ -1,10 +1,12 @@
--- What the program `serve` writes, and with which topics it begins.
-use Rattle.std.specs.Prelude.{◌≡◌, ◌⊎◌, ℕ, Bool, ◌&&◌, not, nat_lt, List, [], ◌∷◌, ◌++◌, length, codes, Option, Result, Err, OnOk, if◌then◌else◌}
+-- What the program `serve` writes, how it ends, and with which topics it begins.
+use Rattle.std.specs.Prelude.{◌≡◌, ◌⊎◌, ℕ, Bool, ◌&&◌, not, nat_lt, List, [], ◌∷◌, ◌++◌, length, codes, Option, Result, Err, IfOk, OnOk, if◌then◌else◌}
 use Rattle.std.specs.Io.KnownBytes.{Appends}
 use Rattle.stomp_session.specs.Names.{is_known, max_topics, with_name}
 use Rattle.delivery.specs.Topics.{TopicList}
+use Rattle.broker_server.specs.declared.ending.Ending.{Ending}
 use Rattle.broker_server.specs.declared.program_fault.ProgramFault.{ProgramFault}
 use Rattle.broker_server.specs.declared.program_fault.ProgramFault.TheVariants.{Io}
+use Rattle.broker_server.specs.Endings.{ending_of}
 
 -- The line by which it says that it listens at an address: at `127.0.0.1:61613` it is
 -- `listening 127.0.0.1:61613` and LF.
@@ -24,6 +26,16 @@ pub record SaysLine {A : Type 0} (line : List ℕ) (had has : Option (List ℕ))
   pub given : Appends had has sent
   pub whole : OnOk answer (left ≡ [])
   pub part : (sent ≡ []) ⊎ ((left ≡ []) ⊎ (answer ≡ Err Io))
+
+-- The program that listens at this address wrote so, and ended so.
+-- says: it wrote that line, and nothing else.
+-- status: no status but 0 is its own.
+-- ends: beside that it ends by a fault (4 or 5), with its line on standard error.
+pub record IsServed (address : List ℕ) (had has : Option (List ℕ)) (ending : Ending) : Type 0 where
+  pub answer : Result ℕ ProgramFault
+  pub says : SaysLine (listening_line address) had has answer
+  pub status : IfOk answer (λ status. status ≡ 0)
+  pub ends : ending ≡ ending_of answer
 
 -- ---- its topics
 

@@ -79,8 +79,8 @@ HearsEach (piece ∷ more) old asked new =
 abbrev pub untaken : OpenSubState → OpenSubState
 untaken o = record o { until_lag = 0; lagged = false; left = [] }
 
--- a connection but for what is delivered and written: nothing waits to be written, and nothing was taken of
--- its queues
+-- a connection but for what is delivered and written: nothing waits to be written, nothing was taken of its
+-- queues, and no flag is known
 abbrev pub but_items : ConversationState → ConversationState
 but_items c = record c {
   subs = map untaken c.subs;
@@ -88,6 +88,7 @@ but_items c = record c {
   more = false;
   half = false;
   next = 0;
+  flags = 0;
 }
 
 -- ---- laws

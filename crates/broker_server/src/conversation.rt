@@ -65,7 +65,7 @@ const MOST: usize = 1_048_576;
 /// One connection of the server, without its socket. In contracts it is what came and isn't read yet, its session, its
 /// sender's gate, its open subscriptions, what it goes on with later, the octets that wait to be written to it, why it
 /// leaves, once it does, whether a reply was left out, whether items may be left in its queues, whether one is half out,
-/// how many each queue holds, and which of them is looked at first.
+/// how many each queue holds, which of them is looked at first, and the flags of those that may have something.
 pub struct Conversation<C: BrokerCalls> {
     alloc: Global,
     reader: FrameReader,
@@ -90,6 +90,8 @@ pub struct Conversation<C: BrokerCalls> {
     next: usize,
     /// How many items a queue holds at most.
     capacity: u64,
+    /// The flags of the subscriptions whose queues may have something, as far as the broker was asked.
+    flags: u64,
     /// How many SENDs it committed, for the server's figures: no contract speaks of it.
     sends: u64,
     /// The topics that frames' destinations named last. No contract speaks of them.
@@ -116,6 +118,7 @@ impl<C: BrokerCalls> Drop for Conversation<C> {
             half: _,
             next: _,
             capacity: _,
+            flags: _,
             sends: _,
             named: _,
             ignored: _,
@@ -149,6 +152,7 @@ impl<C: BrokerCalls> Model for Conversation<C> {
       half = c.half;
       capacity = c.capacity;
       next = c.next;
+      flags = c.flags;
     } };
 }
 
@@ -172,6 +176,7 @@ impl<C: BrokerCalls> Conversation<C> {
             half: false,
             next: 0,
             capacity,
+            flags: 0,
             sends: 0,
             named: NamedLast::new(),
             ignored: IgnoredSoFar::new(),
@@ -762,8 +767,8 @@ impl<C: BrokerCalls> Conversation<C> {
         self.half && self.wire.may_take()
     }
 
-    /// Takes what is there of each queue and sends it, while few octets wait; whether something came of it. It begins
-    /// with the rest of an item that is half out, and else behind the subscription where it stopped last, so that none
+    /// Takes what is there of each queue that may have something, as the broker says, and sends it, while few octets wait;
+    /// whether something came of it. It begins with the rest of an item that is half out, and else behind the subscription where it stopped last, so that none
     /// waits for another for ever. Where an answer is owed behind that item, nothing else is taken. A subscription that has
     /// lagged ends the connection once all that it had accepted was taken, but not while a transaction waits for room: then
     /// by a later call.
@@ -774,12 +779,14 @@ impl<C: BrokerCalls> Conversation<C> {
         if self.exit.is_some() {
             return false;
         }
+        let flags = self.flags | calls.take_flags();
         let extent = Extent::of(&self.held);
         let writes_on = self.writes_on();
         let queues = self.subs.as_mut_slice();
         let (drained, next) = drain_queues(
             calls,
             queues,
+            flags,
             self.next,
             &mut self.wire,
             self.capacity,
@@ -788,6 +795,7 @@ impl<C: BrokerCalls> Conversation<C> {
         self.next = next;
         self.more = drained.end.is_stopped();
         self.half = drained.end.is_halfway();
+        self.flags = drained.end.flags_left(extent, flags);
         if let Taking::Failed(fault) = drained.end {
             self.fail(calls, fault, None);
             return true;

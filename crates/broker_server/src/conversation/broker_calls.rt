@@ -18,9 +18,9 @@ pub trait BrokerCalls {
     ghost use Rattle.mcast_txn.specs.Transaction.{topics_of};
     ghost use Rattle.broker_locks.specs.Commits.{IsUntouched};
     ghost use Rattle.broker_server.specs.Judging.{Grows, IsFrameAccepted, IsFrameRefused};
-    ghost use Rattle.broker_server.specs.BrokerRows.{AsksInOrder, BrokerRow, IsGateAfter, SubName, LooksUp, Claims, GivesBack, Subscribes, Unsubscribes, AsksLag, Takes, AsksRoom, GivesRoomBack, Commits};
+    ghost use Rattle.broker_server.specs.BrokerRows.{AsksInOrder, BrokerRow, IsGateAfter, SubName, LooksUp, Claims, GivesBack, Subscribes, Unsubscribes, AsksLag, Takes, TakesFlags, AsksRoom, GivesRoomBack, Commits};
 
-    /// An open subscription: its topic, its number, and the end of its queue that takes.
+    /// An open subscription: its topic, its number, its flag, and the end of its queue that takes.
     type Sub: Drop;
 
     /// Room that is reserved at the topics of a transaction. It isn't `Drop`: it is used by a commit, or given back.
@@ -79,6 +79,16 @@ pub trait BrokerCalls {
             self.unsubscribe(sub);
         }
     }
+
+    /// A subscription's flag: one bit of the word that `take_flags` gives. Others of the connection may have the same.
+    fn flag(sub: &Self::Sub) -> u64
+        ensures { result ≡ (name sub.now).flag };
+
+    /// Which of the connection's subscriptions may have something: the flags of those that were told so since this was
+    /// asked last. One whose flag isn't among these, and wasn't since its queue was found empty, or it began, had
+    /// nothing at one moment of the call.
+    fn take_flags(&mut self) -> u64
+        ensures { called self.old (TakesFlags result) self.new };
 
     /// Whether a subscription has lagged.
     fn has_lagged(&mut self, sub: &Self::Sub) -> bool

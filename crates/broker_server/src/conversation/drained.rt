@@ -1,9 +1,11 @@
 //! What the taking of queues came to.
 
 ghost use Rattle.std.specs.Prelude.{◌≡◌};
-ghost use Rattle.broker_server.specs.Delivering.{is_halfway, is_stopped};
+ghost use Rattle.broker_server.specs.declared.conversation.extent.Extent.TheVariants.{All};
+ghost use Rattle.broker_server.specs.Delivering.{flags_left, is_halfway, is_stopped};
 
 use crate::conversation::conversation_fault::ConversationFault;
+use crate::conversation::extent::Extent;
 
 /// How the taking of queues ended.
 #[derive(Clone, Copy)]
@@ -31,6 +33,29 @@ impl Taking {
         ensures { result ≡ is_halfway self }
     {
         matches!(self, Taking::Halfway)
+    }
+
+    /// Which of these flags are kept, where so much was to be taken: none where nothing is left, and each lag was told.
+    pub(crate) fn flags_left(self, extent: Extent, flags: u64) -> u64
+        ensures { result ≡ flags_left extent self flags }
+    {
+        match extent {
+            Extent::All => self.flags_left_of_all(flags),
+            Extent::ButLags => flags,
+            Extent::Rest => flags,
+        }
+    }
+
+    /// The same, where all was to be taken.
+    fn flags_left_of_all(self, flags: u64) -> u64
+        ensures { result ≡ flags_left All self flags }
+    {
+        match self {
+            Taking::Emptied => 0,
+            Taking::Stopped => flags,
+            Taking::Halfway => flags,
+            Taking::Failed(_) => flags,
+        }
     }
 }
 

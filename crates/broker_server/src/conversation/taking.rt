@@ -4,7 +4,7 @@ ghost use Rattle.std.specs.Prelude.{◌≡◌, ◌≤◌, List, Some, drop, IfEr
 ghost use Rattle.delivery.specs.Core.Output.{messages_for};
 ghost use Rattle.broker_server.specs.BrokerRows.{AsksInOrder, BrokerRow};
 ghost use Rattle.broker_server.specs.Conversations.{unwritten};
-ghost use Rattle.broker_server.specs.Delivering.{BreaksOff, Drains, DrainsAll, DrainsBehind, DrainsOn, DrainsQueues, FailsIn, StopsIn, TellsLag, WritesAll, begins_at, has_item};
+ghost use Rattle.broker_server.specs.Delivering.{BreaksOff, Drains, DrainsAll, DrainsBehind, DrainsFlagged, DrainsOn, DrainsQueues, FailsIn, StopsIn, TellsLag, WritesAll, begins_at, has_item, is_flagged};
 
 use crate::conversation::broker_calls::BrokerCalls;
 use crate::conversation::conversation_fault::ConversationFault;
@@ -20,6 +20,12 @@ use stomp_frame::NoMemory;
 /// more, so the wire is full before.
 const MOST_CALLS: usize = 65_536;
 
+/// Nothing was taken, and nothing is left.
+const NOTHING: Drained = Drained {
+    any: false,
+    end: Taking::Emptied,
+};
+
 /// At which of so many queues it begins: at the one that is next, or at the first where none has its index.
 fn begins_at(next: usize, count: usize) -> usize
     ensures at { result ≡ begins_at next count }
@@ -28,52 +34,58 @@ fn begins_at(next: usize, count: usize) -> usize
     if next < count { next } else { 0 }
 }
 
-/// Takes what is there of each queue, from the next one to the last, and then from the first to that one; and which
-/// is next later.
+/// Takes what is there of each queue that is flagged, from the next one to the last, and then from the first to that
+/// one; and which is next later.
 pub(crate) fn drain_queues<C: BrokerCalls>(
     calls: &mut C,
     queues: &mut [OpenSub<C>],
+    flags: u64,
     next: usize,
     wire: &mut Wire,
     capacity: u64,
     extent: Extent,
 ) -> (Drained, usize)
     ensures { (asked : List BrokerRow) × AsksInOrder C.called calls.old asked calls.new
-        × DrainsQueues extent capacity next asked queues.old wire.old result.0.end queues.new wire.new result.1
+        × DrainsQueues extent capacity flags next asked queues.old wire.old result.0.end queues.new wire.new result.1
         × (result.0.any ≡ has_item asked) }
 {
     let count = queues.len();
     let first = begins_at(next, count);
+    if flags == 0 {
+        return (NOTHING, first);
+    }
     let (front, back) = queues.split_at_mut(first);
-    let (drained, left) = drain_all(calls, back, wire, capacity, extent);
+    let (drained, left) = drain_all(calls, back, flags, wire, capacity, extent);
     let Taking::Emptied = drained.end else {
         let behind = count.saturating_sub(left);
         return (drained, behind);
     };
-    let (others, left) = drain_all(calls, front, wire, capacity, extent);
+    let (others, left) = drain_all(calls, front, flags, wire, capacity, extent);
     let later = first.saturating_sub(left);
     let any = drained.any || others.any;
     let end = others.end;
     (Drained { any, end }, later)
 }
 
-/// Takes what is there of these queues, one after the other, up to the first that isn't emptied; and how many are left
-/// from there on: that one, too, where an item of it is half out. A connection has 64 of them at most.
+/// Takes what is there of those of these queues that are flagged, one after the other, up to the first that isn't
+/// emptied; and how many are left from there on: that one, too, where an item of it is half out. A connection has 64 of
+/// them at most.
 fn drain_all<C: BrokerCalls>(
     calls: &mut C,
     queues: &mut [OpenSub<C>],
+    flags: u64,
     wire: &mut Wire,
     capacity: u64,
     extent: Extent,
 ) -> (Drained, usize)
     ensures { (asked : List BrokerRow) × AsksInOrder C.called calls.old asked calls.new
-        × DrainsAll extent capacity asked queues.old wire.old result.0.end queues.new wire.new result.1
+        × DrainsAll extent capacity flags asked queues.old wire.old result.0.end queues.new wire.new result.1
         × (result.0.any ≡ has_item asked) }
 {
     let mut any = false;
     let mut left = queues.len();
     for queue in queues.iter_mut() {
-        let drained = drain_queue(calls, queue, wire, capacity, extent);
+        let drained = drain_flagged(calls, queue, flags, wire, capacity, extent);
         any = any || drained.any;
         let end = drained.end;
         match end {
@@ -84,6 +96,34 @@ fn drain_all<C: BrokerCalls>(
     }
     let end = Taking::Emptied;
     (Drained { any, end }, left)
+}
+
+/// The same of one queue, if it is flagged.
+#[inline(always)]
+fn drain_flagged<C: BrokerCalls>(
+    calls: &mut C,
+    queue: &mut OpenSub<C>,
+    flags: u64,
+    wire: &mut Wire,
+    capacity: u64,
+    extent: Extent,
+) -> Drained
+    ensures { (asked : List BrokerRow) × AsksInOrder C.called calls.old asked calls.new
+        × DrainsFlagged extent capacity flags asked queue.old wire.old result.end queue.new wire.new
+        × (result.any ≡ has_item asked) }
+{
+    if !is_flagged(flags, queue) {
+        return NOTHING;
+    }
+    drain_queue(calls, queue, wire, capacity, extent)
+}
+
+/// Whether these flags say that the queue may have something.
+#[inline(always)]
+fn is_flagged<C: BrokerCalls>(flags: u64, queue: &OpenSub<C>) -> bool
+    ensures { result ≡ is_flagged flags queue.now }
+{
+    flags & C::flag(&queue.sub) != 0
 }
 
 /// Writes what is left of the queue's item, if something is, and then takes what is there of the queue, unless nothing

@@ -6,7 +6,7 @@ use crate::serving::activity::Activity;
 use crate::serving::intake::Intake;
 use crate::serving::shown::Shown;
 use mio::Waker;
-use std::sync::atomic::{AtomicBool, AtomicU8, Ordering};
+use std::sync::atomic::{AtomicBool, AtomicU8, AtomicU64, Ordering};
 
 /// The thread is at work, and wasn't told anything since it looked last.
 const AWAKE: u8 = 0;
@@ -18,10 +18,12 @@ const ASLEEP: u8 = 2;
 /// What a connection's thread is told by. No telling is lost: who tells has done first what it tells of, and the thread
 /// looks for that only after it heard. So either the thread looks behind that deed, or it finds at `sleeps` that it
 /// was told, and doesn't wait, or it waits already, and is woken. That needs all these steps in one order, those of
-/// `stuck`, too: each is SeqCst, and has to stay so.
+/// `stuck` and of the flags, too: each is SeqCst, and has to stay so.
 #[derive(Drop)]
 pub(crate) struct Bell {
     state: AtomicU8,
+    /// The flags of the connection's subscriptions of which it is told, and that its thread hasn't taken since.
+    flags: AtomicU64,
     /// Whether more is there for the connection than the system takes of it.
     stuck: AtomicBool,
     waker: Waker,
@@ -35,6 +37,7 @@ impl Bell {
     pub(crate) fn new(waker: Waker) -> Bell {
         Bell {
             state: AtomicU8::new(AWAKE),
+            flags: AtomicU64::new(0),
             stuck: AtomicBool::new(false),
             waker,
             intake: Intake::new(),
@@ -65,6 +68,23 @@ impl Bell {
         if !self.is_told() && self.state.swap(TOLD, Ordering::SeqCst) == ASLEEP {
             let _ = self.waker.wake();
         }
+    }
+
+    /// The subscriptions of this flag may have something: who has put it there raises the flag before it rings. Where it
+    /// is raised already, who takes it looks after this.
+    pub(crate) fn raise(&self, flag: u64) {
+        if self.flags.load(Ordering::SeqCst) & flag == 0 {
+            self.flags.fetch_or(flag, Ordering::SeqCst);
+        }
+    }
+
+    /// The flags that were raised since they were taken last: who works for the connection takes them before it looks
+    /// into any queue.
+    pub(crate) fn take_flags(&self) -> u64 {
+        if self.flags.load(Ordering::SeqCst) == 0 {
+            return 0;
+        }
+        self.flags.swap(0, Ordering::SeqCst)
     }
 
     /// Whether the thread waits, or is about to, and wasn't told anything.

@@ -260,11 +260,12 @@ impl<'a, R: Wait + Log + Clock, W: Side, T: Side> Calls<'a, R, W, T> {
 
     /// Ends this subscription at its topic where it has lagged: it would cost others something there at each SEND. Its
     /// queue still gives what it accepted; who put that there may find the seat gone, and not tell of it, so the thread
-    /// tells itself. Whether it has lagged.
+    /// raises the flag, and tells itself. Whether it has lagged.
     pub(crate) fn end_lagged(&mut self, sub: &SeatedSub) -> bool {
         let has_lagged = self.has_lagged(sub);
         if has_lagged && sub.end() {
             self.end_at(sub.topic, from_ref(sub));
+            sub.seat.raise();
             self.bell.ring();
         }
         has_lagged
@@ -782,7 +783,7 @@ impl<'a, R: Wait + Log + Clock, W: Side, T: Side> BrokerCalls for Calls<'a, R, W
     // Nothing is said of what other threads find.
     ghost called = { λ old row new. Unit {0} };
 
-    ghost name = { λ sub. record { topic = sub.topic; number = sub.begun.sub } };
+    ghost name = { λ sub. record { topic = sub.topic; number = sub.begun.sub; flag = sub.flag } };
 
     // Nor of what others hold.
     ghost grants = { λ self octets granted. Unit {0} };
@@ -854,13 +855,21 @@ impl<'a, R: Wait + Log + Clock, W: Side, T: Side> BrokerCalls for Calls<'a, R, W
     #[tactic(auto, using(crate::proofs::ConversationLemmas::asks_some))]
     fn end_all(&mut self, subs: Vec<SeatedSub>)
         ensures { AsksInOrder (λ old row new. Unit {0}) self.old
-            (map (λ sub. Unsubscribes (record { topic = sub.topic; number = sub.begun.sub })) subs.items) self.new }
+            (map (λ sub. Unsubscribes (record { topic = sub.topic; number = sub.begun.sub; flag = sub.flag })) subs.items) self.new }
     {
         if subs.is_empty() {
             return;
         }
         self.subs = self.subs.saturating_sub(subs.len() as u64);
         self.end_each_topic(subs);
+    }
+
+    fn flag(sub: &SeatedSub) -> u64 {
+        sub.flag
+    }
+
+    fn take_flags(&mut self) -> u64 {
+        self.bell.take_flags()
     }
 
     fn has_lagged(&mut self, sub: &SeatedSub) -> bool {

@@ -2,7 +2,7 @@
 
 ghost use Rattle.std.specs.Prelude.{◌≡◌, map, string_bytes, IfOk, OnOk};
 ghost use Rattle.delivery.specs.Topics.{no_topics};
-ghost use Rattle.broker_server.specs.Listening.{SaysLine, listening_line, topics_with_name, topics_with_names};
+ghost use Rattle.broker_server.specs.Listening.{IsServed, SaysLine, listening_line, topics_with_name, topics_with_names};
 
 use crate::draining::drain_wire;
 use crate::ending::Ending;
@@ -31,6 +31,7 @@ const CAPACITY: usize = 64;
 /// Runs the server that is asked for: it writes the line that it listens, with the address as it was given, and then
 /// serves until a fault, or, with a limit, until so many connections came and ended. It keeps no trace. Returns how the
 /// program ends.
+#[tactic(auto, using(crate::proofs::ListeningLemmas::is_served))]
 pub fn run_server<R, O>(
     rt: &R,
     alloc: Global,
@@ -41,6 +42,7 @@ pub fn run_server<R, O>(
 where
     R: Threads + Wait + Net + Clock + Log + Send + Sync,
     O: Write,
+    ensures { IsServed asked.entry.text.now (O.contents writer.old) (O.contents writer.new) result }
 {
     Ending::by(listen(rt, alloc, asked, limit, writer))
 }
@@ -56,6 +58,8 @@ fn listen<R, O>(
 where
     R: Threads + Wait + Net + Clock + Log + Send + Sync,
     O: Write,
+    ensures says { SaysLine (listening_line asked.entry.text.now) (O.contents writer.old) (O.contents writer.new)
+        result }
     ensures status { IfOk result (λ status. status ≡ 0) }
 {
     let workers = Blank::new(257);
@@ -64,6 +68,7 @@ where
 }
 
 /// The same, with these ledgers for the tickets of the broker's workers and of its topics.
+#[tactic(auto, using(crate::proofs::ListeningLemmas::says_nothing, crate::proofs::ListeningLemmas::says_all, crate::proofs::ListeningLemmas::says_a_part))]
 fn listen_by<R, O, W, T>(
     rt: &R,
     alloc: Global,
@@ -82,6 +87,8 @@ where
         × (W.all ≡ 257) }
     requires tickets { (tickets.name ≡ T.name) × (tickets.parts ≡ T.parts) × (T.parts ≡ T.all)
         × (T.all ≡ 1024) }
+    ensures says { SaysLine (listening_line asked.entry.text.now) (O.contents writer.old) (O.contents writer.new)
+        result }
     ensures status { IfOk result (λ status. status ≡ 0) }
 {
     let broker = broker_of::<R, W, T>(alloc, asked.names, workers, tickets)?;

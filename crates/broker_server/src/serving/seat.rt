@@ -14,6 +14,8 @@ pub(crate) struct Seat {
     connection: u64,
     /// Of the connection's own numbering.
     number: u64,
+    /// A bit of its bell's flags. Two seats of a connection may have the same: both are looked at then.
+    flag: u64,
     /// The number of the connection's desk.
     desk: usize,
     bell: Arc<Bell>,
@@ -38,6 +40,7 @@ impl Seat {
         Seat {
             connection,
             number,
+            flag: 1 << (number % 64),
             desk,
             bell,
             sub: AtomicU64::new(u64::MAX),
@@ -60,6 +63,13 @@ impl Seat {
         ensures { result ≡ self.now.connection }
     {
         self.connection
+    }
+
+    /// Its bit of its bell's flags.
+    pub(crate) fn flag(&self) -> u64
+        ensures { result ≡ self.now.flag }
+    {
+        self.flag
     }
 
     /// The number of its connection's desk, which another has once that connection has left.
@@ -101,8 +111,19 @@ impl Seat {
         self.bell.is_asleep() && !self.bell.is_stuck()
     }
 
-    /// Tells its thread that the topic was turned, unless that is stuck: it looks for what there is, once it isn't.
+    /// Its queue may have something: its flag says so from now on, to a thread that is stuck or sleeps, too.
+    pub(crate) fn raise(&self) {
+        self.bell.raise(self.flag);
+    }
+
+    /// Tells its thread that the topic was turned, as `raise` and `tell` say.
     pub(crate) fn ring(&self) {
+        self.raise();
+        self.tell();
+    }
+
+    /// Tells its thread that a flag was raised, unless that is stuck: it looks for what there is, once it isn't.
+    pub(crate) fn tell(&self) {
         if !self.bell.is_stuck() {
             self.bell.ring();
         }

@@ -15,6 +15,8 @@ pub(crate) struct SeatedSub {
     pub(crate) topic: Topic,
     pub(crate) begun: Subscribed,
     pub(crate) seat: Arc<Seat>,
+    /// The seat's flag.
+    pub(crate) flag: u64,
     /// As how many items count that were taken since the topic was told how many were.
     pub(crate) untold: u64,
     /// Whether it has ended at its topic.
@@ -31,10 +33,12 @@ impl SeatedSub {
         ensures seat { result.seat ≡ seat }
         ensures untold { result.untold ≡ 0 }
     {
+        let flag = seat.flag();
         SeatedSub {
             topic,
             begun,
             seat,
+            flag,
             untold: 0,
             over: AtomicBool::new(false),
             said: AtomicBool::new(false),

@@ -141,12 +141,13 @@ impl TopicSeats {
     }
 
     /// Tells those whose threads are awake. The others are put into this list, or told, too, where there is no memory
-    /// for that.
+    /// for that: their flags are raised before somebody stands in for them.
     pub(crate) fn ring_awake<R: Wait>(&self, rt: &R, asleep: &mut Vec<Arc<Seat>>) {
         for entry in self.seats.lock(rt).iter() {
             let seat = &entry.seat;
+            seat.raise();
             if !seat.is_asleep() || !is_put(seat, asleep) {
-                seat.ring();
+                seat.tell();
             }
         }
     }

@@ -4,6 +4,7 @@ mod ends;
 mod eols;
 mod fake;
 mod faults;
+mod flags;
 mod halves;
 mod holding;
 mod ignored;

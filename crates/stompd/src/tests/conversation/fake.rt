@@ -67,6 +67,8 @@ pub(super) const WILLING: Plan = Plan {
 pub(super) struct FakeSub {
     topic: Topic,
     number: u64,
+    /// The bit of its number.
+    flag: u64,
 }
 
 /// Room at so many topics, which isn't let go.
@@ -84,6 +86,8 @@ pub(super) struct Fake {
     pub(super) refusals: u64,
     /// At how many topics room is reserved.
     pub(super) reserved: usize,
+    /// The flags of the subscriptions of which it says, each time, that they may have something.
+    pub(super) flags: u64,
     /// The open subscriptions: the topic of each, and its number.
     open: Vec<(u32, u64)>,
     /// What wasn't taken: the subscription of each item.
@@ -104,6 +108,7 @@ impl Fake {
             rows: Vec::new(alloc),
             refusals: 0,
             reserved: 0,
+            flags: u64::MAX,
             open: Vec::new(alloc),
             items: Vec::new(alloc),
             subs: 0,
@@ -201,7 +206,7 @@ impl BrokerCalls for Fake {
     // The rows are compared as they run.
     ghost called = { λ old row new. Unit {0} };
 
-    ghost name = { λ sub. record { topic = sub.topic; number = sub.number } };
+    ghost name = { λ sub. record { topic = sub.topic; number = sub.number; flag = sub.flag } };
 
     ghost grants = { λ self octets granted. Unit {0} };
 
@@ -245,7 +250,12 @@ impl BrokerCalls for Fake {
         if self.open.push((topic.0, number)).is_err() {
             return Err(SubFault::NoMemory);
         }
-        Ok(FakeSub { topic, number })
+        let flag = 1 << (number % 64);
+        Ok(FakeSub {
+            topic,
+            number,
+            flag,
+        })
     }
 
     fn unsubscribe(&mut self, sub: FakeSub) {
@@ -257,12 +267,20 @@ impl BrokerCalls for Fake {
     #[tactic(auto, using(crate::proofs::EndLemmas::asks_some))]
     fn end_all(&mut self, subs: Vec<FakeSub>)
         ensures { AsksInOrder (λ old row new. Unit {0}) self.old
-            (map (λ sub. Unsubscribes (record { topic = sub.topic; number = sub.number })) subs.items) self.new }
+            (map (λ sub. Unsubscribes (record { topic = sub.topic; number = sub.number; flag = sub.flag })) subs.items) self.new }
     {
         if subs.is_empty() {
             return;
         }
         self.end_each(subs);
+    }
+
+    fn flag(sub: &FakeSub) -> u64 {
+        sub.flag
+    }
+
+    fn take_flags(&mut self) -> u64 {
+        self.flags
     }
 
     fn has_lagged(&mut self, sub: &FakeSub) -> bool {

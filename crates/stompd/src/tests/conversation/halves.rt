@@ -115,7 +115,7 @@ pub(super) const AT_A: Told = Told {
 };
 
 /// The subscriptions to A and B of a transaction to both.
-const AT_BOTH: [Told; 2] = [
+pub(super) const AT_BOTH: [Told; 2] = [
     Told {
         stamp: "2.1",
         step: 2,

@@ -141,7 +141,7 @@ const LAGGING: Plan = Plan {
 };
 
 /// A connection with a queue of one item, which has lagged as a transaction waits; its item was taken.
-fn lagged_waiting(alloc: Global) -> Option<Talk> {
+pub(super) fn lagged_waiting(alloc: Global) -> Option<Talk> {
     let mut talk = Talk::new(alloc, LAGGING, 1)?;
     talk.hear(CONNECT);
     talk.hear(SUBSCRIBE);

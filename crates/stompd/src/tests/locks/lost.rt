@@ -73,7 +73,8 @@ impl<'a, R: Wait, W: Side, T: Side> BrokerCalls for Calls<'a, R, W, T> {
     // Nothing is said of what other threads find.
     ghost called = { λ old row new. Unit {0} };
 
-    ghost name = { λ sub. record { topic = sub.topic; number = sub.begun.sub } };
+    // All have one flag.
+    ghost name = { λ sub. record { topic = sub.topic; number = sub.begun.sub; flag = 1 } };
 
     // It grants all.
     ghost grants = { λ self octets granted. Unit {0} };
@@ -116,12 +117,20 @@ impl<'a, R: Wait, W: Side, T: Side> BrokerCalls for Calls<'a, R, W, T> {
     #[tactic(auto, using(crate::proofs::EndLemmas::asks_some))]
     fn end_all(&mut self, subs: Vec<Sub>)
         ensures { AsksInOrder (λ old row new. Unit {0}) self.old
-            (map (λ sub. Unsubscribes (record { topic = sub.topic; number = sub.begun.sub })) subs.items) self.new }
+            (map (λ sub. Unsubscribes (record { topic = sub.topic; number = sub.begun.sub; flag = 1 })) subs.items) self.new }
     {
         if subs.is_empty() {
             return;
         }
         self.end_each(subs);
+    }
+
+    fn flag(_sub: &Sub) -> u64 {
+        1
+    }
+
+    fn take_flags(&mut self) -> u64 {
+        1
     }
 
     fn has_lagged(&mut self, sub: &Sub) -> bool {

@@ -23,6 +23,7 @@ returns-in_default g c =
       half = held.half;
       capacity = held.capacity;
       next = held.next;
+      flags = held.flags;
     } in
     let none : held.gate ≡ None = sym c.take.ensures.value ∙ c.in_default.is in (
       GivesRoomBack ∷ [],

@@ -28,6 +28,7 @@ returns-in-Ok-clause-fails g c =
       half = held.half;
       capacity = held.capacity;
       next = held.next;
+      flags = held.flags;
     } in
     let was = c.self.view_is ∙ c.close.ensures.closed in
     let told = ap (λ (t : List ℕ). held.wire ++ spelling_with_eol (error_frame t receipt c.args.version)) c.title.ensures
@@ -53,6 +54,7 @@ returns-in-Err-clause-fails g c =
       half = held.half;
       capacity = held.capacity;
       next = held.next;
+      flags = held.flags;
     } in
     let was = c.self.view_is ∙ c.close.ensures.closed in
     let err = on_err c.put_frame.result _ _ c.in-Err.is c.put_frame.ensures.err in

@@ -25,6 +25,7 @@ returns-then-self g c =
       half = inside.half;
       capacity = inside.capacity;
       next = inside.next;
+      flags = inside.flags;
     } in
     let is : inside.held ≡ Some what = sym c.take.ensures.value ∙ c.in-Some.is in
     let free = ap with c.take.ensures.after ∙ ap (λ (s : ConversationState). record s { held = None }) c.self.view_is in
@@ -59,6 +60,7 @@ returns g c =
       half = inside.half;
       capacity = inside.capacity;
       next = inside.next;
+      flags = inside.flags;
     } in
     let is : inside.held ≡ Some what = sym c.take.ensures.value ∙ c.in-Some.is in
     let free = ap with c.take.ensures.after ∙ ap (λ (s : ConversationState). record s { held = None }) c.self.view_is in

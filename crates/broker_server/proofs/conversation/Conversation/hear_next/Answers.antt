@@ -42,6 +42,7 @@ returns-in-Ok-None-clause-rests g c =
       half = held.half;
       capacity = held.capacity;
       next = held.next;
+      flags = held.flags;
     } in
     let reads : NextReturns c.self.inside.reader (Ok None) left =
     subst (λ (o : Option RawFrame). NextReturns c.self.inside.reader (Ok o) left) c.in-Ok-None.field-0-is (c.in-Ok-None.ensures.answer (λ e. cc)) in
@@ -72,6 +73,7 @@ returns-then-not-is_idle-clause-rests g c =
       half = held.half;
       capacity = held.capacity;
       next = held.next;
+      flags = held.flags;
     } in
     let fails = subst (λ (w : ConversationFault). EndsByError w None (record old { reader = left }) new) c.of_reader.ensures c.fail.ensures.fails in
     let reads = reading_fails why held.reader left (λ no. c.in-Err.ensures.answer (λ e. no cc)) (λ yes. let same = c.in-Err.ensures.no_memory cc in (same, some_unread held.reader left (c.is_idle.ensures.due c.if-not-is_idle.true yes) same)) in
@@ -100,6 +102,7 @@ returns-else-not-is_idle-clause-rests g c =
       half = held.half;
       capacity = held.capacity;
       next = held.next;
+      flags = held.flags;
     } in
     let idle = c.is_idle.ensures.idle c.if-not-is_idle.false in
     let lacks : c.next.result ≡ Err FrameFault.NoMemory = c.in-Err.is ∙ ap (λ (w : FrameFault). Err w) idle.0 in

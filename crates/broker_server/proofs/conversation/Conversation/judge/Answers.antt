@@ -27,6 +27,7 @@ returns-in-Ok-clause-accepted g c =
       half = held.half;
       capacity = held.capacity;
       next = held.next;
+      flags = held.flags;
     } in (
       [],
       refl,
@@ -56,6 +57,7 @@ returns-in-Err-clause-refused g c =
       half = held.half;
       capacity = held.capacity;
       next = held.next;
+      flags = held.flags;
     } in (
       [],
       refl,
@@ -89,6 +91,7 @@ returns-in-Ok-step-clause-accepted g c =
       half = held.half;
       capacity = held.capacity;
       next = held.next;
+      flags = held.flags;
     } in (
       row ∷ [],
       asks_one g.C.BrokerCalls.called c.args.calls.now c.step-2.new.self row c.in-Ok-step.ensures.called,
@@ -120,6 +123,7 @@ returns-in-Err-step-clause-refused g c =
       half = held.half;
       capacity = held.capacity;
       next = held.next;
+      flags = held.flags;
     } in (
       row ∷ [],
       asks_one g.C.BrokerCalls.called c.args.calls.now c.step-2.new.self row c.in-Err-step.ensures.called,

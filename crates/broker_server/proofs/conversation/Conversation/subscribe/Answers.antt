@@ -22,6 +22,7 @@ returns-then-is_err g c =
       half = held.half;
       capacity = held.capacity;
       next = held.next;
+      flags = held.flags;
     } in
     ([], refl, inr (inr (refl, refl, ap with c.reserve.ensures.items ∙ c.self.view_is)))
 
@@ -47,6 +48,7 @@ returns-in-Ok g c =
       half = held.half;
       capacity = held.capacity;
       next = held.next;
+      flags = held.flags;
     } in (
       row ∷ [],
       asks_one called c.args.calls.now c.subscribe.new.self row c.in-Ok.ensures.begun,
@@ -79,6 +81,7 @@ returns-in-Err g c =
       half = held.half;
       capacity = held.capacity;
       next = held.next;
+      flags = held.flags;
     } in (
       row ∷ [],
       asks_one called c.args.calls.now c.subscribe.new.self row c.in-Err.ensures.refused,

@@ -53,6 +53,7 @@ returns g c =
       half = held.half;
       capacity = held.capacity;
       next = next;
+      flags = held.flags;
     } in (
       Unsubscribes it.sub ∷ [],
       asks_one called c.args.calls.now c.unsubscribe.new.self (Unsubscribes it.sub) one,

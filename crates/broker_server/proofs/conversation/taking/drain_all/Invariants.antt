@@ -8,7 +8,7 @@ use Rattle.broker_server.proofs.conversation.taking.drain_all.Given as goal
 abbrev pub invariant-loop-queue : goal.invariant-loop-queue
 invariant-loop-queue g l = record {
   taken : (asked : List BrokerRow) × AsksInOrder g.C.BrokerCalls.called l.fn.calls asked l.calls
-      × GoesOn l.fn.extent l.capacity asked l.fn.queues (take l.queue-index l.queues) (drop l.queue-index l.queues) l.fn.wire l.wire
+      × GoesOn l.fn.extent l.capacity l.flags asked l.fn.queues (take l.queue-index l.queues) (drop l.queue-index l.queues) l.fn.wire l.wire
       × (l.any ≡ has_item asked);
   many : l.left + l.queue-index ≡ length l.queues;
 }
