@@ -290,20 +290,7 @@ DeliversRound old asked result new =
     × Settles end (has_item first || writes_on old)
     (delivered old end (bit_or old.flags told) subs wire next) rest result new)
 
--- ---- laws
-
--- Where a connection stays, each queue that was flagged in a round, by what the broker told then or before, is
--- flagged still, or was asked for an item by a call of that round, and had none. So none that has something is left
--- out for ever: what has an item isn't found empty before that is taken.
-abbrev pub NoneIsForgotten : Type 0
-NoneIsForgotten =
-    (old : ConversationState) (asked : List BrokerRow) (any : Bool) (new : ConversationState)
-    → DeliversRound old asked any new → new.exit ≡ None
-    → (told : ℕ) × (rows : List BrokerRow) × (asked ≡ TakesFlags told ∷ rows)
-    × ((front : List OpenSubState) (o : OpenSubState) (back : List OpenSubState) → old.subs ≡ front ++ o ∷ back
-    → is_flagged (bit_or old.flags told) o ≡ true
-    → (is_flagged new.flags o ≡ true)
-    ⊎ ((before behind : List BrokerRow) × (rows ≡ before ++ Takes o.sub None ∷ behind)))
+-- ---- a law
 
 -- the MESSAGEs of the items that these calls took, for a subscription of this id, which asked for parts or
 -- didn't
