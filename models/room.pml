@@ -1191,6 +1191,7 @@ enter:
         :: d_step { u < SUBS && !(TOPIC(u) == t && seated[u]) -> u++ }
         :: u >= SUBS -> break
         od;
+        skip;
         d_step { u = 0; seats[t] = false; t++ }
      :: t >= TOPICS -> break
      od;
