@@ -1371,7 +1371,11 @@ proctype Monitor() {
     if
     :: has[i] && !more[TAKER(i)] ->                              /* it found its queue empty */
        assert(queue[i] == 0 && untold[i] == 0);
+#if WITHOUT > 0                                                  /* or it asks again, behind the next item */
+       assert(passed_over[i] || waited[i] && !lagged[i])
+#else
        assert(waited[i] && !lagged[i])
+#endif
     :: else
     fi
   }
