@@ -106,13 +106,13 @@ abbrev pub fed : List (List ℕ) → Unread → Unread
 fed [] r = r
 fed (piece ∷ more) r = fed more (with_piece r piece)
 
--- A connection that keeps these pieces: they are in its stream, in order, and nothing of them was taken. So one
--- that keeps `UNSUBSC` and `RIBE` has `UNSUBSCRIBE` behind what was unread.
+-- A connection that keeps these pieces: they are in its stream, in order, and nothing of them was taken. So
+-- one that keeps `UNSUBSC` and `RIBE` has `UNSUBSCRIBE` behind what was unread.
 abbrev pub keeping : List (List ℕ) → ConversationState → ConversationState
 keeping kept c = record c { reader = fed kept c.reader }
 
--- What one holds, beside another: the transaction that waits in the other, too; or the answer to it, as one has
--- committed it by these calls while an item was half out, and is then so; or, where none waits in the other,
+-- What one holds, beside another: the transaction that waits in the other, too; or its answer, since it was
+-- committed by these calls, as an item was half out, and one is then so; or, where none waits in the other,
 -- but pieces that came while an item was half out. So where a COMMIT with the receipt `r` waits in the other,
 -- it waits in this one, or its flight is out, and this one owes `r`.
 abbrev pub HasDone : ConversationState → List BrokerRow → Held → ConversationState → Type 0
@@ -123,9 +123,9 @@ HasDone other asked what new =
     × Performs (actions.Commit sends) (record other { held = None }) asked done new)
     ⊎ ((other.held ≡ None) × (what ≡ Owes (Ok tt) None) × (asked ≡ []) × (new ≡ other))
 
--- One holds something yet, beside another that heard all but the kept pieces: it has done no more than was just
--- said, and keeps those. So where a `SEND` waits in both, and an UNSUBSCRIBE is kept behind it, nothing was asked
--- for that, and the subscription is open in both.
+-- One holds something yet, beside another that heard all but the kept pieces: it has done no more than was
+-- just said, and keeps those. So where a `SEND` waits in both, and an UNSUBSCRIBE is kept behind it, nothing
+-- was asked for that, and the subscription is open in both.
 abbrev pub HoldsYet
     : List (List ℕ) → ConversationState → List BrokerRow → ConversationState → Type 0
 HoldsYet kept other asked one =
@@ -133,7 +133,8 @@ HoldsYet kept other asked one =
     × HasDone other asked what new
     × (but_items one ≡ but_items (keeping kept (record new { held = Some what })))
 
--- It held something, and there was no memory for one of the kept pieces: it left by that, and both are dropped.
+-- It held something, and there was no memory for one of the kept pieces: it left by that, and what it held is
+-- dropped, as those are. So a `SEND` that waits in the other is never committed by this one.
 abbrev pub LeavesHolding
     : List (List ℕ) → ConversationState → List BrokerRow → ConversationState → Type 0
 LeavesHolding kept other asked one =
@@ -143,15 +144,15 @@ LeavesHolding kept other asked one =
 
 -- ---- laws
 
--- One is as another, but for what is delivered. What isn't read of one that leaves never is, and may differ: so
--- where a DISCONNECT is kept, and a piece behind it, that one has the piece in its stream, and the other, which
--- had left as it came, dropped it.
+-- One is as another, but for what is delivered. Where both have left, what isn't read never is, and may
+-- differ: so where a DISCONNECT was kept, and a piece behind it, this one has that piece in its stream, and
+-- the other dropped it.
 abbrev pub IsAs : ConversationState → ConversationState → Type 0
 IsAs one other =
     (but_items one ≡ but_items other) ⊎ (IsSome other.exit × (but_unread one ≡ but_unread other))
 
--- How one stands beside another that heard all but the kept pieces, with what it asked beyond that. None is kept,
--- nothing is held, and it is as the other; or it holds something yet; or it left so.
+-- How one stands beside another that heard all but the kept pieces, with what it asked beyond that: none is
+-- kept, nothing is held, and it is as the other; or it holds something yet; or it left holding it.
 abbrev pub StandsBeside
     : List (List ℕ) → ConversationState → List BrokerRow → ConversationState → Type 0
 StandsBeside kept other asked one =
@@ -159,19 +160,26 @@ StandsBeside kept other asked one =
     ⊎ HoldsYet kept other asked one
     ⊎ LeavesHolding kept other asked one
 
--- Whatever a connection goes through, another that hears the same pieces, one after the other, asks the same
--- of the broker for them, in the same order, but for room, and is then as that one, but for what is delivered.
--- Where that one holds something yet, the other has heard all pieces but those that are kept behind that: for
--- those nothing was asked, and they are in that one's stream, each once and in order. As this is so after any
--- rounds, they are heard as the other hears them, once that one goes on. So where a `SEND` waits, and an
--- UNSUBSCRIBE comes behind it, with it or in later pieces, the flight is committed first, and once, however often that
--- one went on and was delivered to; and where the `SEND` waits still, nothing was asked for the UNSUBSCRIBE.
+-- These pieces came to a connection, in any way, and it asked this for their frames, in order: as another
+-- asks that hears them one after the other, but for room, and it is then as that one. Where it holds
+-- something yet, the other has heard all but the kept pieces: nothing was asked for those, and they are in
+-- the stream, each once. So one that asks for an UNSUBSCRIBE before the `SEND` that waits in front of it,
+-- that drops a kept piece, or hears it twice, keeps no order.
+abbrev pub KeepsOrder
+    : List (List ℕ) → List BrokerRow → ConversationState → ConversationState → Type 0
+KeepsOrder came rows old new =
+    (heard kept : List (List ℕ)) × (came ≡ heard ++ kept)
+    × (asked last : List BrokerRow) × (other : ConversationState) × HearsEach heard old asked other
+    × StandsBeside kept other last new × (but_room (asked ++ last) ≡ but_room rows)
+
+-- Whatever a connection goes through, it keeps the order. Since that is so after any rounds, what was kept is
+-- done as the other does it, once this one goes on and holds nothing any more. So where a `SEND` waits, and
+-- an UNSUBSCRIBE comes behind it, with it or in later pieces, the flight is committed first, and once,
+-- however often it went on and was delivered to.
 abbrev pub WaitsInOrder : Type 0
 WaitsInOrder =
     (rounds : List Round) (old new : ConversationState) → old.held ≡ None → GoesThrough rounds old new
-    → (heard kept : List (List ℕ)) × (pieces rounds ≡ heard ++ kept)
-    × (asked last : List BrokerRow) × (other : ConversationState) × HearsEach heard old asked other
-    × StandsBeside kept other last new × (but_room (asked ++ last) ≡ but_room (asked_for_frames rounds))
+    → KeepsOrder (pieces rounds) (asked_for_frames rounds) old new
 
 -- That other one found room each time that it asked, where no transaction waits in the end.
 abbrev pub FindsRoomAtOnce : Type 0
