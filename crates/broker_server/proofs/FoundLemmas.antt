@@ -18,7 +18,7 @@ use Rattle.sender_gate.specs.Gate.{GateState}
 use Rattle.broker_server.specs.BrokerRows.{BrokerRow, Unsubscribes}
 use Rattle.broker_server.specs.Conversations.{Acts, Answers, CommitsBy, Concludes, ConversationState, Done, OpenSubState, Performs, closing_rows, gate_rows}
 use Rattle.broker_server.specs.Hearing.{Hears, JudgesFrame, Looks, RefusesFrame, TakesAll, TakesFrames}
-use Rattle.broker_server.specs.Waiting.{FindsRoomAtOnce, HearsEach, finds_none}
+use Rattle.broker_server.specs.Waiting.{FindsRoomAtOnce, finds_none}
 use Rattle.broker_server.proofs.HeldLemmas.{none_some}
 
 -- no call found none

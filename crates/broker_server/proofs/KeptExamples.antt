@@ -1,5 +1,5 @@
 -- Worked examples of pieces that are kept, and of connections that keep no order.
-use Rattle.std.proofs.Common.{◌≡◌, ◌≢◌, ◌⊎◌, inl, inr, ℕ, ◌+◌, Bool, true, false, List, [], ◌∷◌, ◌++◌, length, Option, Some, None, Ok, Err, refl, sym, ap, subst, ◌∙◌, append-nil, arith}
+use Rattle.std.proofs.Common.{◌≡◌, ◌≢◌, ◌⊎◌, inl, inr, ℕ, true, false, List, [], ◌∷◌, ◌++◌, length, Option, Some, None, Ok, refl, sym, ap, subst, ◌∙◌, append-nil, arith}
 use Rattle.std.proofs.lemmas.List.{length-append}
 use Rattle.std.specs.Prelude.{IsSome, codes}
 use Rattle.mcast_txn.specs.declared.draft.sent_message.SentMessage.{SentMessage}
@@ -14,10 +14,10 @@ use Rattle.broker_server.specs.BrokerRows.{AsksRoom, BrokerRow, SubName, Unsubsc
 use Rattle.broker_server.specs.ConversationFaults.{tells_version}
 use Rattle.broker_server.specs.Conversations.{CommitsBy, ConversationState, Done, Performs}
 use Rattle.broker_server.specs.Hearing.{Hears, HearsOrKeeps, TakesAll, kept_by}
-use Rattle.broker_server.specs.Waiting.{HasDone, HearsEach, HoldsYet, IsAs, KeepsOrder, LeavesHolding, StandsBeside, but_room, fed, keeping}
+use Rattle.broker_server.specs.Waiting.{HearsEach, HoldsYet, IsAs, KeepsOrder, LeavesHolding, StandsBeside, but_room, fed, keeping}
 use Rattle.broker_server.proofs.HearingLemmas.{if_half, if_whole}
 use Rattle.broker_server.proofs.HeldLemmas.{each_waits, none_some, room_on}
-use Rattle.broker_server.proofs.StreamLemmas.{fed_all, fed_one, joined}
+use Rattle.broker_server.proofs.StreamLemmas.{fed_all, fed_one}
 use Rattle.broker_server.proofs.UntakenLemmas.{ends_leave}
 
 -- ---- what is kept
@@ -40,7 +40,7 @@ kept_halfway s piece open_yet half free =
 -- the other is as it was before the piece came
 pub holds_yet : (s : ConversationState) (sends : List SentMessage) (piece : List ℕ) → s.exit ≡ None
     → HoldsYet (piece ∷ []) (record s { held = Some (Waits sends None) }) [] (keeping (piece ∷ []) (record s { held = Some (Waits sends None) }))
-holds_yet s sends piece open_yet = (open_yet, inl refl, Waits sends None, record s { held = Some (Waits sends None) }, inl (refl, refl, refl), refl)
+holds_yet s sends piece open_yet = (open_yet, Waits sends None, record s { held = Some (Waits sends None) }, inl (refl, refl, refl), refl)
 
 -- one frame in two pieces is whole in the stream
 pub whole_again : (r : Unread) → r.answered ≡ None → (fed (codes "UNSUBSC" ∷ codes "RIBE" ∷ []) r).text ≡ r.text ++ codes "UNSUBSCRIBE"
@@ -76,38 +76,40 @@ held_as one other (inr (leaves, like)) = ap (λ (s : ConversationState). s.held)
 
 -- what stands beside a connection that was so, and has heard nothing
 fed_once : (piece : List ℕ) (kept : List (List ℕ)) (old : ConversationState) (last : List BrokerRow) (r : Unread) → kept ≡ piece ∷ [] → old.held ≡ None → HoldsYet kept old last (record old { reader = r; held = Some (Owes (Ok tt) None) }) → r ≡ with_piece old.reader piece
-fed_once piece kept old last r all free (open_yet, any, what, now, inl (some, nothing, is), like) = absurd (none_some old.held what free some)
-fed_once piece kept old last r all free (open_yet, any, what, now, inr (inl (sends, receipt, done, some, is, performs)), like) = absurd (none_some old.held (Waits sends receipt) free some)
-fed_once piece kept old last r all free (open_yet, any, what, now, inr (inr (unheld, is, nothing, same)), like) =
+fed_once piece kept old last r all free (open_yet, what, now, inl (some, nothing, is), like) = absurd (none_some old.held what free some)
+fed_once piece kept old last r all free (open_yet, what, now, inr (inl (sends, receipt, done, some, is, performs)), like) = absurd (none_some old.held (Waits sends receipt) free some)
+fed_once piece kept old last r all free (open_yet, what, now, inr (inr (unheld, any, is, nothing, same)), like) =
     ap (λ (s : ConversationState). s.reader) like ∙ ap (λ (texts : List (List ℕ)). fed texts now.reader) all ∙ ap (λ (s : ConversationState). with_piece s.reader piece) same
 
 -- one that heard the piece holds no piece alone
 holds_none : (heard : List (List ℕ)) (old : ConversationState) (asked last : List BrokerRow) (other one : ConversationState) → old.held ≡ None → one.held ≡ Some (Owes (Ok tt) None) → HearsEach heard old asked other → HoldsYet [] other last one → but_room (asked ++ last) ≡ [] → ⊥
-holds_none heard old asked last other one free held each (open_yet, any, what, now, inl (some, nothing, is), like) sum =
+holds_none heard old asked last other one free held each (open_yet, what, now, inl (some, nothing, is), like) sum =
     let w = each_waits heard old asked other what each free some in
     let e = sym held ∙ ap (λ (s : ConversationState). s.held) like ∙ sym some ∙ ap (λ (s : ConversationState). s.held) w.is in
     cc
-holds_none heard old asked last other one free held each (open_yet, any, what, now, inr (inl (sends, receipt, done, some, is, performs)), like) sum =
+holds_none heard old asked last other one free held each (open_yet, what, now, inr (inl (sends, receipt, done, some, is, performs)), like) sum =
     performs_something sends (record other { held = None }) last done now performs (none_left (but_room asked) (but_room last) (sym (room_on asked last) ∙ sum))
-holds_none heard old asked last other one free held each (open_yet, inl waits, what, now, inr (inr (unheld, is, nothing, same)), like) sum =
-    let e = subst (λ (o : Option Held). IsSome o) unheld waits in cc
-holds_none heard old asked last other one free held each (open_yet, inr any, what, now, inr (inr (unheld, is, nothing, same)), like) sum = any refl
+holds_none heard old asked last other one free held each (open_yet, what, now, inr (inr (unheld, any, is, nothing, same)), like) sum = any refl
 
 tail_none : (piece first : List ℕ) (heard kept : List (List ℕ)) → piece ∷ [] ≡ first ∷ (heard ++ kept) → kept ≡ []
 tail_none piece first heard kept e = none_left heard kept (let f : heard ++ kept ≡ [] = cc in f)
 
+-- what is held where this piece came, by how much the other has heard
+held_once : (piece : List ℕ) (old : ConversationState) (r : Unread) (heard kept : List (List ℕ)) (asked last : List BrokerRow) (other : ConversationState) → old.held ≡ None → piece ∷ [] ≡ heard ++ kept → HearsEach heard old asked other → HoldsYet kept other last (record old { reader = r; held = Some (Owes (Ok tt) None) }) → but_room (asked ++ last) ≡ [] → r ≡ with_piece old.reader piece
+held_once piece old r [] kept asked last other free cut (nothing, is) holds sum =
+    fed_once piece kept old last r (sym cut) free (subst (λ (s : ConversationState). HoldsYet kept s last (record old { reader = r; held = Some (Owes (Ok tt) None) })) is holds)
+held_once piece old r (first ∷ heard) kept asked last other free cut each holds sum =
+    let none = tail_none piece first heard kept cut in
+    absurd (holds_none (first ∷ heard) old asked last other (record old { reader = r; held = Some (Owes (Ok tt) None) }) free refl each (subst (λ (texts : List (List ℕ)). HoldsYet texts other last (record old { reader = r; held = Some (Owes (Ok tt) None) })) none holds) sum)
+
 -- A piece comes to a connection that holds nothing, while an item is half out, and nothing is asked. Where it keeps the
 -- order, and holds but that, its stream is what it was with the piece, once.
 pub keeps_once : (piece : List ℕ) (old : ConversationState) (r : Unread) → old.held ≡ None → old.exit ≡ None → KeepsOrder (piece ∷ []) [] old (record old { reader = r; held = Some (Owes (Ok tt) None) }) → r ≡ with_piece old.reader piece
-keeps_once piece old r free open_yet (heard, kept, cut, asked, last, other, each, stands, sum) = by heard kept cut each stands
-  where
-    by : (heard kept : List (List ℕ)) → piece ∷ [] ≡ heard ++ kept → HearsEach heard old asked other → ((kept ≡ []) × (last ≡ []) × (other.held ≡ None) × IsAs (record old { reader = r; held = Some (Owes (Ok tt) None) }) other) ⊎ HoldsYet kept other last (record old { reader = r; held = Some (Owes (Ok tt) None) }) ⊎ LeavesHolding kept other last (record old { reader = r; held = Some (Owes (Ok tt) None) }) → r ≡ with_piece old.reader piece
-    by heard kept cut each (inl (none, nothing, unheld, same)) = absurd (none_some other.held (Owes (Ok tt) None) unheld (sym (held_as (record old { reader = r; held = Some (Owes (Ok tt) None) }) other same)))
-    by heard kept cut each (inr (inr leaves)) = absurd (stays kept other last (record old { reader = r; held = Some (Owes (Ok tt) None) }) leaves open_yet)
-    by [] kept cut (nothing, is) (inr (inl holds)) = fed_once piece kept old last r (sym cut) free (subst (λ (s : ConversationState). HoldsYet kept s last (record old { reader = r; held = Some (Owes (Ok tt) None) })) is holds)
-    by (first ∷ heard) kept cut each (inr (inl holds)) =
-        let none = tail_none piece first heard kept cut in
-        absurd (holds_none (first ∷ heard) old asked last other (record old { reader = r; held = Some (Owes (Ok tt) None) }) free refl each (subst (λ (texts : List (List ℕ)). HoldsYet texts other last (record old { reader = r; held = Some (Owes (Ok tt) None) })) none holds) sum)
+keeps_once piece old r free open_yet (heard, kept, cut, asked, last, other, each, inl (none, nothing, unheld, same), sum) =
+    absurd (none_some other.held (Owes (Ok tt) None) unheld (sym (held_as (record old { reader = r; held = Some (Owes (Ok tt) None) }) other same)))
+keeps_once piece old r free open_yet (heard, kept, cut, asked, last, other, each, inr (inl holds), sum) = held_once piece old r heard kept asked last other free cut each holds sum
+keeps_once piece old r free open_yet (heard, kept, cut, asked, last, other, each, inr (inr leaves), sum) =
+    absurd (stays kept other last (record old { reader = r; held = Some (Owes (Ok tt) None) }) leaves open_yet)
 
 longer_text : (text : List ℕ) (octet : ℕ) (more : List ℕ) → text ≡ text ++ octet ∷ more → ⊥
 longer_text text octet more e = let n = ap length e ∙ length-append text (octet ∷ more) in omega arith
@@ -132,12 +134,12 @@ heard_twice octet more old free open_yet none keeps =
 -- one that holds a transaction which waits: the other holds it, too, and asked as much
 waits_too : (kept : List (List ℕ)) (other : ConversationState) (last : List BrokerRow) (one : ConversationState) (sends : List SentMessage) (receipt : Option (List ℕ)) → StandsBeside kept other last one → one.exit ≡ None → one.held ≡ Some (Waits sends receipt) → IsSome other.held × (last ≡ []) × (other.exit ≡ None)
 waits_too kept other last one sends receipt (inl (none, nothing, unheld, same)) open_yet held = absurd (none_some other.held (Waits sends receipt) unheld (sym (held_as one other same) ∙ held))
-waits_too kept other last one sends receipt (inr (inl (out, any, what, now, inl (some, nothing, is), like))) open_yet held =
+waits_too kept other last one sends receipt (inr (inl (out, what, now, inl (some, nothing, is), like))) open_yet held =
     let stays = sym (ap (λ (s : ConversationState). s.exit) is) ∙ sym (ap (λ (s : ConversationState). s.exit) like) ∙ open_yet in
     (subst (λ (o : Option Held). IsSome o) (sym some) refl, nothing, stays)
-waits_too kept other last one sends receipt (inr (inl (out, any, what, now, inr (inl (others, asked, done, some, is, performs)), like))) open_yet held =
+waits_too kept other last one sends receipt (inr (inl (out, what, now, inr (inl (others, asked, done, some, is, performs)), like))) open_yet held =
     absurd (let e = sym held ∙ ap (λ (s : ConversationState). s.held) like ∙ ap Some is in cc)
-waits_too kept other last one sends receipt (inr (inl (out, any, what, now, inr (inr (unheld, is, nothing, same)), like))) open_yet held =
+waits_too kept other last one sends receipt (inr (inl (out, what, now, inr (inr (unheld, any, is, nothing, same)), like))) open_yet held =
     absurd (let e = sym held ∙ ap (λ (s : ConversationState). s.held) like ∙ ap Some is in cc)
 waits_too kept other last one sends receipt (inr (inr leaves)) open_yet held = absurd (stays kept other last one leaves open_yet)
 

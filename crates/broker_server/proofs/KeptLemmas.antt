@@ -7,7 +7,7 @@ use Rattle.stomp_frame.specs.declared.raw_frame.RawFrame.{RawFrame}
 use Rattle.stomp_frame.specs.Checks.{IsAtFault, IsOpen}
 use Rattle.stomp_frame.specs.Faults.{fault_of}
 use Rattle.stomp_frame.specs.Grammar.{BeginsWith, Leaves}
-use Rattle.stomp_frame.specs.Reader.{NextReturns, ReadsNext, Unread, unread_of, with_piece}
+use Rattle.stomp_frame.specs.Reader.{NextReturns, ReadsNext, Unread, unread_of}
 use Rattle.delivery.specs.Core.Outcomes.{is_any}
 use Rattle.delivery.specs.Core.Steps.{reader_limits}
 use Rattle.broker_server.specs.declared.conversation.conversation_fault.ConversationFault.{ConversationFault}
@@ -17,9 +17,9 @@ use Rattle.broker_server.specs.BrokerRows.{BrokerRow}
 use Rattle.broker_server.specs.ConversationFaults.{fault_of_reader, tells_version}
 use Rattle.broker_server.specs.Conversations.{ConversationState, EndsByError, EndsSaying, closing_rows}
 use Rattle.broker_server.specs.Hearing.{Listens, ReadingFails, Rests, TakesAll, TakesFrame, TakesFrames}
-use Rattle.broker_server.specs.Waiting.{HearsEach, but_items, but_unread, fed, keeping}
+use Rattle.broker_server.specs.Waiting.{HearsEach, but_items, but_unread, keeping}
 use Rattle.broker_server.proofs.HearingLemmas.{nothing_read, reading_fails, takes_reader}
-use Rattle.broker_server.proofs.HeldLemmas.{Calm, TakesSome, all_on, all_waits, deaf, ends_free, frame_calm, none_some}
+use Rattle.broker_server.proofs.HeldLemmas.{Calm, TakesSome, all_on, all_waits, deaf, ends_free, frame_calm}
 use Rattle.broker_server.proofs.LikeLemmas.{Like, all_like}
 use Rattle.broker_server.proofs.StreamLemmas.{IsLonger, Starts, fails_by, fed_all, fed_nothing, fed_one, goes_to_rest, joined, no_eols, returns, returns_fault, returns_frame, returns_none, starts, with_text}
 use Rattle.broker_server.proofs.UnreadLemmas.{ends_reading, frame_reading, reading}

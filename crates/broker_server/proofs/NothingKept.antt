@@ -1,7 +1,6 @@
 -- Where each piece comes while nothing is held and no item is half out, nothing is kept, and one is as the other, to
 -- what it hasn't read.
-use Rattle.std.proofs.Common.{◌≡◌, ◌⊎◌, inl, inr, ℕ, Bool, false, List, [], ◌∷◌, ◌++◌, Option, Some, None, refl, sym, ap, subst, ◌∙◌, append-nil}
-use Rattle.std.specs.Prelude.{IsSome}
+use Rattle.std.proofs.Common.{◌≡◌, ◌⊎◌, inl, inr, ℕ, Bool, false, List, [], ◌∷◌, ◌++◌, Option, Some, None, sym, ap, subst, ◌∙◌, append-nil}
 use Rattle.mcast_txn.specs.declared.draft.sent_message.SentMessage.{SentMessage}
 use Rattle.stomp_session.specs.declared.action.Action.TheVariants as actions
 use Rattle.broker_server.specs.declared.conversation.held.Held.{Held}
@@ -48,17 +47,15 @@ through (Delivered asked ∷ rounds) old new (between, any, delivers, stays, goe
 through (Wrote ∷ rounds) old new (between, is, goes) = (between, is, through rounds between new goes)
 
 holds_alone : (kept : List (List ℕ)) (other : ConversationState) (asked : List BrokerRow) (one : ConversationState) → kept ≡ [] → HoldsYet kept other asked one → IsAsOrBefore other asked one
-holds_alone kept other asked one none (open_yet, any, what, now, inl (some, nothing, is), like) =
+holds_alone kept other asked one none (open_yet, what, now, inl (some, nothing, is), like) =
     let at = ap (λ (texts : List (List ℕ)). but_items (keeping texts (record now { held = Some what }))) none in
     let same = ap (λ (s : ConversationState). but_items (record s { held = Some what })) is ∙ ap (λ (h : Option Held). but_items (record other { held = h })) (sym some) in
     inl (nothing, sym (like ∙ at ∙ same))
-holds_alone kept other asked one none (open_yet, any, what, now, inr (inl (sends, receipt, done, some, is, performs)), like) =
+holds_alone kept other asked one none (open_yet, what, now, inr (inl (sends, receipt, done, some, is, performs)), like) =
     let at = ap (λ (texts : List (List ℕ)). but_items (keeping texts (record now { held = Some what }))) none in
     let same = ap (λ (q : Held). but_items (record now { held = Some q })) is in
     inr (sends, receipt, some, done, now, performs, sym (like ∙ at ∙ same))
-holds_alone kept other asked one none (open_yet, inl waits, what, now, inr (inr (free, is, nothing, same)), like) =
-    absurd (let e = subst (λ (o : Option Held). IsSome o) free waits in cc)
-holds_alone kept other asked one none (open_yet, inr any, what, now, inr (inr (free, is, nothing, same)), like) = absurd (any none)
+holds_alone kept other asked one none (open_yet, what, now, inr (inr (free, any, is, nothing, same)), like) = absurd (any none)
 
 stands_alone : (kept : List (List ℕ)) (other : ConversationState) (asked : List BrokerRow) (one : ConversationState) → Stands ⊥ kept other asked one → (kept ≡ []) × IsAsOrBefore other asked one
 stands_alone kept other asked one (inl (none, nothing, free, inl like)) = (none, inl (nothing, sym like))

@@ -2,20 +2,19 @@
 use Rattle.std.proofs.Common.{◌≡◌, ◌≢◌, ◌⊎◌, inl, inr, ℕ, Bool, true, false, List, [], ◌∷◌, ◌++◌, Option, Some, None, Ok, refl, sym, ap, ap₂, subst, ◌∙◌, append_assoc, append-nil}
 use Rattle.std.specs.Prelude.{IsSome}
 use Rattle.mcast_txn.specs.declared.draft.sent_message.SentMessage.{SentMessage}
-use Rattle.mcast_txn.specs.Transaction.{topics_of}
 use Rattle.stomp_frame.specs.Reader.{Unread, with_piece}
 use Rattle.stomp_session.specs.declared.action.Action.TheVariants as actions
 use Rattle.broker_server.specs.declared.conversation.conversation_fault.ConversationFault.TheVariants as fault
 use Rattle.broker_server.specs.declared.conversation.held.Held.{Held}
 use Rattle.broker_server.specs.declared.conversation.held.Held.TheVariants as helds
-use Rattle.broker_server.specs.BrokerRows.{AsksRoom, BrokerRow}
+use Rattle.broker_server.specs.BrokerRows.{BrokerRow}
 use Rattle.broker_server.specs.ConversationFaults.{tells_version}
 use Rattle.broker_server.specs.Conversations.{Acts, Answers, Concludes, ConversationState, Done, EndsByError, Performs, closing_rows, replies}
 use Rattle.broker_server.specs.Delivering.{DeliversRound}
 use Rattle.broker_server.specs.Hearing.{Finishes, GoesOn, GoesOnHalfway, Hears, HearsOrKeeps, IfHalf, KeepsPiece, TakesAll, kept_by}
 use Rattle.broker_server.specs.Waiting.{GoesThrough, HasDone, HearsEach, HoldsYet, LeavesHolding, Round, StandsBeside, WaitsInOrder, asked_for_frames, but_items, but_room, but_unread, fed, keeping, pieces}
 use Rattle.broker_server.specs.Waiting.{Heard, WentOn, Delivered, Wrote}
-use Rattle.broker_server.proofs.HeldLemmas.{HearsSome, Waits, commit_of, concludes_free, deaf, does_free, each_on, each_waits, ends_free, hears_one, none_some, performs_free, room_alone, room_behind, room_on, some_same, still_all}
+use Rattle.broker_server.proofs.HeldLemmas.{HearsSome, Waits, commit_of, concludes_free, does_free, each_on, each_waits, ends_free, hears_one, none_some, performs_free, room_alone, room_behind, room_on, some_same, still_all}
 use Rattle.broker_server.proofs.KeptLemmas.{Caught, Ended, InStep, caught_up, unread_like}
 use Rattle.broker_server.proofs.HearingLemmas.{acts_reader, concludes_reader, performs_reader}
 use Rattle.broker_server.proofs.LikeLemmas.{Like, acts_like, concludes_like, hears_like, performs_like}
@@ -44,8 +43,8 @@ beside_as Kept old came texts rows more one all same (heard, kept, cut, asked, l
 stands_like : (Kept : Type 0) (kept : List (List ℕ)) (other : ConversationState) (asked : List BrokerRow) (one new : ConversationState) → Like new one → Stands Kept kept other asked one → Stands Kept kept other asked new
 stands_like Kept kept other asked one new e (inl (none, nothing, free, inl like)) = inl (none, nothing, free, inl (e ∙ like))
 stands_like Kept kept other asked one new e (inl (none, nothing, free, inr (token, leaves, like))) = inl (none, nothing, free, inr (token, leaves, unread_like new one e ∙ like))
-stands_like Kept kept other asked one new e (inr (inl (token, (open_yet, some, what, now, done, like)))) =
-    inr (inl (token, (ap (λ (s : ConversationState). s.exit) e ∙ open_yet, some, what, now, done, e ∙ like)))
+stands_like Kept kept other asked one new e (inr (inl (token, (open_yet, what, now, done, like)))) =
+    inr (inl (token, (ap (λ (s : ConversationState). s.exit) e ∙ open_yet, what, now, done, e ∙ like)))
 stands_like Kept kept other asked one new e (inr (inr (token, (any, rows, before, last, holds, cut, ends, like)))) =
     inr (inr (token, (any, rows, before, last, holds, cut, ends, unread_like new one e ∙ like)))
 
@@ -76,12 +75,18 @@ not_empty : (kept : List (List ℕ)) (piece : List ℕ) → kept ++ piece ∷ []
 not_empty [] piece e = cc
 not_empty (first ∷ more) piece e = cc
 
+-- what was done, with one more piece behind it
+done_more : (kept : List (List ℕ)) (piece : List ℕ) (other : ConversationState) (rows : List BrokerRow) (what : Held) (now : ConversationState) → HasDone kept other rows what now → HasDone (kept ++ piece ∷ []) other rows what now
+done_more kept piece other rows what now (inl waits) = inl waits
+done_more kept piece other rows what now (inr (inl owes)) = inr (inl owes)
+done_more kept piece other rows what now (inr (inr (free, any, is, nothing, same))) = inr (inr (free, not_empty kept piece, is, nothing, same))
+
 -- what is held, with one more piece behind it
 holds_more : (kept : List (List ℕ)) (piece : List ℕ) (other : ConversationState) (rows : List BrokerRow) (one new : ConversationState) → HoldsYet kept other rows one → Like new (reading (with_piece one.reader piece) one) → HoldsYet (kept ++ piece ∷ []) other rows new
-holds_more kept piece other rows one new (open_yet, some, what, now, done, like) e =
+holds_more kept piece other rows one new (open_yet, what, now, done, like) e =
     let behind = ap (λ (s : ConversationState). reading (with_piece s.reader piece) s) like in
     let there = ap (λ (r : Unread). reading r (but_items (record now { held = Some what }))) (sym (fed_then kept piece now.reader)) in
-    (ap (λ (s : ConversationState). s.exit) e ∙ open_yet, inr (not_empty kept piece), what, now, done, e ∙ behind ∙ there)
+    (ap (λ (s : ConversationState). s.exit) e ∙ open_yet, what, now, done_more kept piece other rows what now done, e ∙ behind ∙ there)
 
 -- how a piece is heard where nothing is held, and no item is half out; else something is kept
 abbrev pub IfKept : Type 0 → ConversationState → Type 0
@@ -95,7 +100,7 @@ heard_stands Kept heard piece old before asked other now new each free hears lik
     let w = each_waits (piece ∷ []) other asked now what (hears_one piece other asked now free hears) free some in
     let open_yet = ap (λ (s : ConversationState). s.exit) like ∙ ap (λ (s : ConversationState). s.exit) w.is ∙ w.open_yet in
     let same = ap (λ (h : Option Held). but_items (record now { held = h })) some in
-    (each_on heard (piece ∷ []) old before other asked now each (hears_one piece other asked now free hears), inr (inl (inl refl, (open_yet, inl (subst (λ (h : Option Held). IsSome h) (sym some) refl), what, now, inl (some, refl, refl), like ∙ same))))
+    (each_on heard (piece ∷ []) old before other asked now each (hears_one piece other asked now free hears), inr (inl (inl refl, (open_yet, what, now, inl (some, refl, refl), like ∙ same))))
 
 half_cases : (b : Bool) (A B C : Type 0) → IfHalf b A B → ((b ≡ true) → A → C) → ((b ≡ false) → B → C) → C
 half_cases true A B C it half whole = half refl it
@@ -129,7 +134,7 @@ heard_later Kept old came heard kept rows before last asked piece other one new 
     let step = ap (λ (h : Option Held). but_items (record one { reader = with_piece one.reader piece; held = h })) unheld in
     let same = ap (λ (s : ConversationState). record s { reader = with_piece s.reader piece; held = Some held }) like in
     let there = came_on came heard kept piece cut ∙ ap (λ (all : List (List ℕ)). heard ++ (all ++ piece ∷ [])) none in
-    let holds : HoldsYet (piece ∷ []) other [] new = (ap (λ (s : ConversationState). s.exit) is ∙ open_yet, inr (λ e. cc), held, other, inr (inr (free, refl, refl, refl)), ap but_items is ∙ step ∙ same) in
+    let holds : HoldsYet (piece ∷ []) other [] new = (ap (λ (s : ConversationState). s.exit) is ∙ open_yet, held, other, inr (inr (free, not_empty [] piece, refl, refl, refl)), ap but_items is ∙ step ∙ same) in
     (heard, piece ∷ [], there, before, [], other, each, inr (inl (inr token, holds)), ap (λ (all : List BrokerRow). but_room (before ++ all)) (sym nothing) ∙ sum ∙ room_nothing rows asked quiet)
 
 in_step : (Kept : Type 0) (one other : ConversationState) → InStep Kept one other → one.exit ≡ None → Like one other
@@ -202,7 +207,7 @@ heard_kept Kept old came heard kept rows before last asked piece other one new t
     (heard, kept ++ piece ∷ [], came_on came heard kept piece cut, before, last, other, each, inr (inl (inr token, holds_more kept piece other last one new holds (ap but_items is))), sum ∙ room_nothing rows asked quiet)
 
 what_held : (kept : List (List ℕ)) (other : ConversationState) (last : List BrokerRow) (one : ConversationState) → HoldsYet kept other last one → (what : Held) × (one.held ≡ Some what)
-what_held kept other last one (open_yet, some, what, now, done, like) = (what, ap (λ (s : ConversationState). s.held) like)
+what_held kept other last one (open_yet, what, now, done, like) = (what, ap (λ (s : ConversationState). s.held) like)
 
 held_kept : (Kept : Type 0) (one : ConversationState) (what : Held) → one.held ≡ Some what → IfKept Kept one → Kept
 held_kept Kept one what some (inl (free, whole)) = absurd (none_some one.held what free some)
@@ -299,7 +304,7 @@ ended_stands : (Kept : Type 0) (left : List (List ℕ)) (end new : ConversationS
 ended_stands Kept left end new token (inl (all, free, step)) = inl (all, refl, free, step)
 ended_stands Kept left end new token (inr (what, some, open_yet, like)) =
     let same = ap (λ (h : Option Held). but_items (keeping left (record end { held = h }))) some in
-    inr (inl (token, (ap (λ (s : ConversationState). s.exit) like ∙ open_yet, inl (subst (λ (h : Option Held). IsSome h) (sym some) refl), what, end, inl (some, refl, refl), like ∙ same)))
+    inr (inl (token, (ap (λ (s : ConversationState). s.exit) like ∙ open_yet, what, end, inl (some, refl, refl), like ∙ same)))
 
 resumed : (Kept : Type 0) (old : ConversationState) (heard kept : List (List ℕ)) (so_far rest : List BrokerRow) (acted between : ConversationState) → (kept ≡ []) ⊎ Kept → HearsSome heard old so_far acted → Caught Kept kept acted rest between → Beside Kept old (heard ++ kept) (so_far ++ rest) between
 resumed Kept old heard kept so_far rest acted between token some (done, left, end, cut, (first, last, now, split, takes, each), ended) =
@@ -352,8 +357,8 @@ same_sends : (sends others : List SentMessage) → actions.Commit sends ≡ acti
 same_sends sends others e = cc
 
 -- where it waits, as in the other
-went_waits : (Kept : Type 0) (old : ConversationState) (heard kept : List (List ℕ)) (rows before last asked : List BrokerRow) (other one new : ConversationState) (w : Waits (HearsSome heard old) before other) → (kept ≡ []) ⊎ Kept → last ≡ [] → but_room (before ++ last) ≡ but_room rows → HearsEach heard old before other → one.exit ≡ None → IsSome other.held ⊎ (kept ≢ []) → one.held ≡ Some (helds.Waits w.sends w.receipt) → Like (record one { held = None }) (keeping kept w.ready) → Beside Kept old (heard ++ kept) rows one → WentBy (helds.Waits w.sends w.receipt) one asked new → Beside Kept old (heard ++ kept) (rows ++ asked) new
-went_waits Kept old heard kept rows before last asked other one new w token nothing sum each open_yet any held like beside went =
+went_waits : (Kept : Type 0) (old : ConversationState) (heard kept : List (List ℕ)) (rows before last asked : List BrokerRow) (other one new : ConversationState) (w : Waits (HearsSome heard old) before other) → (kept ≡ []) ⊎ Kept → last ≡ [] → but_room (before ++ last) ≡ but_room rows → HearsEach heard old before other → one.exit ≡ None → one.held ≡ Some (helds.Waits w.sends w.receipt) → Like (record one { held = None }) (keeping kept w.ready) → Beside Kept old (heard ++ kept) rows one → WentBy (helds.Waits w.sends w.receipt) one asked new → Beside Kept old (heard ++ kept) (rows ++ asked) new
+went_waits Kept old heard kept rows before last asked other one new w token nothing sum each open_yet held like beside went =
     half_cases one.half _ _ _ went (λ half halfway. by_half halfway) (λ whole done. by_whole done.0 done.1 done.2 done.3 done.4 done.5)
   where
     again : (what : Held) → what ≡ helds.Waits w.sends w.receipt → record one { held = Some what } ≡ one
@@ -370,7 +375,7 @@ went_waits Kept old heard kept rows before last asked other one new w token noth
         let unheld : record other { held = None } ≡ w.ready = ap (λ (s : ConversationState). record s { held = None }) w.is ∙ ap (λ (h : Option Held). record w.ready { held = h }) (sym w.free) in
         let there : Performs (actions.Commit w.sends) (record other { held = None }) asked done p.0 = subst (λ (s : ConversationState). Performs (actions.Commit w.sends) s asked done p.0) (sym unheld) p.1 in
         let out = ap (λ (s : ConversationState). s.exit) is ∙ commit_exit w.sends (record one { held = None }) asked done did performs ∙ open_yet in
-        let holds : HoldsYet kept other asked new = (out, any, owes, p.0, inr (inl (w.sends, w.receipt, done, ap (λ (s : ConversationState). s.held) w.is, refl, there)), ap but_items is ∙ ap (λ (s : ConversationState). record s { held = Some owes }) p.2) in
+        let holds : HoldsYet kept other asked new = (out, owes, p.0, inr (inl (w.sends, w.receipt, done, ap (λ (s : ConversationState). s.held) w.is, refl, there)), ap but_items is ∙ ap (λ (s : ConversationState). record s { held = Some owes }) p.2) in
         (heard, kept, refl, before, asked, other, each, inr (inl (token, holds)), room_same before rows asked sum_at)
 
     by_whole : (mid : ConversationState) (first rest : List BrokerRow) → asked ≡ first ++ rest → Acts (commit_of w.sends w.receipt) (record one { held = None }) first mid → TakesAll mid rest new → Beside Kept old (heard ++ kept) (rows ++ asked) new
@@ -440,14 +445,14 @@ went_pieces Kept old heard (piece ∷ kept) rows before asked other one new toke
 
 -- ---- it goes on
 
-went_held : (Kept : Type 0) (old : ConversationState) (heard kept : List (List ℕ)) (rows before last asked : List BrokerRow) (other one new : ConversationState) → old.held ≡ None → (kept ≡ []) ⊎ Kept → but_room (before ++ last) ≡ but_room rows → HearsEach heard old before other → (holds : HoldsYet kept other last one) → Beside Kept old (heard ++ kept) rows one → WentBy holds.2 one asked new → Beside Kept old (heard ++ kept) (rows ++ asked) new
-went_held Kept old heard kept rows before last asked other one new start token sum each (open_yet, any, what, now, inl (some, nothing, is), like) beside went =
+went_held : (Kept : Type 0) (old : ConversationState) (heard kept : List (List ℕ)) (rows before last asked : List BrokerRow) (other one new : ConversationState) → old.held ≡ None → (kept ≡ []) ⊎ Kept → but_room (before ++ last) ≡ but_room rows → HearsEach heard old before other → (holds : HoldsYet kept other last one) → Beside Kept old (heard ++ kept) rows one → WentBy holds.1 one asked new → Beside Kept old (heard ++ kept) (rows ++ asked) new
+went_held Kept old heard kept rows before last asked other one new start token sum each (open_yet, what, now, inl (some, nothing, is), like) beside went =
     let w = each_waits heard old before other what each start some in
     let same : what ≡ helds.Waits w.sends w.receipt = some_same what (helds.Waits w.sends w.receipt) (sym some ∙ ap (λ (s : ConversationState). s.held) w.is) in
     let held = ap (λ (s : ConversationState). s.held) like ∙ ap Some same in
     let there = like ∙ ap (λ (s : ConversationState). but_items (keeping kept (record s { held = Some what }))) (is ∙ w.is) in
-    went_waits Kept old heard kept rows before last asked other one new w token nothing sum each open_yet any held (unheld_like kept one w.ready what there w.free) beside (subst (λ (q : Held). WentBy q one asked new) same went)
-went_held Kept old heard kept rows before last asked other one new start token sum each (open_yet, any, what, now, inr (inl (sends, receipt, done, some, is, performs)), like) beside went =
+    went_waits Kept old heard kept rows before last asked other one new w token nothing sum each open_yet held (unheld_like kept one w.ready what there w.free) beside (subst (λ (q : Held). WentBy q one asked new) same went)
+went_held Kept old heard kept rows before last asked other one new start token sum each (open_yet, what, now, inr (inl (sends, receipt, done, some, is, performs)), like) beside went =
     let w = each_waits heard old before other (helds.Waits sends receipt) each start some in
     let same = some_same (helds.Waits sends receipt) (helds.Waits w.sends w.receipt) (sym some ∙ ap (λ (s : ConversationState). s.held) w.is) in
     let unheld : record other { held = None } ≡ w.ready = ap (λ (s : ConversationState). record s { held = None }) w.is ∙ ap (λ (h : Option Held). record w.ready { held = h }) (sym w.free) in
@@ -457,16 +462,12 @@ went_held Kept old heard kept rows before last asked other one new start token s
     let none = performs_free (actions.Commit w.sends) w.ready last done now there w.free in
     let held = ap (λ (s : ConversationState). s.held) like ∙ ap Some is in
     went_owes Kept old heard kept rows before last asked receipt done other one now new w token sum asked_for there held (unheld_like kept one now what like none) beside (subst (λ (q : Held). WentBy q one asked new) is went)
-went_held Kept old heard kept rows before last asked other one new start token sum each (open_yet, any, what, now, inr (inr (free, is, nothing, same)), like) beside went =
+went_held Kept old heard kept rows before last asked other one new start token sum each (open_yet, what, now, inr (inr (free, any, is, nothing, same)), like) beside went =
     let held = ap (λ (s : ConversationState). s.held) like ∙ ap Some is in
     let there = like ∙ ap (λ (s : ConversationState). but_items (keeping kept (record s { held = Some what }))) same in
     let sum_at = ap but_room (sym (append-nil before) ∙ ap (λ (more : List BrokerRow). before ++ more) (sym nothing)) ∙ sum in
     let out = sym (ap (λ (s : ConversationState). s.exit) there) ∙ open_yet in
-    went_pieces Kept old heard kept rows before asked other one new token (some_kept any) sum_at each free out held (unheld_like kept one other what there free) beside (subst (λ (q : Held). WentBy q one asked new) is went)
-  where
-    some_kept : IsSome other.held ⊎ (kept ≢ []) → kept ≢ []
-    some_kept (inl waits) = absurd (let e = subst (λ (o : Option Held). IsSome o) free waits in cc)
-    some_kept (inr so) = so
+    went_pieces Kept old heard kept rows before asked other one new token any sum_at each free out held (unheld_like kept one other what there free) beside (subst (λ (q : Held). WentBy q one asked new) is went)
 
 held_alone : (Kept : Type 0) (kept : List (List ℕ)) (other : ConversationState) (asked : List BrokerRow) (one : ConversationState) → Stands Kept kept other asked one → (what : Held) → one.held ≡ Some what → ((kept ≡ []) ⊎ Kept) × HoldsYet kept other asked one
 held_alone Kept kept other asked one (inl (none, nothing, free, step)) what some = absurd (none_some one.held what (free_step Kept one other step free) some)
@@ -478,7 +479,7 @@ went_on Kept old came rows asked one new start (inl (free, nothing, is)) beside 
 went_on Kept old came rows asked one new start (inr (what, some, went)) (heard, kept, cut, before, last, other, each, stands, sum) =
     let h = held_alone Kept kept other last one stands what some in
     let beside : Beside Kept old (heard ++ kept) rows one = (heard, kept, refl, before, last, other, each, stands, sum) in
-    let same : what ≡ h.1.2 = some_same what h.1.2 (sym some ∙ ap (λ (s : ConversationState). s.held) h.1.5) in
+    let same : what ≡ h.1.1 = some_same what h.1.1 (sym some ∙ ap (λ (s : ConversationState). s.held) h.1.4) in
     let all = went_held Kept old heard kept rows before last asked other one new start h.0 sum each h.1 beside (subst (λ (q : Held). WentBy q one asked new) same went) in
     beside_as Kept old (heard ++ kept) came (rows ++ asked) (rows ++ asked) new cut refl all
 

@@ -111,26 +111,25 @@ fed (piece ∷ more) r = fed more (with_piece r piece)
 abbrev pub keeping : List (List ℕ) → ConversationState → ConversationState
 keeping kept c = record c { reader = fed kept c.reader }
 
--- What one holds, beside another: the transaction that waits in the other, too; or its answer, since it was
--- committed by these calls, as an item was half out, and one is then so; or, where none waits in the other,
--- but pieces that came while an item was half out. So where a COMMIT with the receipt `r` waits in the other,
--- it waits in this one, or its flight is out, and this one owes `r`.
-abbrev pub HasDone : ConversationState → List BrokerRow → Held → ConversationState → Type 0
-HasDone other asked what new =
+-- What one holds, beside another that heard all but the kept pieces: the transaction that waits in the other,
+-- too; or its answer, since it was committed by these calls, as an item was half out, and one is then so; or,
+-- where none waits in the other, but the pieces, which came while an item was half out. So where a COMMIT
+-- with the receipt `r` waits in the other, it waits in this one, or its flight is out, and this one owes `r`.
+abbrev pub HasDone
+    : List (List ℕ) → ConversationState → List BrokerRow → Held → ConversationState → Type 0
+HasDone kept other asked what new =
     ((other.held ≡ Some what) × (asked ≡ []) × (new ≡ other))
     ⊎ ((sends : List SentMessage) × (receipt : Option (List ℕ)) × (done : Done)
     × (other.held ≡ Some (Waits sends receipt)) × (what ≡ Owes done receipt)
     × Performs (actions.Commit sends) (record other { held = None }) asked done new)
-    ⊎ ((other.held ≡ None) × (what ≡ Owes (Ok tt) None) × (asked ≡ []) × (new ≡ other))
+    ⊎ ((other.held ≡ None) × (kept ≢ []) × (what ≡ Owes (Ok tt) None) × (asked ≡ []) × (new ≡ other))
 
--- One holds something yet, beside another that heard all but the kept pieces: it has done no more than was
--- just said, and keeps those. So where a `SEND` waits in both, and an UNSUBSCRIBE is kept behind it, nothing
--- was asked for that, and the subscription is open in both.
+-- It holds that yet, and has done no more, and it keeps the pieces. So where a `SEND` waits in both, and an
+-- UNSUBSCRIBE is kept behind it, nothing was asked for that, and the subscription is open in both.
 abbrev pub HoldsYet
     : List (List ℕ) → ConversationState → List BrokerRow → ConversationState → Type 0
 HoldsYet kept other asked one =
-    (one.exit ≡ None) × (IsSome other.held ⊎ (kept ≢ [])) × (what : Held) × (new : ConversationState)
-    × HasDone other asked what new
+    (one.exit ≡ None) × (what : Held) × (new : ConversationState) × HasDone kept other asked what new
     × (but_items one ≡ but_items (keeping kept (record new { held = Some what })))
 
 -- It held something, and there was no memory for one of the kept pieces: it left by that, and what it held is
