@@ -133,7 +133,8 @@ HoldsYet kept other asked one =
     × (but_items one ≡ but_items (keeping kept (record new { held = Some what })))
 
 -- It held something, and there was no memory for one of the kept pieces: it left by that, and what it held is
--- dropped, as those are. So a `SEND` that waits in the other is never committed by this one.
+-- dropped, as those are. So a `SEND` that waits in both is never committed; and where this one owes a
+-- RECEIPT, that is never written.
 abbrev pub LeavesHolding
     : List (List ℕ) → ConversationState → List BrokerRow → ConversationState → Type 0
 LeavesHolding kept other asked one =
@@ -159,11 +160,12 @@ StandsBeside kept other asked one =
     ⊎ HoldsYet kept other asked one
     ⊎ LeavesHolding kept other asked one
 
--- These pieces came to a connection, in any way, and it asked this for their frames, in order: as another
--- asks that hears them one after the other, but for room, and it is then as that one. Where it holds
--- something yet, the other has heard all but the kept pieces: nothing was asked for those, and they are in
--- the stream, each once. So one that asks for an UNSUBSCRIBE before the `SEND` that waits in front of it,
--- that drops a kept piece, or hears it twice, keeps no order.
+-- These pieces came to a connection, at whatever times, and it asked this for their frames: as another asks
+-- that hears them one after the other, in the same order, but for room, and it is then as that one. Where it
+-- holds something yet, the other has heard all but the kept pieces: nothing was asked for those, and they are
+-- in the stream, each once. So one that asks for an UNSUBSCRIBE before the `SEND` that waits in front of it
+-- keeps no order, nor does one that drops a kept piece, or hears it twice (`taken_before`, `dropped_piece`,
+-- `heard_twice`).
 abbrev pub KeepsOrder
     : List (List ℕ) → List BrokerRow → ConversationState → ConversationState → Type 0
 KeepsOrder came rows old new =
