@@ -8,13 +8,14 @@ use Rattle.sender_gate.specs.Gate.{GateState}
 use Rattle.stomp_frame.specs.Reader.{Unread, with_piece}
 use Rattle.stomp_session.specs.declared.action.Action.TheVariants as actions
 use Rattle.broker_server.specs.declared.conversation.conversation_fault.ConversationFault.TheVariants as fault
+use Rattle.broker_server.specs.declared.conversation.exit.Exit.{Exit}
 use Rattle.broker_server.specs.declared.conversation.held.Held.{Held}
 use Rattle.broker_server.specs.declared.conversation.held.Held.TheVariants.{Waits, Owes}
 use Rattle.broker_server.specs.BrokerRows.{AsksRoom, BrokerRow, SubName, Unsubscribes}
 use Rattle.broker_server.specs.ConversationFaults.{tells_version}
 use Rattle.broker_server.specs.Conversations.{CommitsBy, ConversationState, Done, Performs}
 use Rattle.broker_server.specs.Hearing.{Hears, HearsOrKeeps, TakesAll, kept_by}
-use Rattle.broker_server.specs.Waiting.{HearsEach, HoldsYet, IsAs, KeepsOrder, LeavesHolding, StandsBeside, but_room, fed, keeping}
+use Rattle.broker_server.specs.Waiting.{HearsEach, HoldsYet, IsAs, KeepsOrder, LeavesHolding, StandsBeside, but_items, but_room, fed, keeping}
 use Rattle.broker_server.proofs.HearingLemmas.{if_half, if_whole}
 use Rattle.broker_server.proofs.HeldLemmas.{each_waits, none_some, room_on}
 use Rattle.broker_server.proofs.StreamLemmas.{fed_all, fed_one}
@@ -73,6 +74,22 @@ stays kept other asked one (any, rows, before, last, holds, cut, ends, like) ope
 held_as : (one other : ConversationState) → IsAs one other → one.held ≡ other.held
 held_as one other (inl like) = ap (λ (s : ConversationState). s.held) like
 held_as one other (inr (leaves, like)) = ap (λ (s : ConversationState). s.held) like
+
+-- ---- once nothing is held
+
+-- One that keeps the order, holds nothing and hasn't left has done each piece as another that heard them one after the other,
+-- at whatever times they came.
+pub all_heard : (came : List (List ℕ)) (rows : List BrokerRow) (old new : ConversationState) → new.held ≡ None → new.exit ≡ None → KeepsOrder came rows old new → (asked : List BrokerRow) × (other : ConversationState) × HearsEach came old asked other × (but_items new ≡ but_items other) × (but_room asked ≡ but_room rows)
+all_heard came rows old new free open_yet (heard, kept, cut, asked, last, other, each, inl (none, nothing, unheld, inl like), sum) =
+    let all = cut ∙ ap (λ (texts : List (List ℕ)). heard ++ texts) none ∙ append-nil heard in
+    (asked, other, subst (λ (texts : List (List ℕ)). HearsEach texts old asked other) (sym all) each, like, ap but_room (sym (append-nil asked) ∙ ap (λ (more : List BrokerRow). asked ++ more) (sym nothing)) ∙ sum)
+all_heard came rows old new free open_yet (heard, kept, cut, asked, last, other, each, inl (none, nothing, unheld, inr (leaves, like)), sum) =
+    absurd (let e = subst (λ (o : Option Exit). IsSome o) (sym (ap (λ (s : ConversationState). s.exit) like) ∙ open_yet) leaves in cc)
+all_heard came rows old new free open_yet (heard, kept, cut, asked, last, other, each, inr (inl (out, what, now, done, like)), sum) =
+    absurd (none_some new.held what free (ap (λ (s : ConversationState). s.held) like))
+all_heard came rows old new free open_yet (heard, kept, cut, asked, last, other, each, inr (inr leaves), sum) = absurd (stays kept other last new leaves open_yet)
+
+-- ---- a piece that is kept
 
 -- what stands beside a connection that was so, and has heard nothing
 fed_once : (piece : List ℕ) (kept : List (List ℕ)) (old : ConversationState) (last : List BrokerRow) (r : Unread) → kept ≡ piece ∷ [] → old.held ≡ None → HoldsYet kept old last (record old { reader = r; held = Some (Owes (Ok tt) None) }) → r ≡ with_piece old.reader piece

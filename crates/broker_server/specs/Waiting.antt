@@ -174,9 +174,9 @@ KeepsOrder came rows old new =
     × StandsBeside kept other last new × (but_room (asked ++ last) ≡ but_room rows)
 
 -- Whatever a connection goes through, it keeps the order. Since that is so after any rounds, what was kept is
--- done as the other does it, once this one goes on and holds nothing any more. So where a `SEND` waits, and
--- an UNSUBSCRIBE comes behind it, with it or in later pieces, the flight is committed first, and once,
--- however often it went on and was delivered to.
+-- done as the other does it, once this one goes on and holds nothing any more (`all_heard`). So where a
+-- `SEND` waits, and an UNSUBSCRIBE comes behind it, with it or in later pieces, the flight is committed
+-- first, and once, however often it went on and was delivered to.
 abbrev pub WaitsInOrder : Type 0
 WaitsInOrder =
     (rounds : List Round) (old new : ConversationState) → old.held ≡ None → GoesThrough rounds old new
