@@ -596,15 +596,16 @@ impl<'a, R: Wait + Log + Clock, W: Side, T: Side> Calls<'a, R, W, T> {
         self.room_as_first(txn)
     }
 
-    /// Room at the topics of this transaction. Where there is none, and it owes no turns, it waits. Out of memory for the
-    /// reservation it is room at none of them: a commit that lacks memory, too, says so, and waits for nothing.
+    /// Room at the topics of this transaction. Where there is none, and it owes no turns, it waits; where it owes some, it may
+    /// overtake who waits. Out of memory for the reservation it is room at none of them: a commit that lacks memory, too, says
+    /// so, and waits for nothing.
     #[tactic(auto, using(crate::proofs::LineLemmas::first_of))]
     #[inline(always)]
     fn room_at(&mut self, txn: &Txn) -> Option<Reserved>
         ensures { IfSome result (λ room. (room ≡ topics_of txn.now) ⊎ (room ≡ [])) }
     {
         let mut room = self.hub.running.broker.no_room();
-        match self.hub.reserve(self.rt, txn, &mut room) {
+        match self.hub.reserve(self.rt, txn, self.commits > 0, &mut room) {
             Ok(()) => Some(room),
             Err(NoRoom::Full { topic: _, sub: _ }) if self.commits == 0 => self.tries(txn, room),
             Err(NoRoom::Full { topic: _, sub: _ }) => {
