@@ -214,24 +214,24 @@ impl<R: Wait, W: Side, T: Side> Hub<R, W, T> {
         }
     }
 
-    /// Whether who comes to this topic for room has to stand in the line there. Whose thread owes turns may overtake some.
+    /// Whether who comes for room at this topic, and may overtake those who wait, or not, has to stand in the line there.
     #[inline(always)]
-    fn is_closed(&self, topic: Topic, owes_turns: bool) -> bool {
+    fn is_closed(&self, topic: Topic, may_overtake: bool) -> bool {
         match self.topics.get(topic.0 as usize) {
-            Some(seats) => seats.line().is_closed(owes_turns),
+            Some(seats) => seats.line().is_closed(may_overtake),
             None => false,
         }
     }
 
-    /// Room at each topic of this transaction, where it needn't stand in a line, as its thread owes turns, or doesn't: at all
-    /// of them, or at the first of them.
+    /// Room at each topic of this transaction, where nobody waits for it, or who does may be overtaken: at all of them, or at
+    /// the first of them.
     #[tactic(auto, using(crate::proofs::LineLemmas::put_none, crate::proofs::LineLemmas::put_next, crate::proofs::LineLemmas::put_at, crate::proofs::LineLemmas::put_all))]
     #[inline(always)]
     pub(crate) fn reserve(
         &self,
         rt: &R,
         txn: &Txn,
-        owes_turns: bool,
+        may_overtake: bool,
         room: &mut Reserved,
     ) -> Result<(), NoRoom>
         ensures all { OnOk result (room.new ≡ room.old ++ topics_of txn.now) }
@@ -239,7 +239,7 @@ impl<R: Wait, W: Side, T: Side> Hub<R, W, T> {
     {
         let topics = txn.topics().as_slice();
         for topic in topics {
-            if self.is_closed(*topic, owes_turns) {
+            if self.is_closed(*topic, may_overtake) {
                 return Err(NoRoom::Full {
                     topic: *topic,
                     sub: None,

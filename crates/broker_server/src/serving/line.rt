@@ -49,11 +49,11 @@ impl Line {
         self.mark.load(Ordering::SeqCst) != NOBODY
     }
 
-    /// Whether who comes has to stand in the line: where somebody waits there. Whose thread owes turns may overtake those who
-    /// wait, so many for each first at most: it would else turn what it owes for each of its transactions, and sleep.
+    /// Whether who comes, and may overtake those who wait, or not, has to stand in the line: where somebody waits there. Each
+    /// first is overtaken by so many at most.
     #[inline(always)]
-    pub(crate) fn is_closed(&self, owes_turns: bool) -> bool {
-        self.is_awaited() && !(owes_turns && self.lets_overtake())
+    pub(crate) fn is_closed(&self, may_overtake: bool) -> bool {
+        self.is_awaited() && !(may_overtake && self.lets_overtake())
     }
 
     /// Whether one more may overtake the first.
