@@ -12,13 +12,17 @@ mod announcing;
 mod asker;
 mod bell;
 mod calls;
+mod charging;
 mod connection;
 mod cost;
+mod crowd;
 mod desk;
 mod desks;
 mod door;
 mod endings;
+mod ends;
 mod figures;
+mod front;
 mod fund;
 mod head;
 mod holding;
@@ -36,6 +40,7 @@ mod minute;
 mod moment;
 mod naming;
 mod outfit;
+mod owed;
 mod pace;
 mod passage;
 mod peer;
@@ -47,11 +52,14 @@ mod reporting;
 mod room_made;
 mod room_step;
 mod room_wait;
+mod round;
+mod rounds;
 mod running;
 mod said;
 mod seat;
 mod seat_entry;
 mod seated_sub;
+mod seating;
 mod second_line;
 mod seldom;
 mod shortened;
@@ -76,16 +84,18 @@ mod waiting;
 mod why_left;
 
 use crate::serving::accepting::accept_all;
-use crate::serving::announcing::say_left_out;
+use crate::serving::announcing::{say_left_out, say_serving};
+use crate::serving::bell::Bell;
 use crate::serving::desks::Desks;
 use crate::serving::door::Door;
 use crate::serving::head::Head;
-use crate::serving::hub::{Hub, MAX_CONNECTIONS};
+use crate::serving::hub::Hub;
 use crate::serving::reporting::say_figures;
 use crate::serving::running::Running;
 use broker_locks::{Broker, ServerFault, Side};
 pub use listening::run_server;
-use log::{Log, info};
+use log::Log;
+use mcast_txn::NoMemory;
 use mio::net::TcpListener;
 use std::alloc::Global;
 use std::net::Net;
@@ -119,19 +129,37 @@ where
     ensures gathered { IfOk result (IsTraceLeft max_topics) }
 {
     let (mut door, bell) = Door::new(rt, alloc, listener)?;
-    let Ok(running) = Running::new(alloc, broker) else {
+    let Ok(hub) = hub_of(alloc, broker, bell) else {
         return Err(ServerFault::NoMemory);
     };
-    let Ok(hub) = Hub::new(alloc, running, bell) else {
-        return Err(ServerFault::NoMemory);
-    };
-    info!(rt; target: "serve",
-        "serving {} topics to at most {MAX_CONNECTIONS} connections", hub.running.topics());
+    say_serving(rt, hub.running.topics());
     let done = run(rt, alloc, &hub, &mut door, limit);
-    say_left_out(rt, hub.totals().take_left_out(rt));
-    say_figures(rt, &hub.figures(rt));
+    say_last(rt, &hub);
     let running = hub.into_running(rt);
     done?;
+    trace_of(running)
+}
+
+/// The hub of this broker, whose accepting thread has this bell.
+fn hub_of<R: Wait, W: Side, T: Side>(
+    alloc: Global,
+    broker: Broker<R, W, T>,
+    bell: Bell,
+) -> Result<Hub<R, W, T>, NoMemory> {
+    let running = Running::new(alloc, broker)?;
+    Hub::new(alloc, running, bell)
+}
+
+/// Says what is left to say once all connections ended.
+fn say_last<R: Wait + Clock + Log, W: Side, T: Side>(rt: &R, hub: &Hub<R, W, T>) {
+    say_left_out(rt, hub.crowd.totals().take_left_out(rt));
+    say_figures(rt, &hub.figures(rt));
+}
+
+/// The trace of what ran.
+fn trace_of<R: Wait, W: Side, T: Side>(running: Running<R, W, T>) -> Result<Trace, ServerFault>
+    ensures { IfOk result (IsTraceLeft max_topics) }
+{
     match running.into_trace() {
         Some(trace) => Ok(trace),
         None => Err(ServerFault::NoMemory),
@@ -192,7 +220,7 @@ where
         return Err(ServerFault::NoMemory);
     };
     run_at(rt, alloc, hub, &desks, door, limit)?;
-    if hub.has_failed() {
+    if hub.crowd.has_failed() {
         return Err(ServerFault::Io);
     }
     Ok(())
@@ -222,7 +250,7 @@ where
         {
             let done = accept_all(rt, alloc, scope, hub, desks, door, limit);
             if done.is_err() {
-                hub.close(rt);
+                hub.crowd.close(rt);
             }
             done
         },

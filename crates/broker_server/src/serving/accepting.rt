@@ -3,11 +3,12 @@
 ghost use Rattle.std.specs.Prelude.{◌≡◌};
 
 use crate::serving::activity::Activity;
-use crate::serving::announcing::say_left_out;
+use crate::serving::announcing::{say_closed, say_lacking, say_left_out};
 use crate::serving::connection::attend;
+use crate::serving::crowd::MAX_CONNECTIONS;
 use crate::serving::desks::Desks;
 use crate::serving::door::Door;
-use crate::serving::hub::{Hub, MAX_CONNECTIONS};
+use crate::serving::hub::Hub;
 use crate::serving::outfit::Outfit;
 use crate::serving::peer::Peer;
 use crate::serving::reporting::Reporting;
@@ -101,36 +102,54 @@ where
     'a: 'b,
     'b: 's,
 {
-    let Peer {
-        number,
-        desk,
-        addr: _,
-    } = peer;
     let mut socket = Socket::new(stream);
-    let outfit = match Outfit::new(rt, alloc, peer, &mut socket) {
-        Ok(outfit) => outfit,
+    let Some(outfit) = outfit_of(rt, alloc, hub, peer, &mut socket) else {
+        hub.crowd.totals().leaves(rt, Activity::new(), &WhyLeft::NoMemory);
+        desks.free_number(rt, peer.desk);
+        return;
+    };
+    let run = move || attend(rt, alloc, hub, desks, outfit, socket);
+    if scope.spawn(run).is_err() {
+        say_lacking(rt, peer, "thread");
+        hub.crowd.leave(rt, peer.number, &WhyLeft::NoMemory);
+        desks.free_number(rt, peer.desk);
+    }
+}
+
+/// The outfit of this peer's thread, whose bell the hub has from then on, if nothing is wanting for it: that is said, to the
+/// peer, too, where it is memory.
+fn outfit_of<R: Wait + Net + Clock + Log, W: Side, T: Side>(
+    rt: &R,
+    alloc: Global,
+    hub: &Hub<R, W, T>,
+    peer: Peer,
+    socket: &mut Socket,
+) -> Option<Outfit> {
+    let outfit = made_outfit(rt, alloc, peer, socket)?;
+    if hub.crowd.enter(rt, peer.number, &outfit.bell).is_err() {
+        socket.say_no_memory();
+        say_lacking(rt, peer, "bell");
+        return None;
+    }
+    Some(outfit)
+}
+
+/// The same, of which the hub has nothing yet.
+fn made_outfit<R: Net + Log>(
+    rt: &R,
+    alloc: Global,
+    peer: Peer,
+    socket: &mut Socket,
+) -> Option<Outfit> {
+    match Outfit::new(rt, alloc, peer, socket) {
+        Ok(outfit) => Some(outfit),
         Err(error) => {
             if error.kind() == ErrorKind::OutOfMemory {
                 socket.say_no_memory();
             }
-            warn!(rt; target: "serve", "{peer} is closed: {error}");
-            hub.totals().leaves(rt, Activity::new(), &WhyLeft::NoMemory);
-            desks.free_number(rt, desk);
-            return;
+            say_closed(rt, peer, &error);
+            None
         }
-    };
-    if hub.enter(rt, number, &outfit.bell).is_err() {
-        socket.say_no_memory();
-        warn!(rt; target: "serve", "{peer} is closed: no memory for its bell");
-        hub.totals().leaves(rt, Activity::new(), &WhyLeft::NoMemory);
-        desks.free_number(rt, desk);
-        return;
-    }
-    let run = move || attend(rt, alloc, hub, desks, outfit, socket);
-    if scope.spawn(run).is_err() {
-        warn!(rt; target: "serve", "{peer} is closed: no memory for its thread");
-        hub.leave(rt, number, &WhyLeft::NoMemory);
-        desks.free_number(rt, desk);
     }
 }
 
@@ -154,8 +173,8 @@ where
 {
     let number = counter.came;
     counter.came = number.saturating_add(1);
-    hub.totals().comes(rt);
-    hub.stir();
+    hub.crowd.totals().comes(rt);
+    hub.crowd.stir();
     match desks.take_number(rt) {
         Some(desk) => {
             let peer = Peer { number, desk, addr };
@@ -163,7 +182,7 @@ where
         }
         None => {
             drop(stream);
-            hub.totals().refuses(rt);
+            hub.crowd.totals().refuses(rt);
             counter.refused.add();
             counter.say(rt);
         }
@@ -189,7 +208,7 @@ where
 {
     let mut counter = Counter::new();
     for _ in rt.forever() {
-        if hub.has_failed() {
+        if hub.crowd.has_failed() {
             error!(rt; target: "serve", "a connection's poll failed");
             return Err(ServerFault::Io);
         }
@@ -215,12 +234,12 @@ fn wait_after<R: Wait + Clock + Log, W: Side, T: Side>(
     match Trouble::of(error) {
         Trouble::NoneWaits => {
             counter.say(rt);
-            say_left_out(rt, hub.totals().left_out_due(rt));
+            say_left_out(rt, hub.crowd.totals().left_out_due(rt));
             counter.reporting.say(rt, hub);
-            if hub.door().hears() || !hub.door().sleeps() {
+            if hub.crowd.door().hears() || !hub.crowd.door().sleeps() {
                 return Ok(());
             }
-            wait_at(rt, door, counter.time(hub.totals().leaves_out(rt)))
+            wait_at(rt, door, counter.time(hub.crowd.totals().leaves_out(rt)))
         }
         Trouble::Passing => Ok(()),
         Trouble::Wanting => {

@@ -83,13 +83,6 @@ impl Activity {
         self.lagged = self.lagged.saturating_add(1);
     }
 
-    /// So many subscriptions were passed over.
-    pub(crate) fn passes_over(&mut self, count: u64)
-        ensures { self.new ≡ record self.old { passed_over = plus self.old.passed_over count } }
-    {
-        self.passed_over = self.passed_over.saturating_add(count);
-    }
-
     /// What is left of it once the connection has left: what it did.
     pub(crate) fn past(self) -> Activity
         ensures { result ≡ record self { subscriptions = 0; waiting = 0; behind = 0 } }

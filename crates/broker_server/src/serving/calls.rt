@@ -1,37 +1,36 @@
 //! What one connection asks of the broker.
 
-ghost use Rattle.std.specs.Prelude.{if◌then◌else◌, ◌≡◌, ◌≤◌, ◌<◌, ◌⊎◌, ◌==◌, ◌-◌, [], map, true, IfSome, None, Some};
+ghost use Rattle.std.specs.Prelude.{◌≡◌, ◌≤◌, ◌<◌, ◌⊎◌, ◌-◌, [], map, true, IfSome, None, Some};
 ghost use Rattle.std.specs.Option.{is_some};
 ghost use Rattle.mcast_txn.specs.Transaction.{topics_of};
 ghost use Rattle.broker_server.specs.BrokerRows.{AsksInOrder, Unsubscribes};
-ghost use Rattle.broker_server.specs.Lines.{IsRoomAt};
+ghost use Rattle.broker_server.specs.Owing.{nothing_owed};
 ghost use Rattle.broker_server.specs.UnturnedTopics.{none_unturned};
 
 use crate::conversation::{BrokerCalls, ConversationFault};
 use crate::serving::activity::Activity;
+use crate::serving::announcing::{say_claimed, say_lagged, say_made};
 use crate::serving::asker::Asker;
 use crate::serving::bell::Bell;
-use crate::serving::holding::{is_refused, is_short, is_told, time_to_take};
+use crate::serving::charging::Charging;
+use crate::serving::ends::{end_at, end_each_topic};
+use crate::serving::front::Front;
 use crate::serving::hub::Hub;
-use crate::serving::light_charge::LightCharge;
 use crate::serving::moment::Moment;
+use crate::serving::owed::Owed;
 use crate::serving::peer::Peer;
-use crate::serving::room_made::RoomMade;
 use crate::serving::seat::Seat;
 use crate::serving::seated_sub::SeatedSub;
-use crate::serving::shortened::Shortened;
+use crate::serving::seating::Seating;
 use crate::serving::span::Span;
-use crate::serving::stay::Stay;
-use crate::serving::unturned::Unturned;
 use crate::serving::wait_news::WaitNews;
-use crate::serving::waiting::{Stop, Waiting};
-use crate::spelled::Spelled;
-use broker_locks::{CommitFault, NoRoom, Reserved, Side, Worker};
-use log::{Log, info, warn};
+use crate::serving::waiting::Waiting;
+use broker_locks::{CommitFault, Reserved, Side, Worker};
+use log::Log;
 use mcast_group::{SubFault, SubState};
-use mcast_txn::{Charge, Meter, NoMemory, Released, Topic, Txn};
+use mcast_txn::{Meter, Released, Topic, Txn};
 use sender_gate::{ClaimFault, Flying, Gate};
-use std::alloc::{AllocError, Global};
+use std::alloc::Global;
 use std::slice::from_ref;
 use std::sync::{Arc, Wait};
 use std::time::Clock;
@@ -42,27 +41,8 @@ use stomp_session::{Names, Session, Step};
 /// (our choice).
 const AT_ONCE: u64 = 16;
 
-/// Where at most so many octets were heard since the topics were turned it may stand in for others (our choice).
-const MOST_HEARD: usize = 1_048_576;
-
 /// An item counts as one more for each so many octets, where it is told how many were taken (our choice).
 const OCTETS_AS_ONE: u64 = 131_072;
-
-/// Who was in front of no turnstile for so many nanoseconds is regular (our choice): a second.
-const REGULAR: u64 = 1_000_000_000;
-
-/// So long a connection that has subscriptions waits in front of turnstiles for what it read (our choice): less than the
-/// second for which senders wait for it at no cost.
-const PATIENCE: Span = Span(900_000_000);
-
-/// So long one waits that has none (our choice): five seconds.
-const LONGEST_WAIT: Span = Span(5_000_000_000);
-
-/// What a transaction that is light takes for itself, in octets, beside what its SENDs weigh (our choice).
-const BLOCKS: u64 = 512;
-
-/// The most octets of a topic's name: as many as a line has.
-const MOST_NAMED: usize = 4_096;
 
 /// What one connection asks of the broker, and which topics it still has to turn.
 pub(crate) struct Calls<'a, R: Wait + Log + Clock, W: Side, T: Side> {
@@ -71,28 +51,13 @@ pub(crate) struct Calls<'a, R: Wait + Log + Clock, W: Side, T: Side> {
     hub: &'a Hub<R, W, T>,
     peer: Peer,
     bell: Arc<Bell>,
-    /// What it holds, and what its transactions weigh that it committed.
-    meter: Arc<Meter>,
-    /// What its light transactions count as.
-    light: LightCharge,
-    unturned: Unturned,
-    /// How many transactions were committed, or refused, since their topics were turned or the heads told.
-    commits: u64,
-    /// That is done at once when they are so many: half of what a queue holds, and one at least.
+    charging: Charging,
+    owed: Owed,
+    /// It turns at once when it owes so many commits: half of what a queue holds, and one at least.
     most: u64,
-    /// How many octets were heard of its client since then.
-    heard: usize,
     waiting: Waiting,
-    /// Within which topic's turnstile it is, if it is.
-    stay: Option<Stay>,
-    /// When it came, or was in front of one last.
-    stayed: Moment,
-    /// How long it may wait in front of turnstiles for what it read, where it has subscriptions.
-    patience: Span,
-    /// How many subscriptions it has.
-    subs: u64,
-    /// How many it had, with these.
-    begun: u64,
+    front: Front,
+    seating: Seating,
     /// What it did, as far as that is counted here.
     activity: Activity,
     worker: Worker<W>,
@@ -118,9 +83,8 @@ impl<'a, R: Wait + Log + Clock, W: Side, T: Side> Calls<'a, R, W, T> {
         worker: Worker<W>,
     ) -> Calls<'a, R, W, T>
         ensures worker { result.worker ≡ worker }
-        ensures unturned { result.unturned ≡ none_unturned }
-        ensures commits { result.commits ≡ 0 }
-        ensures subs { (result.subs ≡ 0) × (result.begun ≡ 0) }
+        ensures owed { result.owed ≡ nothing_owed }
+        ensures subs { result.seating ≡ record { subs = 0; begun = 0 } }
         ensures wait { result.waiting.wait ≡ record { counted_at = None; news = None } }
     {
         Calls {
@@ -129,18 +93,12 @@ impl<'a, R: Wait + Log + Clock, W: Side, T: Side> Calls<'a, R, W, T> {
             hub,
             peer,
             bell,
-            meter,
-            light: LightCharge::new(),
-            unturned: Unturned::new(alloc),
-            commits: 0,
+            charging: Charging::new(alloc, meter),
+            owed: Owed::new(alloc),
             most: hub.running.half(),
-            heard: 0,
             waiting: Waiting::new(),
-            stay: None,
-            stayed: Moment::now(rt),
-            patience: PATIENCE,
-            subs: 0,
-            begun: 0,
+            front: Front::new(rt),
+            seating: Seating::new(),
             activity: Activity::new(),
             worker,
         }
@@ -165,10 +123,14 @@ impl<'a, R: Wait + Log + Clock, W: Side, T: Side> Calls<'a, R, W, T> {
 
     /// What it did, as far as that is counted here, and its subscriptions.
     pub(crate) fn activity(&self) -> Activity
-        ensures { result ≡ record self.now.activity { subscriptions = self.now.subs } }
+        ensures { result ≡ record self.now.activity {
+          passed_over = self.now.waiting.passed_over;
+          subscriptions = self.now.seating.subs;
+        } }
     {
         Activity {
-            subscriptions: self.subs,
+            passed_over: self.waiting.passed_over(),
+            subscriptions: self.seating.subs(),
             ..self.activity
         }
     }
@@ -183,79 +145,35 @@ impl<'a, R: Wait + Log + Clock, W: Side, T: Side> Calls<'a, R, W, T> {
             hub,
             peer: _,
             bell: _,
-            meter: _,
-            light: _,
-            unturned: _,
-            commits: _,
+            charging: _,
+            owed: _,
             most: _,
-            heard: _,
             waiting: _,
-            stay,
-            stayed: _,
-            patience: _,
-            subs: _,
-            begun: _,
+            front,
+            seating: _,
             activity: _,
             worker,
         } = self;
-        leave(rt, hub, stay);
+        front.end(rt, hub);
         worker
     }
 
     /// It holds so many octets that aren't committed: all are told, where that is many more or fewer than they were.
     #[inline(always)]
     pub(crate) fn note_held(&self, octets: u64) {
-        if is_told(self.meter.open(), octets) {
-            self.tell_held(octets);
-        }
-    }
-
-    /// It holds so many octets that aren't committed: all are told.
-    #[inline(never)]
-    fn tell_held(&self, octets: u64) {
-        self.meter.tell_open(octets);
+        self.charging.note_held(octets);
     }
 
     /// It holds nothing any more that isn't committed.
     pub(crate) fn end_held(&self) {
-        self.meter.tell_open(0);
+        self.charging.tell_held(0);
     }
 
     /// How long the system may take nothing of what waits for it, where memory is short.
     pub(crate) fn time_to_take(&self) -> Option<Span>
         ensures { IfSome result (λ time. 1000000000 ≤ time.0) }
     {
-        let all = self.meter.all();
-        let (open, sent) = (all.open(), all.sent());
-        if !is_short(open, sent) {
-            return None;
-        }
-        Some(time_to_take(open.saturating_add(sent)))
-    }
-
-    /// A transaction that isn't light is counted to this connection until it is gone, where there is memory for that.
-    #[inline(never)]
-    fn charge(&self, txn: &mut Txn)
-        ensures { txn.new ≡ txn.old }
-    {
-        let weight = txn.weight();
-        let Ok(charge) = Charge::new(self.alloc, &self.meter, weight) else {
-            return;
-        };
-        txn.put_charge(charge);
-        self.tell_held(self.meter.open().saturating_sub(weight));
-    }
-
-    /// A seat for its next subscription.
-    fn seat(&mut self) -> Result<Arc<Seat>, AllocError> {
-        let bell = self.bell.clone()?;
-        let number = self.begun;
-        self.begun = number.saturating_add(1);
-        let seat = Arc::new(
-            self.alloc,
-            Seat::new(self.peer.number, number, self.peer.desk, bell),
-        )?;
-        Ok(seat)
+        self.charging.time_to_take()
     }
 
     /// Ends this subscription at its topic where it has lagged: it would cost others something there at each SEND. Its
@@ -264,155 +182,76 @@ impl<'a, R: Wait + Log + Clock, W: Side, T: Side> Calls<'a, R, W, T> {
     pub(crate) fn end_lagged(&mut self, sub: &SeatedSub) -> bool {
         let has_lagged = self.has_lagged(sub);
         if has_lagged && sub.end() {
-            self.end_at(sub.topic, from_ref(sub));
+            self.end_at(sub);
             sub.seat.raise();
             self.bell.ring();
         }
         has_lagged
     }
 
-    /// Ends these subscriptions of this topic: their seats are taken out, and then they end, all of them at once where there
-    /// is memory for that. That may make room there.
-    fn end_at(&self, topic: Topic, subs: &[SeatedSub]) {
-        self.take_seats(topic, subs);
-        if self.unsubscribe_at(topic, subs).is_err() {
-            self.unsubscribe_each(topic, subs);
-        }
-        self.hub.room_made(self.rt, topic, made_by_ends(subs));
-    }
-
-    /// Ends those of these subscriptions that haven't ended, topic by topic.
-    fn end_each_topic(&self, subs: Vec<SeatedSub>) {
-        let mut subs = subs;
-        subs.retain(|sub| sub.end());
-        subs.sort_unstable_by_key(|sub| sub.topic.0);
-        for at_one in subs.chunk_by(|sub, other| sub.topic.0 == other.topic.0) {
-            if let Some(sub) = at_one.first() {
-                self.end_at(sub.topic, at_one);
-            }
-        }
-    }
-
-    /// Takes the seats of these subscriptions out of this topic: where their client is behind, each pays what it was
-    /// spared.
-    fn take_seats(&self, topic: Topic, subs: &[SeatedSub]) {
-        let Some(seats) = self.hub.seats(topic) else {
-            return;
-        };
+    /// Ends this subscription at its topic.
+    fn end_at(&self, sub: &SeatedSub) {
         let intake = self.bell.intake();
-        if intake.is_behind() {
-            seats.remove_behind(self.rt, Moment::now(self.rt), subs, intake);
-        } else {
-            seats.remove_all(self.rt, subs);
-        }
-    }
-
-    /// Ends these subscriptions at the topic, in one hold of its lock; out of memory, none of them.
-    fn unsubscribe_at(&self, topic: Topic, subs: &[SeatedSub]) -> Result<(), NoMemory> {
-        let mut numbers = Vec::with_capacity(self.alloc, subs.len())?;
-        for sub in subs {
-            numbers.push(sub.begun.sub)?;
-        }
-        let broker = &self.hub.running.broker;
-        let ended = broker.unsubscribe_all(self.rt, topic, numbers.as_slice())?;
-        drop(ended);
-        Ok(())
-    }
-
-    /// Ends these subscriptions at the topic, one by one.
-    fn unsubscribe_each(&self, topic: Topic, subs: &[SeatedSub]) {
-        let broker = &self.hub.running.broker;
-        for sub in subs {
-            let _ = broker.unsubscribe(self.rt, topic, sub.begun.sub);
-        }
+        end_at(self.rt, self.alloc, self.hub, intake, sub.topic, from_ref(sub));
     }
 
     /// This subscription was found to have lagged: it is said and counted, once.
     fn note_lag(&mut self, sub: &SeatedSub) {
-        if !sub.say_lagged() {
-            return;
-        }
-        self.activity.lags();
-        let Ok(mut name) = Vec::with_capacity(self.alloc, MOST_NAMED) else {
-            return;
-        };
-        self.hub.running.put_name(self.rt, sub.topic, &mut name);
-        let peer = self.peer;
-        warn!(self.rt; target: "serve", "{peer} lagged at the topic {}", Spelled(name.as_slice()));
-    }
-
-    /// Says that it has claimed the sender of this client-id.
-    fn tell_claimed(&self, client: &[u8]) {
-        let peer = self.peer;
-        info!(self.rt; target: "serve", "{peer} is client-id {}", Shortened(client));
-    }
-
-    /// Says that the last of these topics was made.
-    fn tell_made(&self, names: &Names) {
-        let last = names.len().saturating_sub(1);
-        if let Ok(last) = u32::try_from(last)
-            && let Some(name) = names.name(Topic(last))
-        {
-            let peer = self.peer;
-            info!(self.rt; target: "serve", "{peer} made the topic {}", Spelled(name));
+        if sub.say_lagged() {
+            self.activity.lags();
+            say_lagged(self.rt, self.alloc, &self.hub.running, self.peer, sub.topic);
         }
     }
 
     /// Turns the topics of what was committed, or refused, since that was done.
     pub(crate) fn turn_now(&mut self)
-        ensures { self.new ≡ record self.old { unturned = none_unturned; commits = 0; heard = 0 } }
+        ensures { self.new ≡ record self.old { owed = nothing_owed } }
     {
-        self.hub.turn_those(self.rt, &self.unturned);
-        self.unturned.clear();
-        self.commits = 0;
-        self.heard = 0;
+        self.hub.turn_those(self.rt, &self.owed.unturned);
+        self.owed.clear();
     }
 
     /// Turns the topics of what was committed, or refused, since that was done; or has their heads do so, where a
     /// connection that never takes has committed more than one transaction. A head would have to be woken for one, and
     /// who takes, too, has to have what it sent itself.
     pub(crate) fn turn_topics(&mut self)
-        ensures { self.new ≡ record self.old { unturned = none_unturned; commits = 0; heard = 0 } }
+        ensures { self.new ≡ record self.old { owed = nothing_owed } }
     {
-        if self.subs > 0 || self.commits <= 1 {
-            self.hub.turn_those(self.rt, &self.unturned);
+        if self.seating.subs() > 0 || self.owed.commits() <= 1 {
+            self.hub.turn_those(self.rt, &self.owed.unturned);
         } else {
-            self.hub.tell_heads(self.rt, &self.unturned);
+            self.hub.tell_heads(self.rt, &self.owed.unturned);
         }
-        self.unturned.clear();
-        self.commits = 0;
-        self.heard = 0;
+        self.owed.clear();
     }
 
     /// How many transactions were committed, or refused, since their topics were turned.
     pub(crate) fn commits(&self) -> u64
-        ensures { result ≡ self.now.commits }
+        ensures { result ≡ self.now.owed.commits }
     {
-        self.commits
+        self.owed.commits()
     }
 
     /// Turns their topics. Who sleeps isn't told: the seat is put into this list, for whom this thread then stands in.
     pub(crate) fn turn_for(&mut self, asleep: &mut Vec<Arc<Seat>>)
-        ensures { self.new ≡ record self.old { unturned = none_unturned; commits = 0; heard = 0 } }
+        ensures { self.new ≡ record self.old { owed = nothing_owed } }
     {
-        self.hub.turn_for(self.rt, &self.unturned, asleep);
-        self.unturned.clear();
-        self.commits = 0;
-        self.heard = 0;
+        self.hub.turn_for(self.rt, &self.owed.unturned, asleep);
+        self.owed.clear();
     }
 
     /// So many octets more were heard of its client.
     pub(crate) fn add_heard(&mut self, n: usize)
-        ensures { self.new ≡ record self.old { heard = self.new.heard } }
+        ensures { self.new ≡ record self.old { owed = record self.old.owed { heard = self.new.owed.heard } } }
     {
-        self.heard = self.heard.saturating_add(n);
+        self.owed.add_heard(n);
     }
 
     /// Whether what was heard since its topics were turned is little, and who would be told of it are few, who all sleep.
     pub(crate) fn may_stand_in(&self) -> bool
-        ensures { result ≡ true → self.now.heard ≤ 1048576 }
+        ensures { result ≡ true → self.now.owed.heard ≤ 1048576 }
     {
-        self.heard <= MOST_HEARD && self.hub.few_sleep(self.rt, &self.unturned)
+        self.owed.heard_little() && self.hub.few_sleep(self.rt, &self.owed.unturned)
     }
 
     /// What is to be said of those whom it waits for: once.
@@ -435,7 +274,7 @@ impl<'a, R: Wait + Log + Clock, W: Side, T: Side> Calls<'a, R, W, T> {
     /// The system took less than there was for it, or has taken all since, where that was otherwise before.
     pub(crate) fn note_behind(&self, was_behind: bool, is_behind: bool) {
         if was_behind != is_behind {
-            self.hub.count_behind(is_behind);
+            self.hub.crowd.count_behind(is_behind);
         }
     }
 
@@ -448,15 +287,13 @@ impl<'a, R: Wait + Log + Clock, W: Side, T: Side> Calls<'a, R, W, T> {
     pub(crate) fn end_wait(&mut self)
         ensures { self.new ≡ record self.old {
           waiting = self.new.waiting;
-          stay = None;
-          patience = self.new.patience;
+          front = record self.old.front { stay = None; patience = self.new.front.patience };
         } }
     {
-        self.leave_turnstile();
+        self.front.leave(self.rt, self.hub);
         if !self.waiting.is_idle() {
-            let room = self.kept_room();
             let asker = self.asker();
-            self.waiting.gives_up(&asker, room);
+            self.waiting.ends(&asker);
         }
     }
 
@@ -471,261 +308,79 @@ impl<'a, R: Wait + Log + Clock, W: Side, T: Side> Calls<'a, R, W, T> {
         }
     }
 
-    /// It is about to begin a subscription at this topic, within the turnstile there. It leaves another one first, so that
-    /// nobody waits in a ring; this one, too, where it has begun many. What it owes is turned before, and it is the first of
-    /// no line: so nobody waits for it meanwhile.
+    /// It is about to begin a subscription at this topic, within the turnstile there. What it owes is turned before, and it
+    /// is the first of no line: so nobody waits for it meanwhile.
     fn enter_turnstile(&mut self, topic: Topic)
-        ensures turned { self.old.stay ≡ None → self.new.commits ≡ 0 }
+        ensures turned { self.old.front.stay ≡ None → self.new.owed.commits ≡ 0 }
         ensures same { self.new ≡ record self.old {
-          unturned = self.new.unturned;
-          commits = self.new.commits;
-          heard = self.new.heard;
+          owed = self.new.owed;
           waiting = self.new.waiting;
-          stay = self.new.stay;
-          stayed = self.new.stayed;
-          patience = self.new.patience;
+          front = self.new.front;
         } }
     {
-        if let Some(stay) = &mut self.stay
-            && stay.begins(topic)
-        {
+        if self.front.begins(topic) {
             return;
         }
-        if self.commits > 0 {
+        if self.owed.commits() > 0 {
             self.turn_topics();
         }
         self.rest();
-        let before = self.stay.take();
-        leave(self.rt, self.hub, before);
-        let Some(seats) = self.hub.seats(topic) else {
-            return;
-        };
-        let now = Moment::now(self.rt);
-        let is_regular = now.since(self.stayed).0 >= REGULAR;
-        let stay = seats
-            .turnstile()
-            .enter(self.rt, topic, is_regular, self.most_in_front());
-        self.stayed = Moment::now(self.rt);
-        let waited = self.stayed.since(now).0;
-        self.patience = Span(self.patience.0.saturating_sub(waited));
-        let none = self.stay.replace(stay);
-        leave(self.rt, self.hub, none);
-    }
-
-    /// How long it waits in front of a turnstile at most: where it has subscriptions it delivers nothing meanwhile.
-    fn most_in_front(&self) -> Span
-        ensures { result ≡ (if self.now.subs == 0 then record { 0 = 5000000000 } else self.now.patience) }
-    {
-        if self.subs == 0 {
-            LONGEST_WAIT
-        } else {
-            self.patience
-        }
+        let subs = self.seating.subs();
+        self.front.enter(self.rt, self.hub, topic, subs);
     }
 
     /// It has taken and written since all that it read was done: it leaves the turnstile within which it is, if it is.
     #[inline(always)]
     pub(crate) fn end_stay(&mut self)
-        ensures { self.new ≡ record self.old { stay = None; patience = self.new.patience } }
+        ensures { self.new ≡ record self.old {
+          front = record self.old.front { stay = None; patience = self.new.front.patience };
+        } }
     {
-        if self.stay.is_some() {
-            self.leave_turnstile();
+        if self.front.is_within() {
+            self.front.leave(self.rt, self.hub);
         }
     }
 
     /// Whether it is within a turnstile.
     pub(crate) fn is_within(&self) -> bool
-        ensures { result ≡ is_some self.now.stay }
+        ensures { result ≡ is_some self.now.front.stay }
     {
-        self.stay.is_some()
-    }
-
-    /// It leaves the turnstile within which it is, if it is.
-    #[inline(never)]
-    fn leave_turnstile(&mut self)
-        ensures { self.new ≡ record self.old { stay = None; patience = record { 0 = 900000000 } } }
-    {
-        let stay = self.stay.take();
-        leave(self.rt, self.hub, stay);
-        self.patience = PATIENCE;
+        self.front.is_within()
     }
 
     /// Who asks for room.
+    #[inline(always)]
     fn asker(&self) -> Asker<'a, R, W, T> {
         Asker {
             rt: self.rt,
             alloc: self.alloc,
             hub: self.hub,
             desk: self.peer.desk,
-            owes_turns: self.commits > 0,
+            owes_turns: self.owed.commits() > 0,
             most: self.most,
         }
     }
 
-    /// The room that it keeps while it waits.
-    fn kept_room(&self) -> Reserved {
-        let none = self.hub.running.broker.no_room();
-        self.hub.waiters().swap_kept(self.rt, self.peer.desk, none)
-    }
-
-    /// It keeps this room while it waits.
-    #[inline(never)]
-    fn keep_room(&mut self, room: Reserved)
-        ensures { self.new ≡ record self.old { waiting = record self.old.waiting { held = true } } }
-    {
-        self.waiting.begin();
-        let other = self.hub.waiters().swap_kept(self.rt, self.peer.desk, room);
-        self.hub.release_room(self.rt, other);
-    }
-
-    /// Room at the topics of this transaction, or none yet. Where it owes turns, and there is none, these come first: there
-    /// may be some then. They come first, too, where it is to stand in for those who sleep.
+    /// Room at the topics of this transaction, or none yet: where it is to stand in for those who sleep, that comes first.
     #[inline(always)]
     fn room_for(&mut self, txn: &Txn) -> Option<Reserved>
         ensures { IfSome result (λ room. (room ≡ topics_of txn.now) ⊎ (room ≡ [])) }
     {
-        if self.waiting.is_held() {
-            return self.room_after_wait(txn);
-        }
-        if self.commits == AT_ONCE && self.may_stand_in() {
+        if self.owed.commits() == AT_ONCE && !self.waiting.is_held() && self.may_stand_in() {
             return None;
         }
-        if self.waiting.is_idle() {
-            return self.room_at(txn);
-        }
-        self.room_as_first(txn)
-    }
-
-    /// Room at the topics of this transaction. Where there is none, and it owes no turns, it waits. Out of memory for the
-    /// reservation it is room at none of them: a commit that lacks memory, too, says so, and waits for nothing.
-    #[tactic(auto, using(crate::proofs::LineLemmas::first_of))]
-    #[inline(always)]
-    fn room_at(&mut self, txn: &Txn) -> Option<Reserved>
-        ensures { IfSome result (λ room. (room ≡ topics_of txn.now) ⊎ (room ≡ [])) }
-    {
-        let mut room = self.hub.running.broker.no_room();
-        match self.hub.reserve(self.rt, txn, &mut room) {
-            Ok(()) => Some(room),
-            Err(NoRoom::Full { topic: _, sub: _ }) if self.commits == 0 => self.tries(txn, room),
-            Err(NoRoom::Full { topic: _, sub: _ }) => {
-                self.keep_room(room);
-                None
-            }
-            Err(NoRoom::NoMemory) => self.without_room(room),
-        }
-    }
-
-    /// Room at the topics of this transaction, for which it waits. (What it keeps is at the first of them; else it is given
-    /// up.)
-    #[inline(never)]
-    fn room_after_wait(&mut self, txn: &Txn) -> Option<Reserved>
-        ensures { IfSome result (λ room. (room ≡ topics_of txn.now) ⊎ (room ≡ [])) }
-    {
-        let room = self.kept_room();
-        if !is_at(txn.topics().as_slice(), &room) {
-            return self.without_room(room);
-        }
-        self.tries(txn, room)
-    }
-
-    /// Room at the topics of this transaction, where it is the first of a line: it stays so, if it is that of the first of
-    /// these.
-    #[inline(never)]
-    fn room_as_first(&mut self, txn: &Txn) -> Option<Reserved>
-        ensures { IfSome result (λ room. (room ≡ topics_of txn.now) ⊎ (room ≡ [])) }
-    {
         let asker = self.asker();
-        self.waiting.comes(&asker, txn.topics().as_slice());
-        if self.waiting.is_idle() {
-            return self.room_at(txn);
-        }
-        let none = self.hub.running.broker.no_room();
-        self.tries(txn, none)
-    }
-
-    /// Room at the topics of this transaction, of which it has this at the first of them; or it waits.
-    #[inline(never)]
-    fn tries(&mut self, txn: &Txn, room: Reserved) -> Option<Reserved>
-        requires { IsRoomAt (topics_of txn.now) room }
-        ensures { IfSome result (λ room. (room ≡ topics_of txn.now) ⊎ (room ≡ [])) }
-    {
-        let mut room = room;
-        let asker = self.asker();
-        let tried = self.waiting.tries(&asker, txn, &mut room);
-        let passed_over = self.waiting.take_passed_over();
-        self.activity.passes_over(passed_over);
-        match tried {
-            Ok(()) => Some(room),
-            Err(Stop::Waits) => {
-                self.keep_room(room);
-                None
-            }
-            Err(Stop::NoMemory) => self.without_room(room),
-        }
-    }
-
-    /// Room at no topic, which takes no memory: this is given back.
-    #[inline(never)]
-    fn without_room(&mut self, room: Reserved) -> Option<Reserved>
-        ensures { result ≡ Some [] }
-    {
-        let asker = self.asker();
-        self.waiting.gives_up(&asker, room);
-        Some(self.hub.running.broker.no_room())
-    }
-
-    /// This subscription took something, or isn't waited for any more: who waits for room is rung.
-    fn room_made(&self, sub: &SeatedSub) {
-        self.hub
-            .room_made(self.rt, sub.topic, RoomMade::At(sub.begun.sub));
-    }
-
-    /// Tells the topic how many items of this subscription were taken, and those who wait for room there.
-    #[inline(never)]
-    fn tell_taken(&self, sub: &mut SeatedSub)
-        ensures { sub.new ≡ record sub.old { untold = 0 } }
-    {
-        sub.untold = 0;
-        sub.begun.taker.tell(self.rt);
-        sub.seat.set_taken();
-        self.room_made(sub);
-    }
-
-    /// An item of this subscription was taken that counts as so many: that is told once half of what a queue holds was.
-    fn count_taken(&self, sub: &mut SeatedSub, count: u64)
-        ensures same { sub.new ≡ record sub.old { untold = sub.new.untold } }
-        ensures few { (sub.new.untold ≡ 0) ⊎ (sub.new.untold < self.now.most) }
-    {
-        sub.untold = sub.untold.saturating_add(count);
-        if sub.untold >= self.most {
-            self.tell_taken(sub);
-        }
-    }
-
-    /// The queue of this subscription was found empty: what was taken is told, and where it was passed over, it is waited
-    /// for again, if what is there finds room.
-    fn find_empty(&self, sub: &mut SeatedSub)
-        ensures { sub.new ≡ record sub.old { untold = 0 } }
-    {
-        if sub.untold > 0 {
-            self.tell_taken(sub);
-        }
-        if sub.seat.take_passed_over() && !sub.is_over() {
-            let broker = &self.hub.running.broker;
-            if !broker.wait_for(self.rt, sub.topic, sub.begun.sub) {
-                sub.seat.set_passed_over();
-            }
-        }
+        self.waiting.room_for(&asker, txn)
     }
 
     /// A transaction was committed, or refused. The topics are turned once these are half as many as a queue holds.
     fn count_commit(&mut self)
-        ensures few { (self.new.commits ≡ 0) ⊎ (self.new.commits < self.new.most) }
-        ensures turned { self.new.commits ≡ 0 → self.new.unturned ≡ none_unturned }
+        ensures few { (self.new.owed.commits ≡ 0) ⊎ (self.new.owed.commits < self.new.most) }
+        ensures turned { self.new.owed.commits ≡ 0 → self.new.owed.unturned ≡ none_unturned }
         ensures most { self.new.most ≡ self.old.most }
     {
-        self.commits = self.commits.saturating_add(1);
-        if self.commits >= self.most {
+        self.owed.add_commit();
+        if self.owed.commits() >= self.most {
             self.turn_topics();
         }
     }
@@ -742,35 +397,6 @@ fn counts_as(item: &Released) -> u64
         octets = octets.saturating_add(sends.get(index).body.len() as u64);
     }
     octets / OCTETS_AS_ONE + 1
-}
-
-/// This stay within a topic's turnstile ends, if it is one.
-fn leave<R: Wait + Clock, W: Side, T: Side>(rt: &R, hub: &Hub<R, W, T>, stay: Option<Stay>) {
-    let Some(stay) = stay else {
-        return;
-    };
-    match hub.seats(stay.topic()) {
-        Some(seats) => seats.turnstile().leave(rt, stay),
-        None => {
-            let _ = stay.end();
-        }
-    }
-}
-
-/// By what room may have been made where these subscriptions ended.
-fn made_by_ends(subs: &[SeatedSub]) -> RoomMade {
-    match subs {
-        [sub] => RoomMade::At(sub.begun.sub),
-        _ => RoomMade::Freed,
-    }
-}
-
-/// Whether this room is at the first of these topics.
-#[tactic(auto, using(trace_audit::proofs::Explaining::topics_equal))]
-fn is_at(topics: &[Topic], room: &Reserved) -> bool
-    ensures { result ≡ true → IsRoomAt topics.now room.now }
-{
-    topics.starts_with(room.topics())
 }
 
 impl<'a, R: Wait + Log + Clock, W: Side, T: Side> BrokerCalls for Calls<'a, R, W, T> {
@@ -797,7 +423,7 @@ impl<'a, R: Wait + Log + Clock, W: Side, T: Side> BrokerCalls for Calls<'a, R, W
     ) -> Result<Step, (ClientFrame, ConversationFault)> {
         let (stepped, made) = self.hub.running.step(self.rt, session, frame, names);
         if made {
-            self.tell_made(names);
+            say_made(self.rt, self.peer, names);
         }
         stepped
     }
@@ -805,7 +431,7 @@ impl<'a, R: Wait + Log + Clock, W: Side, T: Side> BrokerCalls for Calls<'a, R, W
     fn claim(&mut self, client: Option<&[u8]>) -> Result<Gate, ClaimFault> {
         let claimed = self.hub.running.broker.claim(self.rt, client);
         if let (Ok(_), Some(client)) = (&claimed, client) {
-            self.tell_claimed(client);
+            say_claimed(self.rt, self.peer, client);
         }
         claimed
     }
@@ -817,7 +443,7 @@ impl<'a, R: Wait + Log + Clock, W: Side, T: Side> BrokerCalls for Calls<'a, R, W
     /// Its seat stands at the topic before the subscription begins: the other order would lose what is released
     /// between. It is waited for from its beginning, where what is there finds room.
     fn subscribe(&mut self, topic: Topic) -> Result<SeatedSub, SubFault> {
-        let Ok(seat) = self.seat() else {
+        let Ok(seat) = self.seating.seat(self.alloc, self.peer, &self.bell) else {
             return Err(SubFault::NoMemory);
         };
         self.enter_turnstile(topic);
@@ -830,7 +456,7 @@ impl<'a, R: Wait + Log + Clock, W: Side, T: Side> BrokerCalls for Calls<'a, R, W
                 if !is_waited_for {
                     seat.set_passed_over();
                 }
-                self.subs = self.subs.saturating_add(1);
+                self.seating.begins();
                 Ok(SeatedSub::new(topic, begun, seat))
             }
             Err(fault) => {
@@ -842,12 +468,12 @@ impl<'a, R: Wait + Log + Clock, W: Side, T: Side> BrokerCalls for Calls<'a, R, W
 
     /// It has one subscription fewer then.
     fn unsubscribe(&mut self, sub: SeatedSub)
-        ensures fewer { self.new.subs ≡ self.old.subs - 1 }
+        ensures fewer { self.new.seating.subs ≡ self.old.seating.subs - 1 }
     {
         if sub.end() {
-            self.end_at(sub.topic, from_ref(&sub));
+            self.end_at(&sub);
         }
-        self.subs = self.subs.saturating_sub(1);
+        self.seating.end(1);
         drop(sub);
     }
 
@@ -860,8 +486,8 @@ impl<'a, R: Wait + Log + Clock, W: Side, T: Side> BrokerCalls for Calls<'a, R, W
         if subs.is_empty() {
             return;
         }
-        self.subs = self.subs.saturating_sub(subs.len() as u64);
-        self.end_each_topic(subs);
+        self.seating.end(subs.len() as u64);
+        end_each_topic(self.rt, self.alloc, self.hub, self.bell.intake(), subs);
     }
 
     fn flag(sub: &SeatedSub) -> u64 {
@@ -894,9 +520,9 @@ impl<'a, R: Wait + Log + Clock, W: Side, T: Side> BrokerCalls for Calls<'a, R, W
         match &item {
             Some(item) => {
                 self.activity.takes(item.part.sends.len() as u64);
-                self.count_taken(sub, counts_as(item));
+                sub.count_taken(self.rt, self.hub, counts_as(item), self.most);
             }
-            None => self.find_empty(sub),
+            None => sub.find_empty(self.rt, self.hub),
         }
         item
     }
@@ -906,10 +532,7 @@ impl<'a, R: Wait + Log + Clock, W: Side, T: Side> BrokerCalls for Calls<'a, R, W
         ensures whole { IfSome result (λ room. (room ≡ topics_of txn.now) ⊎ (room ≡ [])) }
     {
         let room = self.room_for(txn)?;
-        if txn.is_light() {
-            let weight = txn.weight().saturating_add(BLOCKS);
-            self.light.add(self.alloc, &self.meter, weight);
-        }
+        self.charging.count_next(txn);
         Some(room)
     }
 
@@ -917,22 +540,12 @@ impl<'a, R: Wait + Log + Clock, W: Side, T: Side> BrokerCalls for Calls<'a, R, W
         self.hub.release_room(self.rt, room);
     }
 
-    /// No count is told where it holds little: then the counts of all are read, and nothing is written.
     fn may_hold(&self, octets: u64) -> bool {
-        self.note_held(octets);
-        let all = self.meter.all();
-        let held = all.open().saturating_add(all.sent());
-        !is_refused(held, octets, self.meter.sent())
+        self.charging.may_hold(octets)
     }
 
     fn charged(&self, txn: Txn) -> Txn {
-        let mut txn = txn;
-        if !txn.is_light() {
-            self.charge(&mut txn);
-        } else if let Some(charge) = self.light.share() {
-            txn.put_charge(charge);
-        }
-        txn
+        self.charging.charged(txn)
     }
 
     /// Where it is refused there may be room at each of its topics; where it has no room, too, since others may be passed
@@ -944,7 +557,7 @@ impl<'a, R: Wait + Log + Clock, W: Side, T: Side> BrokerCalls for Calls<'a, R, W
             &mut self.worker,
             flying,
             room,
-            &mut self.unturned,
+            &mut self.owed.unturned,
         );
         self.count_commit();
         if lacks_room || done.is_err() {

@@ -3,12 +3,11 @@
 ghost use Rattle.std.specs.Prelude.{◌≡◌, ◌<◌, ◌≤◌, Bool, List, slice_range, true, vec_len, IfSome};
 ghost use Rattle.std.specs.Option.{is_some};
 ghost use Rattle.broker_server.specs.BrokerRows.{BrokerRow};
-ghost use Rattle.broker_server.specs.Delivering.{DeliversRound};
 ghost use Rattle.broker_server.specs.Hearing.{HearsOrKeeps};
-ghost use Rattle.broker_server.specs.declared.serving.connection.Round.TheVariants.{Idle};
+ghost use Rattle.broker_server.specs.declared.serving.round.Round.TheVariants.{Idle};
 
 use crate::conversation::{Conversation, ConversationFault, Exit, Ignored};
-use crate::serving::announcing::{say_came, say_ignored, say_left};
+use crate::serving::announcing::{say_came, say_ignored, say_left, say_told_lag, say_waits};
 use crate::serving::calls::Calls;
 use crate::serving::desk::Desk;
 use crate::serving::desks::Desks;
@@ -16,13 +15,14 @@ use crate::serving::hub::Hub;
 use crate::serving::moment::Moment;
 use crate::serving::outfit::Outfit;
 use crate::serving::peer::Peer;
+use crate::serving::round::Round;
+use crate::serving::rounds::Rounds;
 use crate::serving::seat::Seat;
 use crate::serving::socket::{Came, Socket};
 use crate::serving::span::Span;
 use crate::serving::why_left::{LastWords, WhyLeft};
-use crate::spelled::Spelled;
 use broker_locks::Side;
-use log::{Log, info, warn};
+use log::Log;
 use std::alloc::Global;
 use std::sync::{Arc, Wait};
 use std::thread::yield_now;
@@ -30,13 +30,6 @@ use std::time::{Clock, Duration};
 
 /// So many reads are heard in a row, at most, before what is there for the connection is looked for again (our choice).
 const MAX_READS: u32 = 4;
-
-/// After so many rounds in a row that found something to do, the poll is asked what else is there (our choice).
-const MAX_ROUNDS: u32 = 16;
-
-/// A thread that found something to do in so many rounds lets others run once, before it sleeps: they may have more for
-/// it, and needn't wake it then (our choice).
-const ROUNDS_TO_YIELD: u32 = 2;
 
 /// What was read is heard by pieces of so many octets (our choice).
 const PIECE: usize = 16_384;
@@ -76,21 +69,6 @@ const TO_CONNECT: u64 = 10_000_000_000;
 /// After so many nanoseconds of sleep a connection is idle that has much room for its reads (our choice): one second.
 const TO_IDLE: u64 = 1_000_000_000;
 
-/// What one round of a connection's thread came to.
-#[derive(Clone, Copy)]
-enum Round {
-    /// There may be more to do.
-    Busy,
-    /// There is nothing to do.
-    Idle,
-    /// The connection leaves.
-    Leaving,
-    /// The server ends: it ends at once, and is told nothing more.
-    Closing,
-    /// A write has failed, and all that came was done: likewise.
-    Gone,
-}
-
 /// What wakes a thread.
 #[derive(Clone, Copy)]
 enum Sleep {
@@ -123,27 +101,20 @@ impl<'a, 'b, R: Wait + Log + Clock, W: Side, T: Side> Connection<'a, 'b, R, W, T
     /// was read and done.
     fn round(&mut self, desk: &mut Desk<'a, R, W, T>) -> Round {
         let told = self.outfit.bell.hears();
-        if self.hub.is_closing() {
+        if self.hub.crowd.is_closing() {
             return Round::Closing;
         }
         let mut busy = false;
         if told || desk.talk.has_more() {
             busy = desk.deliver();
         }
-        let mut sent = desk.write();
-        if desk.note_stuck()
-            && let Some(time) = desk.calls.time_to_take()
-        {
-            let is_passed_over = desk.is_passed_over();
-            sent = sent.saturating_add(desk.make_room(is_passed_over, time));
-        }
+        busy = desk.write_out() > 0 || busy;
         if desk.talk.is_leaving() {
             return Round::Leaving;
         }
-        desk.calls.end_stay();
+        desk.end_stay();
         match self.hear(desk) {
-            Round::Idle if busy || sent > 0 || desk.calls.is_within() => Round::Busy,
-            Round::Idle if desk.is_gone() && !desk.talk.is_held() => Round::Gone,
+            Round::Idle => desk.idle_round(busy),
             round => round,
         }
     }
@@ -157,16 +128,12 @@ impl<'a, 'b, R: Wait + Log + Clock, W: Side, T: Side> Connection<'a, 'b, R, W, T
             match desk.read(self.outfit.room.as_mut_slice()) {
                 Came::Octets(n) => {
                     self.hear_read(desk, n);
-                    self.tell_ignored(desk);
-                    desk.note_held();
-                    self.outfit.note_read(n);
                     round = Round::Busy;
                 }
                 Came::Again => round = Round::Busy,
                 Came::Nothing => break,
                 Came::End => {
-                    desk.calls.turn_topics();
-                    desk.talk.lose(&mut desk.calls);
+                    desk.lose();
                     return Round::Leaving;
                 }
             }
@@ -175,7 +142,7 @@ impl<'a, 'b, R: Wait + Log + Clock, W: Side, T: Side> Connection<'a, 'b, R, W, T
             }
         }
         if desk.calls.commits() > 0 && !self.stands_in(desk) {
-            desk.calls.turn_topics();
+            desk.turn_topics();
         }
         round
     }
@@ -186,10 +153,9 @@ impl<'a, 'b, R: Wait + Log + Clock, W: Side, T: Side> Connection<'a, 'b, R, W, T
         ensures same { self.new ≡ record self.old { asleep = self.new.asleep } }
         ensures talk { desk.new.talk ≡ desk.old.talk }
     {
-        if !desk.calls.may_stand_in() {
+        if !desk.turn_for(&mut self.asleep) {
             return false;
         }
-        desk.calls.turn_for(&mut self.asleep);
         for seat in self.asleep.iter() {
             if !self.desks.stand_in(seat) {
                 seat.ring();
@@ -199,9 +165,17 @@ impl<'a, 'b, R: Wait + Log + Clock, W: Side, T: Side> Connection<'a, 'b, R, W, T
         true
     }
 
+    /// Does what was read, so many octets of the room, asks for.
+    fn hear_read(&mut self, desk: &mut Desk<'a, R, W, T>, n: usize) {
+        self.hear_pieces(desk, n);
+        self.tell_ignored(desk);
+        desk.note_held();
+        self.outfit.note_read(n);
+    }
+
     /// Does what the first so many octets of the room ask for, piece by piece; what finds no room is tried again behind
     /// each.
-    fn hear_read(&mut self, desk: &mut Desk<'a, R, W, T>, n: usize) {
+    fn hear_pieces(&mut self, desk: &mut Desk<'a, R, W, T>, n: usize) {
         for from in (0..n).step_by(PIECE) {
             self.hear_piece(desk, from, end_of_piece(from, n));
             desk.note_heard(n);
@@ -215,8 +189,7 @@ impl<'a, 'b, R: Wait + Log + Clock, W: Side, T: Side> Connection<'a, 'b, R, W, T
             × HearsOrKeeps (slice_range self.now.outfit.room.items from to) desk.old.talk asked desk.new.talk }
     {
         if let Some(piece) = self.outfit.room.as_slice().get(from..to) {
-            desk.calls.add_heard(piece.len());
-            desk.talk.hear(&mut desk.calls, piece);
+            desk.hear(piece);
         }
     }
 
@@ -224,15 +197,15 @@ impl<'a, 'b, R: Wait + Log + Clock, W: Side, T: Side> Connection<'a, 'b, R, W, T
     /// waits for. All that was read was done then, or waits.
     #[inline(always)]
     fn go_on(&mut self, desk: &mut Desk<'a, R, W, T>) -> Round
-        ensures { result ≡ Idle → is_some desk.new.talk.held ≡ true → desk.new.calls.commits ≡ 0 }
+        ensures { result ≡ Idle → is_some desk.new.talk.held ≡ true → desk.new.calls.owed.commits ≡ 0 }
     {
         if !desk.talk.is_held() {
-            desk.calls.rest();
+            desk.rest();
             return Round::Idle;
         }
         let round = self.tries(desk);
         self.tell_wait(desk);
-        desk.calls.rest();
+        desk.rest();
         round
     }
 
@@ -241,7 +214,7 @@ impl<'a, 'b, R: Wait + Log + Clock, W: Side, T: Side> Connection<'a, 'b, R, W, T
     /// is there for it is taken once none waits: a lag that was found meanwhile is told then.
     #[inline(never)]
     fn tries(&mut self, desk: &mut Desk<'a, R, W, T>) -> Round
-        ensures { result ≡ Idle → desk.new.calls.commits ≡ 0 }
+        ensures { result ≡ Idle → desk.new.calls.owed.commits ≡ 0 }
     {
         let rt = self.rt;
         for _ in rt.forever() {
@@ -256,12 +229,12 @@ impl<'a, 'b, R: Wait + Log + Clock, W: Side, T: Side> Connection<'a, 'b, R, W, T
     /// unless it is tried again.
     #[inline(always)]
     fn try_once(&mut self, desk: &mut Desk<'a, R, W, T>) -> Option<Round>
-        ensures { IfSome result (λ round. round ≡ Idle → desk.new.calls.commits ≡ 0) }
+        ensures { IfSome result (λ round. round ≡ Idle → desk.new.calls.owed.commits ≡ 0) }
     {
         self.turn_owed(desk);
-        desk.talk.go_on(&mut desk.calls);
+        desk.go_on();
         if !desk.talk.is_held() {
-            self.end_wait(desk);
+            desk.end_wait();
             return Some(Round::Busy);
         }
         if self.outfit.bell.is_told() {
@@ -280,46 +253,25 @@ impl<'a, 'b, R: Wait + Log + Clock, W: Side, T: Side> Connection<'a, 'b, R, W, T
         ensures talk { desk.new.talk ≡ desk.old.talk }
     {
         if desk.calls.commits() > 0 && !self.stands_in(desk) {
-            desk.calls.turn_now();
+            desk.turn_now();
         }
-    }
-
-    /// What waited for room was done: what is there for it is taken.
-    fn end_wait(&mut self, desk: &mut Desk<'a, R, W, T>)
-        ensures { (asked : List BrokerRow) × (any : Bool)
-            × DeliversRound desk.old.talk asked any desk.new.talk }
-    {
-        desk.deliver();
-        desk.note_held();
     }
 
     /// Says whom it waits for, if that is to be said.
     #[inline(never)]
     fn tell_wait(&self, desk: &mut Desk<'a, R, W, T>)
         ensures talk { desk.new.talk ≡ desk.old.talk }
-        ensures commits { desk.new.calls.commits ≡ desk.old.calls.commits }
+        ensures commits { desk.new.calls.owed.commits ≡ desk.old.calls.owed.commits }
     {
-        if let Some(news) = desk.calls.take_news() {
-            let name = Spelled(desk.talk.name(news.topic).unwrap_or(&[]));
-            let passed_over = news.passed_over;
-            match news.connection {
-                Some(connection) => warn!(self.rt; target: "serve",
-                    "senders to the topic {name} wait for connection {connection}; {passed_over} subscriptions passed over"),
-                None => warn!(self.rt; target: "serve",
-                    "senders to the topic {name} wait; {passed_over} subscriptions passed over"),
-            }
+        if let Some(news) = desk.take_news() {
+            say_waits(self.rt, desk.talk.name(news.topic).unwrap_or(&[]), news);
         }
     }
 
     /// Waits for the socket or the bell, so long at most. Refused where the poll failed, which ends the server.
     fn wait(&mut self, time: Option<Duration>) -> Result<(), WhyLeft> {
-        if self
-            .outfit
-            .poll
-            .poll(&mut self.outfit.events, time)
-            .is_err()
-        {
-            self.hub.fail(self.rt);
+        if self.outfit.wait(time).is_err() {
+            self.hub.crowd.fail(self.rt);
             return Err(WhyLeft::PollFailed);
         }
         Ok(())
@@ -360,44 +312,33 @@ impl<'a, 'b, R: Wait + Log + Clock, W: Side, T: Side> Connection<'a, 'b, R, W, T
         unreachable!()
     }
 
-    /// Works at its desk until there is nothing to do: by what it is woken then, or `None` where the connection leaves.
-    /// The poll is asked what else is there while there is something to do, too: a write may go on, or the peer say
-    /// something.
+    /// Works at its desk, as `work_at` says; there it finds none once the connection has left.
     fn work(&mut self) -> Result<Option<Sleep>, WhyLeft> {
-        let rt = self.rt;
         let Some(guarded) = self.desks.get(self.outfit.peer.desk) else {
             return Ok(None);
         };
-        let mut guard = guarded.lock(rt);
-        let Some(desk) = &mut *guard else {
-            return Ok(None);
-        };
-        desk.socket.note_waited(&self.outfit.events);
-        desk.calls.set_timed(self.outfit.events.is_empty());
-        if self.outfit.events.is_empty() {
-            self.outfit.narrow();
+        let mut guard = guarded.lock(self.rt);
+        match &mut *guard {
+            Some(desk) => self.work_at(desk),
+            None => Ok(None),
         }
-        let mut rounds = 0u32;
-        let mut yielded_at = 0u32;
+    }
+
+    /// Works at this desk until there is nothing to do: by what it is woken then, or `None` where the connection leaves.
+    fn work_at(&mut self, desk: &mut Desk<'a, R, W, T>) -> Result<Option<Sleep>, WhyLeft> {
+        desk.note_waited(&self.outfit.events);
+        self.outfit.note_waited();
+        let rt = self.rt;
+        let mut rounds = Rounds::new();
         for _ in rt.forever() {
             match self.round(desk) {
-                Round::Busy => {
-                    rounds = rounds.wrapping_add(1);
-                    if desk.socket.is_blocked() || rounds % MAX_ROUNDS == 0 {
-                        self.show(desk);
-                        self.look(desk)?;
-                    }
-                }
+                Round::Busy => self.look_at_times(desk, rounds.add())?,
                 Round::Leaving => return Ok(None),
                 Round::Closing => return Err(WhyLeft::Closing),
                 Round::Gone => return Err(WhyLeft::WriteFailed),
-                Round::Idle if rounds.wrapping_sub(yielded_at) >= ROUNDS_TO_YIELD => {
-                    yielded_at = rounds;
-                    yield_now();
-                }
+                Round::Idle if rounds.yields() => yield_now(),
                 Round::Idle => {
-                    rounds = 0;
-                    yielded_at = 0;
+                    rounds = Rounds::new();
                     self.show(desk);
                     if self.outfit.bell.sleeps() {
                         return self.sleep_of(desk);
@@ -408,10 +349,24 @@ impl<'a, 'b, R: Wait + Log + Clock, W: Side, T: Side> Connection<'a, 'b, R, W, T
         unreachable!()
     }
 
+    /// The poll is asked what else is there, though there is something to do, where it is to be, and where the system takes
+    /// nothing: a write may go on, or the peer say something.
+    fn look_at_times(
+        &mut self,
+        desk: &mut Desk<'a, R, W, T>,
+        is_time: bool,
+    ) -> Result<(), WhyLeft> {
+        if is_time || desk.socket.is_blocked() {
+            self.show(desk);
+            self.look(desk)?;
+        }
+        Ok(())
+    }
+
     /// Shows what it did, for the log's figures.
     fn show(&self, desk: &Desk<'a, R, W, T>) {
         desk.show();
-        self.hub.stir();
+        self.hub.crowd.stir();
     }
 
     /// By what it is woken, as there is nothing to do. Refused where its CONNECT didn't come in time, and where the
@@ -453,20 +408,13 @@ impl<'a, 'b, R: Wait + Log + Clock, W: Side, T: Side> Connection<'a, 'b, R, W, T
             if desk.write() > 0 {
                 polls = 0;
             }
-            if desk.is_gone() {
-                return LastWords::WriteFailed;
-            }
-            if desk.talk.wire().is_empty() {
-                return if desk.talk.is_cut() {
-                    LastWords::Cut
-                } else {
-                    LastWords::All
-                };
+            if let Some(last) = desk.last_words() {
+                return last;
             }
             if polls >= MAX_POLLS {
                 return LastWords::GivenUp;
             }
-            if self.hub.is_closing() || self.wait(poll_time()).is_err() {
+            if self.hub.crowd.is_closing() || self.wait(poll_time()).is_err() {
                 return LastWords::Closing;
             }
             desk.socket.note_waited(&self.outfit.events);
@@ -478,26 +426,23 @@ impl<'a, 'b, R: Wait + Log + Clock, W: Side, T: Side> Connection<'a, 'b, R, W, T
     /// Says that nothing more is written, and drops what the peer still sends, until it closes its side, some polls
     /// brought nothing, or ten seconds are over: closing at once would reset the connection, and the peer could lose
     /// what it was told.
-    fn hear_out(&mut self, desk: &mut Desk<'a, R, W, T>) {
-        desk.socket.shut();
-        if desk.socket.register_reads(&self.outfit.poll).is_err() {
+    fn hear_out(&mut self, socket: &mut Socket) {
+        socket.shut();
+        if socket.register_reads(&self.outfit.poll).is_err() {
             return;
         }
         let began = Moment::now(self.rt);
         let mut polls = 0u32;
         for _ in 0..LAST_READS {
-            match desk.socket.read(self.outfit.room.as_mut_slice()) {
+            match socket.read(self.outfit.room.as_mut_slice()) {
                 Came::End => return,
                 Came::Octets(_) | Came::Again => {}
                 Came::Nothing => {
-                    if polls >= LAST_POLLS
-                        || Moment::now(self.rt).since(began).0 >= LAST_TIME.0
-                        || self.hub.is_closing()
-                        || self.wait(poll_time()).is_err()
+                    if polls >= LAST_POLLS || self.is_over(began) || self.wait(poll_time()).is_err()
                     {
                         return;
                     }
-                    desk.socket.note(&self.outfit.events);
+                    socket.note(&self.outfit.events);
                     if self.outfit.events.is_empty() {
                         polls = polls.saturating_add(1);
                     }
@@ -506,13 +451,18 @@ impl<'a, 'b, R: Wait + Log + Clock, W: Side, T: Side> Connection<'a, 'b, R, W, T
         }
     }
 
+    /// Whether a peer that is heard out since this moment is heard no longer.
+    fn is_over(&self, began: Moment) -> bool {
+        Moment::now(self.rt).since(began).0 >= LAST_TIME.0 || self.hub.crowd.is_closing()
+    }
+
     /// Says what it asked for that is ignored, each kind once.
     #[inline(always)]
     fn tell_ignored(&mut self, desk: &Desk<'a, R, W, T>) {
         let asked = desk.talk.ignored();
         let unsaid = asked.without(self.said);
         if unsaid.is_any() {
-            say_ignored(self.rt, self.hub, self.outfit.peer, unsaid);
+            say_ignored(self.rt, &self.hub.crowd, self.outfit.peer, unsaid);
             self.said = asked;
         }
     }
@@ -521,9 +471,7 @@ impl<'a, 'b, R: Wait + Log + Clock, W: Side, T: Side> Connection<'a, 'b, R, W, T
     fn tell_lag(&self, desk: &Desk<'a, R, W, T>) {
         if let Some(Exit::Error(ConversationFault::Lagged { topic, items })) = desk.talk.exit() {
             let name = desk.talk.name(topic).unwrap_or(&[]);
-            let peer = self.outfit.peer;
-            info!(self.rt; target: "serve",
-                "{peer} is told that it lagged at the topic {}: {items} items behind", Spelled(name));
+            say_told_lag(self.rt, self.outfit.peer, name, items);
         }
     }
 
@@ -562,15 +510,12 @@ impl<'a, 'b, R: Wait + Log + Clock, W: Side, T: Side> Connection<'a, 'b, R, W, T
     fn leave(&mut self, ended: Result<(), WhyLeft>, desk: &mut Desk<'a, R, W, T>) -> WhyLeft {
         self.tell_ignored(desk);
         self.tell_lag(desk);
-        desk.talk.lose(&mut desk.calls);
-        desk.calls.end_wait();
-        desk.calls.end_held();
-        desk.calls.turn_topics();
+        desk.leave();
         match (ended, desk.talk.exit()) {
             (Ok(()), Some(exit)) => {
                 let last = self.tell_last(desk);
                 if let LastWords::All | LastWords::Cut = last {
-                    self.hear_out(desk);
+                    self.hear_out(&mut desk.socket);
                 }
                 WhyLeft::By(exit, last)
             }
@@ -590,9 +535,9 @@ pub(crate) fn attend<'a, 'b, R: Wait + Log + Clock, W: Side, T: Side>(
     socket: Socket,
 ) {
     let peer = outfit.peer;
-    say_came(rt, hub, peer);
+    say_came(rt, &hub.crowd, peer);
     let left = talk_over(rt, alloc, hub, desks, outfit, socket);
-    say_left(rt, hub, peer, &left);
+    say_left(rt, &hub.crowd, peer, &left);
     desks.free_number(rt, peer.desk);
 }
 
@@ -629,7 +574,7 @@ fn talk_over<'a, 'b, R: Wait + Log + Clock, W: Side, T: Side>(
         }
     };
     hub.waiters().set_bell(rt, desk, None);
-    hub.leave(rt, number, &left);
+    hub.crowd.leave(rt, number, &left);
     left
 }
 
@@ -642,20 +587,9 @@ fn desk_of<'a, R: Wait + Log + Clock, W: Side, T: Side>(
     outfit: &Outfit,
     socket: Socket,
 ) -> Result<Box<Desk<'a, R, W, T>>, Socket> {
-    let Ok(bell) = outfit.bell.clone() else {
+    let Some(calls) = calls_of(rt, alloc, hub, outfit) else {
         return Err(socket);
     };
-    let Ok(rung) = outfit.bell.clone() else {
-        return Err(socket);
-    };
-    let Ok(meter) = hub.meter(alloc) else {
-        return Err(socket);
-    };
-    let Ok(worker) = hub.running.take_worker(rt) else {
-        return Err(socket);
-    };
-    hub.waiters().set_bell(rt, outfit.peer.desk, Some(rung));
-    let calls = Calls::new(rt, alloc, hub, outfit.peer, bell, meter, worker);
     let talk = Conversation::new(alloc, hub.running.capacity());
     match Box::new(alloc, Desk::new(socket, calls, talk)) {
         Ok(desk) => Ok(desk),
@@ -665,4 +599,20 @@ fn desk_of<'a, R: Wait + Log + Clock, W: Side, T: Side>(
             Err(socket)
         }
     }
+}
+
+/// What it asks of the broker, at the hub's waiters, too, if there is memory for that.
+fn calls_of<'a, R: Wait + Log + Clock, W: Side, T: Side>(
+    rt: &'a R,
+    alloc: Global,
+    hub: &'a Hub<R, W, T>,
+    outfit: &Outfit,
+) -> Option<Calls<'a, R, W, T>> {
+    let bell = outfit.bell.clone().ok()?;
+    let rung = outfit.bell.clone().ok()?;
+    let meter = hub.crowd.meter(alloc).ok()?;
+    let worker = hub.running.take_worker(rt).ok()?;
+    let peer = outfit.peer;
+    hub.waiters().set_bell(rt, peer.desk, Some(rung));
+    Some(Calls::new(rt, alloc, hub, peer, bell, meter, worker))
 }

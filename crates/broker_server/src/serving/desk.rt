@@ -1,21 +1,30 @@
 //! What a connection's thread works at.
 
-ghost use Rattle.std.specs.Prelude.{◌≡◌, ◌<◌, ◌-◌, ◌==◌, ◌&&◌, nat_le, true, false, List, [], IfSome, None, Some, is_some};
+ghost use Rattle.std.specs.Prelude.{◌≡◌, ◌<◌, ◌≤◌, ◌-◌, ◌==◌, ◌&&◌, nat_le, Bool, true, false, List, [], IfSome, None, Some, is_some};
 ghost use Rattle.broker_server.specs.BrokerRows.{BrokerRow};
+ghost use Rattle.broker_server.specs.Conversations.{IsLost};
 ghost use Rattle.broker_server.specs.Delivering.{DeliversRound, may_read};
+ghost use Rattle.broker_server.specs.Hearing.{GoesOn, HearsOrKeeps};
+ghost use Rattle.broker_server.specs.Owing.{nothing_owed};
 ghost use Rattle.broker_server.specs.Sockets.{SocketReads, SocketWrites};
+ghost use Rattle.broker_server.specs.declared.serving.round.Round.TheVariants.{Busy};
 ghost use Rattle.broker_server.specs.declared.serving.socket.Came.TheVariants.{Nothing};
 
 use crate::conversation::{BrokerCalls, Conversation};
 use crate::serving::activity::Activity;
 use crate::serving::calls::Calls;
 use crate::serving::moment::Moment;
+use crate::serving::round::Round;
+use crate::serving::seat::Seat;
 use crate::serving::socket::{Came, Socket};
 use crate::serving::span::Span;
 use crate::serving::streak::Streak;
+use crate::serving::wait_news::WaitNews;
+use crate::serving::why_left::LastWords;
 use broker_locks::Side;
 use log::Log;
-use std::sync::Wait;
+use mio::Events;
+use std::sync::{Arc, Wait};
 use std::time::Clock;
 
 /// So long a connection that has lagged may take nothing (our choice): a minute.
@@ -80,6 +89,149 @@ impl<'a, R: Wait + Log + Clock, W: Side, T: Side> Desk<'a, R, W, T> {
     {
         self.calls.bell().set_stuck(false);
         self.talk.deliver(&mut self.calls)
+    }
+
+    /// What waited for room was done: what is there for it is taken.
+    pub(crate) fn end_wait(&mut self)
+        ensures { (asked : List BrokerRow) × (any : Bool)
+            × DeliversRound self.old.talk asked any self.new.talk }
+    {
+        self.deliver();
+        self.note_held();
+    }
+
+    /// Takes a piece that came, and does what it asks for, up to a transaction that finds no room.
+    pub(crate) fn hear(&mut self, piece: &[u8])
+        ensures hears { (asked : List BrokerRow) × HearsOrKeeps piece.now self.old.talk asked self.new.talk }
+        ensures socket { self.new.socket ≡ self.old.socket }
+    {
+        self.calls.add_heard(piece.len());
+        self.talk.hear(&mut self.calls, piece);
+    }
+
+    /// Asks again for the room of the transaction that waits for it, and goes on behind it where there is some.
+    pub(crate) fn go_on(&mut self)
+        ensures goes { (asked : List BrokerRow) × GoesOn self.old.talk asked self.new.talk }
+        ensures socket { self.new.socket ≡ self.old.socket }
+    {
+        self.talk.go_on(&mut self.calls);
+    }
+
+    /// It goes on with nothing that was read: where it waits for no room, it isn't the first of a line any more.
+    #[inline(always)]
+    pub(crate) fn rest(&mut self)
+        ensures { self.new ≡ record self.old { calls = record self.old.calls { waiting = self.new.calls.waiting } } }
+    {
+        self.calls.rest();
+    }
+
+    /// Turns the topics of what was committed, or refused, since that was done.
+    pub(crate) fn turn_now(&mut self)
+        ensures { self.new ≡ record self.old { calls = record self.old.calls { owed = nothing_owed } } }
+    {
+        self.calls.turn_now();
+    }
+
+    /// Turns them, or has their heads do so.
+    pub(crate) fn turn_topics(&mut self)
+        ensures { self.new ≡ record self.old { calls = record self.old.calls { owed = nothing_owed } } }
+    {
+        self.calls.turn_topics();
+    }
+
+    /// Turns them where it may stand in for those who sleep, who are put into this list; whether that was so.
+    pub(crate) fn turn_for(&mut self, asleep: &mut Vec<Arc<Seat>>) -> bool
+        ensures turned { result ≡ true
+            → self.new ≡ record self.old { calls = record self.old.calls { owed = nothing_owed } } }
+        ensures heard { result ≡ true → self.old.calls.owed.heard ≤ 1048576 }
+        ensures same { result ≡ false → self.new ≡ self.old }
+    {
+        if !self.calls.may_stand_in() {
+            return false;
+        }
+        self.calls.turn_for(asleep);
+        true
+    }
+
+    /// What is to be said of those whom it waits for: once.
+    pub(crate) fn take_news(&mut self) -> Option<WaitNews>
+        ensures news { result ≡ self.old.calls.waiting.wait.news }
+        ensures same { self.new ≡ record self.old { calls = record self.old.calls { waiting = self.new.calls.waiting } } }
+    {
+        self.calls.take_news()
+    }
+
+    /// It has taken and written since all that it read was done: it leaves the turnstile within which it is, if it is.
+    #[inline(always)]
+    pub(crate) fn end_stay(&mut self)
+        ensures { self.new ≡ record self.old { calls = record self.old.calls { front = self.new.calls.front } } }
+    {
+        self.calls.end_stay();
+    }
+
+    /// Its thread has waited: for these events, or for a time alone.
+    pub(crate) fn note_waited(&mut self, events: &Events)
+        ensures { self.new.talk ≡ self.old.talk }
+    {
+        self.socket.note_waited(events);
+        self.calls.set_timed(events.is_empty());
+    }
+
+    /// Its peer says nothing more: what it owes is turned, and what is open ends.
+    pub(crate) fn lose(&mut self)
+        ensures { (asked : List BrokerRow) × IsLost self.old.talk asked self.new.talk }
+    {
+        self.calls.turn_topics();
+        self.talk.lose(&mut self.calls);
+    }
+
+    /// It leaves: what is open ends, what it holds is given back, and what it owes is turned.
+    pub(crate) fn leave(&mut self)
+        ensures lost { (asked : List BrokerRow) × IsLost self.old.talk asked self.new.talk }
+        ensures owes { self.new.calls.owed ≡ nothing_owed }
+    {
+        self.talk.lose(&mut self.calls);
+        self.calls.end_wait();
+        self.calls.end_held();
+        self.calls.turn_topics();
+    }
+
+    /// What a round came to that heard nothing: whether it took or wrote something is said.
+    pub(crate) fn idle_round(&self, busy: bool) -> Round
+        ensures { busy ≡ true → result ≡ Busy }
+    {
+        if busy || self.calls.is_within() {
+            Round::Busy
+        } else if self.is_gone() && !self.talk.is_held() {
+            Round::Gone
+        } else {
+            Round::Idle
+        }
+    }
+
+    /// What its peer was told last, where nothing more is to be written.
+    pub(crate) fn last_words(&self) -> Option<LastWords> {
+        if self.is_gone() {
+            Some(LastWords::WriteFailed)
+        } else if !self.talk.wire().is_empty() {
+            None
+        } else if self.talk.is_cut() {
+            Some(LastWords::Cut)
+        } else {
+            Some(LastWords::All)
+        }
+    }
+
+    /// Writes what waits; and where it is stuck while memory is short, makes room, if it has to. How many octets went out.
+    pub(crate) fn write_out(&mut self) -> usize {
+        let sent = self.write();
+        if self.note_stuck()
+            && let Some(time) = self.calls.time_to_take()
+        {
+            let is_passed_over = self.is_passed_over();
+            return sent.saturating_add(self.make_room(is_passed_over, time));
+        }
+        sent
     }
 
     /// Writes what waits, as far as the system takes it, and notes at what pace that is; how many octets went out.
@@ -184,7 +336,7 @@ impl<'a, R: Wait + Log + Clock, W: Side, T: Side> Desk<'a, R, W, T> {
     /// Memory is short, and it is stuck. A write is tried again: how many octets went out. Where more is there still than the
     /// system takes, and one of its subscriptions is passed over, or nothing was taken for so long, it makes room: it leaves.
     #[inline(never)]
-    pub(crate) fn make_room(&mut self, is_passed_over: bool, time: Span) -> usize
+    fn make_room(&mut self, is_passed_over: bool, time: Span) -> usize
         ensures none { self.old.talk.more ≡ false → self.new.talk ≡ record self.old.talk { wire = self.new.talk.wire } }
         ensures reads { is_passed_over ≡ false → 0 < result
             → self.new.talk ≡ record self.old.talk { wire = self.new.talk.wire } }
@@ -219,7 +371,7 @@ impl<'a, R: Wait + Log + Clock, W: Side, T: Side> Desk<'a, R, W, T> {
     }
 
     /// Whether one of its subscriptions is passed over.
-    pub(crate) fn is_passed_over(&self) -> bool {
+    fn is_passed_over(&self) -> bool {
         for at in 0..usize::MAX {
             let Some(sub) = self.talk.sub_at(at) else {
                 return false;
@@ -232,7 +384,7 @@ impl<'a, R: Wait + Log + Clock, W: Side, T: Side> Desk<'a, R, W, T> {
     }
 
     /// Whether a write has failed.
-    pub(crate) fn is_gone(&self) -> bool
+    fn is_gone(&self) -> bool
         ensures { result ≡ self.now.socket.gone }
     {
         self.socket.is_gone()
@@ -244,7 +396,8 @@ impl<'a, R: Wait + Log + Clock, W: Side, T: Side> Desk<'a, R, W, T> {
           sends = result.sends;
           octets_in = self.now.octets_in;
           octets_out = self.now.octets_out;
-          subscriptions = self.now.calls.subs;
+          passed_over = self.now.calls.waiting.passed_over;
+          subscriptions = self.now.calls.seating.subs;
           waiting = result.waiting;
           behind = result.behind;
         } }
@@ -274,7 +427,7 @@ impl<'a, R: Wait + Log + Clock, W: Side, T: Side> Desk<'a, R, W, T> {
     }
 
     /// It is stuck where more is there than the system takes: it looks again once that takes some. Whether it is.
-    pub(crate) fn note_stuck(&self) -> bool
+    fn note_stuck(&self) -> bool
         ensures { result ≡ (self.now.talk.more && self.now.socket.blocked) }
     {
         let is_stuck = self.is_stuck();

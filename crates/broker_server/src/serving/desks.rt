@@ -2,8 +2,8 @@
 
 ghost use Rattle.std.specs.Prelude.{◌≡◌, ◌≤◌, false, length, vec_len, IfOk};
 
+use crate::serving::crowd::MAX_CONNECTIONS;
 use crate::serving::desk::Desk;
-use crate::serving::hub::MAX_CONNECTIONS;
 use crate::serving::seat::Seat;
 use broker_locks::Side;
 use crossbeam_queue::ArrayQueue;

@@ -6,28 +6,23 @@ ghost use Rattle.mcast_txn.specs.Transaction.{topics_of};
 ghost use Rattle.broker_server.specs.Lines.{IsRoomFrom};
 
 use crate::serving::bell::Bell;
+use crate::serving::crowd::Crowd;
 use crate::serving::figures::Figures;
 use crate::serving::head::Head;
 use crate::serving::room_made::RoomMade;
 use crate::serving::running::Running;
 use crate::serving::seat::Seat;
 use crate::serving::topic_seats::TopicSeats;
-use crate::serving::totals::Totals;
 use crate::serving::unturned::Unturned;
 use crate::serving::waiters::Waiters;
-use crate::serving::why_left::WhyLeft;
 use broker_locks::{NoRoom, PartOctets, Reserved, Side};
 use delivery::MAX_TOPICS;
-use mcast_txn::{Holdings, Meter, NoMemory, Topic, Txn};
+use mcast_txn::{NoMemory, Topic, Txn};
 use std::alloc::{AllocError, Global};
-use std::sync::atomic::{AtomicBool, AtomicU64, Ordering};
-use std::sync::{Arc, Mutex, Wait};
+use std::sync::{Arc, Wait};
 
 /// How many threads turn topics: topic t is turned by the head t mod 2.
 const HEADS: usize = 2;
-
-/// The most connections that are there at once (our choice).
-pub(crate) const MAX_CONNECTIONS: u64 = 256;
 
 /// A sender's thread may stand in for so many seats at once that sleep (our choice).
 const MOST_ASLEEP: usize = 32;
@@ -39,20 +34,8 @@ pub(crate) struct Hub<R: Wait, W: Side, T: Side> {
     topics: Vec<TopicSeats>,
     /// What connections wait for room with.
     waiters: Waiters,
-    /// How many connections are behind: of whose octets the system took less than there was, and hasn't taken all since.
-    behind: AtomicU64,
-    /// What they hold together.
-    holdings: Arc<Holdings>,
     heads: Vec<Head>,
-    /// The bell of each connection that is there.
-    connections: Mutex<Vec<(u64, Arc<Bell>)>>,
-    /// The bell of the thread that accepts.
-    door: Bell,
-    totals: Totals,
-    /// Whether the server ends: connections go on no longer.
-    closing: AtomicBool,
-    /// Whether a poll failed.
-    failed: AtomicBool,
+    pub(crate) crowd: Crowd,
 }
 
 impl<R: Wait, W: Side, T: Side> Hub<R, W, T> {
@@ -62,26 +45,16 @@ impl<R: Wait, W: Side, T: Side> Hub<R, W, T> {
         running: Running<R, W, T>,
         door: Bell,
     ) -> Result<Hub<R, W, T>, NoMemory> {
-        let holdings = Arc::new(alloc, Holdings::new())?;
-        let mut heads = Vec::new(alloc);
-        for _ in 0..HEADS {
-            heads.push(Head::new(alloc, MAX_TOPICS)?)?;
-        }
+        let crowd = Crowd::new(alloc, door)?;
+        let heads = new_heads(alloc)?;
         let topics = seats_of(alloc, MAX_TOPICS, running.half())?;
-        let connections = Vec::with_capacity(alloc, MAX_CONNECTIONS as usize)?;
         let waiters = Waiters::new(alloc, &running.broker)?;
         Ok(Hub {
             running,
             topics,
             waiters,
-            behind: AtomicU64::new(0),
-            holdings,
             heads,
-            connections: Mutex::new(connections),
-            door,
-            totals: Totals::new(),
-            closing: AtomicBool::new(false),
-            failed: AtomicBool::new(false),
+            crowd,
         })
     }
 
@@ -283,25 +256,6 @@ impl<R: Wait, W: Side, T: Side> Hub<R, W, T> {
         }
     }
 
-    /// Whether some connection is behind: the system took less than there was for it, and hasn't taken all since.
-    pub(crate) fn has_behind(&self) -> bool {
-        self.behind.load(Ordering::SeqCst) > 0
-    }
-
-    /// A connection is behind from now on, or isn't any more.
-    pub(crate) fn count_behind(&self, is_behind: bool) {
-        if is_behind {
-            self.behind.fetch_add(1, Ordering::SeqCst);
-        } else {
-            self.behind.fetch_sub(1, Ordering::SeqCst);
-        }
-    }
-
-    /// The meter of a connection that holds nothing.
-    pub(crate) fn meter(&self, alloc: Global) -> Result<Arc<Meter>, NoMemory> {
-        Ok(Arc::new(alloc, Meter::new(self.holdings.clone()?))?)
-    }
-
     /// Who has this seat is told of what the topic releases from now on.
     pub(crate) fn listen(&self, rt: &R, topic: Topic, seat: &Arc<Seat>) -> Result<(), AllocError>
         ensures { length self.now.topics.items ≤ topic.0 → result ≡ Ok tt }
@@ -319,88 +273,13 @@ impl<R: Wait, W: Side, T: Side> Hub<R, W, T> {
         }
     }
 
-    /// Adds a connection's bell, which rings when the server ends.
-    pub(crate) fn enter(
-        &self,
-        rt: &R,
-        connection: u64,
-        bell: &Arc<Bell>,
-    ) -> Result<(), AllocError> {
-        let bell = bell.clone()?;
-        self.connections.lock(rt).push((connection, bell))?;
-        Ok(())
-    }
-
-    /// Takes a connection's bell out, which left so: what it did is added to the totals under the same lock, so that it
-    /// is never counted twice.
-    pub(crate) fn leave(&self, rt: &R, connection: u64, left: &WhyLeft) {
-        let mut connections = self.connections.lock(rt);
-        let connections = &mut *connections;
-        let found = connections.iter().position(|entry| entry.0 == connection);
-        if let Some(at) = found
-            && at < connections.len()
-        {
-            let (_, bell) = connections.swap_remove(at);
-            self.totals.leaves(rt, bell.activity(), left);
-        }
-        self.stir();
-    }
-
     /// What the server did, and what is there.
     pub(crate) fn figures(&self, rt: &R) -> Figures {
         let topics = self.running.names_len(rt);
-        let connections = self.connections.lock(rt);
-        let mut figures = self.totals.past(rt);
-        for (_, bell) in connections.iter() {
-            figures.activity.add(bell.activity());
+        Figures {
+            topics,
+            ..self.crowd.figures(rt)
         }
-        figures.connections = connections.len() as u64;
-        figures.topics = topics;
-        figures
-    }
-
-    /// What is counted of those who left.
-    pub(crate) fn totals(&self) -> &Totals {
-        &self.totals
-    }
-
-    /// Something happened that the figures tell of: the accepting thread is told, where it waits for that.
-    pub(crate) fn stir(&self) {
-        if self.totals.stirs() {
-            self.door.ring();
-        }
-    }
-
-    /// Ends all connections.
-    pub(crate) fn close(&self, rt: &R) {
-        self.closing.store(true, Ordering::SeqCst);
-        for (_, bell) in self.connections.lock(rt).iter() {
-            bell.ring();
-        }
-    }
-
-    /// Whether the server ends.
-    pub(crate) fn is_closing(&self) -> bool {
-        self.closing.load(Ordering::SeqCst)
-    }
-
-    /// A poll failed: all connections end, and the accepting thread is told, and ends the server.
-    pub(crate) fn fail(&self, rt: &R) {
-        self.failed.store(true, Ordering::SeqCst);
-        self.close(rt);
-        self.door.ring();
-    }
-
-    /// Whether a poll failed.
-    pub(crate) fn has_failed(&self) -> bool {
-        self.failed.load(Ordering::SeqCst)
-    }
-
-    /// The bell of the accepting thread.
-    pub(crate) fn door(&self) -> &Bell
-        ensures { result.now ≡ self.now.door }
-    {
-        &self.door
     }
 
     /// The broker, once nobody else uses it: what room was kept is given back.
@@ -411,18 +290,21 @@ impl<R: Wait, W: Side, T: Side> Hub<R, W, T> {
             running,
             topics: _,
             waiters,
-            behind: _,
-            holdings: _,
             heads: _,
-            connections: _,
-            door: _,
-            totals: _,
-            closing: _,
-            failed: _,
+            crowd: _,
         } = self;
         waiters.close(rt, &running.broker);
         running
     }
+}
+
+/// Each of the heads, told of nothing.
+fn new_heads(alloc: Global) -> Result<Vec<Head>, NoMemory> {
+    let mut heads = Vec::new(alloc);
+    for _ in 0..HEADS {
+        heads.push(Head::new(alloc, MAX_TOPICS)?)?;
+    }
+    Ok(heads)
 }
 
 /// The seats of so many topics, at each of which so many may keep room.

@@ -10,6 +10,7 @@ use std::alloc::Global;
 use std::io;
 use std::net::Net;
 use std::sync::Arc;
+use std::time::Duration;
 
 /// So many octets are read at once, at most, while reads don't come full (our choice).
 const READ: usize = 4_096;
@@ -55,6 +56,18 @@ impl Outfit {
         })
     }
 
+    /// Waits for its socket or its bell, so long at most.
+    pub(crate) fn wait(&mut self, time: Option<Duration>) -> io::Result<()> {
+        self.poll.poll(&mut self.events, time)
+    }
+
+    /// It has waited: where nothing came in the time it is idle.
+    pub(crate) fn note_waited(&mut self) {
+        if self.events.is_empty() {
+            self.narrow();
+        }
+    }
+
     /// A read gave so many octets. Where it came full there is more room from now on, if there is memory for that.
     pub(crate) fn note_read(&mut self, n: usize)
         ensures same { self.new ≡ record self.old { room = self.new.room } }
@@ -83,7 +96,7 @@ impl Outfit {
     }
 
     /// The connection is idle: it gives back what room it has beyond that for a read that doesn't come full.
-    pub(crate) fn narrow(&mut self)
+    fn narrow(&mut self)
         ensures same { self.new ≡ record self.old { room = self.new.room } }
         ensures room { self.new.room.items ≡ take 4096 self.old.room.items }
     {

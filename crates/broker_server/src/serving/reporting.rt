@@ -43,14 +43,14 @@ impl Reporting {
         hub: &Hub<R, W, T>,
     ) {
         self.rest = None;
-        if hub.totals().is_resting() {
+        if hub.crowd.totals().is_resting() {
             return;
         }
         self.rest = self.minute.rest(Moment::now(rt));
         if self.rest.is_some() {
             return;
         }
-        hub.totals().rest();
+        hub.crowd.totals().rest();
         let figures = hub.figures(rt);
         if figures != self.said {
             say_figures(rt, &figures);

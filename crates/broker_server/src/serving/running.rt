@@ -9,7 +9,7 @@ ghost use Rattle.broker_server.specs.Judging.{Grows, IsFrameAccepted, IsFrameRef
 ghost use Rattle.broker_server.specs.Listening.{known_with};
 
 use crate::conversation::ConversationFault;
-use crate::serving::hub::MAX_CONNECTIONS;
+use crate::serving::crowd::MAX_CONNECTIONS;
 use crate::serving::naming::{may_make, step_by, step_by_all};
 use crate::serving::room_made::RoomMade;
 use broker_locks::{Broker, ServerFault, Side, Worker};

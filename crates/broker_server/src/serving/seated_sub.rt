@@ -1,12 +1,14 @@
 //! A connection's open subscription, with its seat.
 
-ghost use Rattle.std.specs.Prelude.{◌≡◌, false};
+ghost use Rattle.std.specs.Prelude.{◌≡◌, ◌<◌, ◌⊎◌, false};
 ghost use Rattle.std.specs.Arc.{arc_value};
 
+use crate::serving::hub::Hub;
+use crate::serving::room_made::RoomMade;
 use crate::serving::seat::Seat;
-use broker_locks::Subscribed;
+use broker_locks::{Side, Subscribed};
 use mcast_txn::Topic;
-use std::sync::Arc;
+use std::sync::{Arc, Wait};
 use std::sync::atomic::{AtomicBool, Ordering};
 
 /// A connection's open subscription, with its seat.
@@ -18,7 +20,7 @@ pub(crate) struct SeatedSub {
     /// The seat's flag.
     pub(crate) flag: u64,
     /// As how many items count that were taken since the topic was told how many were.
-    pub(crate) untold: u64,
+    untold: u64,
     /// Whether it has ended at its topic.
     over: AtomicBool,
     /// Whether it was said that it has lagged.
@@ -58,5 +60,54 @@ impl SeatedSub {
     /// It is said that it has lagged; whether that wasn't said before.
     pub(crate) fn say_lagged(&self) -> bool {
         !self.said.swap(true, Ordering::SeqCst)
+    }
+
+    /// It took something, or isn't waited for any more: who waits for room is rung.
+    pub(crate) fn room_made<R: Wait, W: Side, T: Side>(&self, rt: &R, hub: &Hub<R, W, T>) {
+        hub.room_made(rt, self.topic, RoomMade::At(self.begun.sub));
+    }
+
+    /// Tells the topic how many items of it were taken, and those who wait for room there.
+    #[inline(never)]
+    fn tell_taken<R: Wait, W: Side, T: Side>(&mut self, rt: &R, hub: &Hub<R, W, T>)
+        ensures { self.new ≡ record self.old { untold = 0 } }
+    {
+        self.untold = 0;
+        self.begun.taker.tell(rt);
+        self.seat.set_taken();
+        self.room_made(rt, hub);
+    }
+
+    /// An item of it was taken that counts as so many: that is told once so many were, half of what a queue holds.
+    pub(crate) fn count_taken<R: Wait, W: Side, T: Side>(
+        &mut self,
+        rt: &R,
+        hub: &Hub<R, W, T>,
+        count: u64,
+        most: u64,
+    )
+        ensures same { self.new ≡ record self.old { untold = self.new.untold } }
+        ensures few { (self.new.untold ≡ 0) ⊎ (self.new.untold < most) }
+    {
+        self.untold = self.untold.saturating_add(count);
+        if self.untold >= most {
+            self.tell_taken(rt, hub);
+        }
+    }
+
+    /// Its queue was found empty: what was taken is told, and where it was passed over, it is waited for again, if what is
+    /// there finds room.
+    pub(crate) fn find_empty<R: Wait, W: Side, T: Side>(&mut self, rt: &R, hub: &Hub<R, W, T>)
+        ensures { self.new ≡ record self.old { untold = 0 } }
+    {
+        if self.untold > 0 {
+            self.tell_taken(rt, hub);
+        }
+        if self.seat.take_passed_over() && !self.is_over() {
+            let broker = &hub.running.broker;
+            if !broker.wait_for(rt, self.topic, self.begun.sub) {
+                self.seat.set_passed_over();
+            }
+        }
     }
 }

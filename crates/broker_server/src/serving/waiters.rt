@@ -3,7 +3,7 @@
 ghost use Rattle.std.specs.Prelude.{◌≡◌, ◌≤◌, length, vec_len, IfOk};
 
 use crate::serving::bell::Bell;
-use crate::serving::hub::MAX_CONNECTIONS;
+use crate::serving::crowd::MAX_CONNECTIONS;
 use crate::serving::links::Links;
 use crate::serving::queue::Queue;
 use crate::serving::waiter::Waiter;

@@ -1,6 +1,6 @@
 //! A transaction that waits for room.
 
-ghost use Rattle.std.specs.Prelude.{◌≡◌, ◌≤◌, ◌++◌, ◌∷◌, [], true, length, slice_get, None, OnOk, OnErr};
+ghost use Rattle.std.specs.Prelude.{◌≡◌, ◌≤◌, ◌⊎◌, ◌++◌, ◌∷◌, [], true, length, slice_get, None, Some, IfSome, OnOk, OnErr};
 ghost use Rattle.mcast_txn.specs.Transaction.{topics_of};
 ghost use Rattle.broker_server.specs.Lines.{IsRoomAt};
 ghost use Rattle.broker_server.specs.declared.serving.room_step.RoomStep.TheVariants as step;
@@ -45,7 +45,7 @@ pub(crate) struct Waiting {
     lacked: u64,
     /// Whether its thread was woken by time alone.
     timed: bool,
-    /// How many it passed over, and weren't counted.
+    /// How many it passed over.
     passed_over: u64,
     pub(crate) wait: RoomWait,
 }
@@ -91,7 +91,7 @@ impl Waiting {
     }
 
     /// One to these topics comes: where it stays the first of a line, that is the line of the first of these.
-    pub(crate) fn comes<R: Wait + Clock, W: Side, T: Side>(
+    fn comes<R: Wait + Clock, W: Side, T: Side>(
         &mut self,
         asker: &Asker<'_, R, W, T>,
         topics: &[Topic],
@@ -113,13 +113,6 @@ impl Waiting {
         }
     }
 
-    /// One does from now on.
-    pub(crate) fn begin(&mut self)
-        ensures { self.new ≡ record self.old { held = true } }
-    {
-        self.held = true;
-    }
-
     /// Whether its thread was woken by time alone.
     pub(crate) fn set_timed(&mut self, timed: bool)
         ensures { self.new ≡ record self.old { timed = timed } }
@@ -127,19 +120,143 @@ impl Waiting {
         self.timed = timed;
     }
 
-    /// How many it passed over since this was asked last.
-    pub(crate) fn take_passed_over(&mut self) -> u64
-        ensures count { result ≡ self.old.passed_over }
-        ensures none { self.new ≡ record self.old { passed_over = 0 } }
+    /// How many it passed over.
+    pub(crate) fn passed_over(&self) -> u64
+        ensures { result ≡ self.now.passed_over }
     {
-        let count = self.passed_over;
-        self.passed_over = 0;
-        count
+        self.passed_over
+    }
+
+    /// Room at the topics of this transaction, or none yet. Where it owes turns, and there is none, these come first: there
+    /// may be some then.
+    #[inline(always)]
+    pub(crate) fn room_for<R: Wait + Clock, W: Side, T: Side>(
+        &mut self,
+        asker: &Asker<'_, R, W, T>,
+        txn: &Txn,
+    ) -> Option<Reserved>
+        ensures { IfSome result (λ room. (room ≡ topics_of txn.now) ⊎ (room ≡ [])) }
+    {
+        if self.held {
+            return self.room_after_wait(asker, txn);
+        }
+        if self.is_idle() {
+            return self.room_at(asker, txn);
+        }
+        self.room_as_first(asker, txn)
+    }
+
+    /// Room at the topics of this transaction. Where there is none, and it owes no turns, it waits. Out of memory for the
+    /// reservation it is room at none of them: a commit that lacks memory, too, says so, and waits for nothing.
+    #[tactic(auto, using(crate::proofs::LineLemmas::first_of))]
+    #[inline(always)]
+    fn room_at<R: Wait + Clock, W: Side, T: Side>(
+        &mut self,
+        asker: &Asker<'_, R, W, T>,
+        txn: &Txn,
+    ) -> Option<Reserved>
+        ensures { IfSome result (λ room. (room ≡ topics_of txn.now) ⊎ (room ≡ [])) }
+    {
+        let mut room = asker.hub.running.broker.no_room();
+        match asker.hub.reserve(asker.rt, txn, &mut room) {
+            Ok(()) => Some(room),
+            Err(NoRoom::Full { topic: _, sub: _ }) if asker.owes_turns => {
+                self.keep_room(asker, room);
+                None
+            }
+            Err(NoRoom::Full { topic: _, sub: _ }) => self.waits_for(asker, txn, room),
+            Err(NoRoom::NoMemory) => self.without_room(asker, room),
+        }
+    }
+
+    /// Room at the topics of this transaction, for which it waits. (What it keeps is at the first of them; else it is given
+    /// up.)
+    #[inline(never)]
+    fn room_after_wait<R: Wait + Clock, W: Side, T: Side>(
+        &mut self,
+        asker: &Asker<'_, R, W, T>,
+        txn: &Txn,
+    ) -> Option<Reserved>
+        ensures { IfSome result (λ room. (room ≡ topics_of txn.now) ⊎ (room ≡ [])) }
+    {
+        let room = kept_room(asker);
+        if !is_at(txn.topics().as_slice(), &room) {
+            return self.without_room(asker, room);
+        }
+        self.waits_for(asker, txn, room)
+    }
+
+    /// Room at the topics of this transaction, where it is the first of a line: it stays so, if it is that of the first of
+    /// these.
+    #[inline(never)]
+    fn room_as_first<R: Wait + Clock, W: Side, T: Side>(
+        &mut self,
+        asker: &Asker<'_, R, W, T>,
+        txn: &Txn,
+    ) -> Option<Reserved>
+        ensures { IfSome result (λ room. (room ≡ topics_of txn.now) ⊎ (room ≡ [])) }
+    {
+        self.comes(asker, txn.topics().as_slice());
+        if self.is_idle() {
+            return self.room_at(asker, txn);
+        }
+        let none = asker.hub.running.broker.no_room();
+        self.waits_for(asker, txn, none)
+    }
+
+    /// Room at the topics of this transaction, of which it has this at the first of them; or it waits.
+    #[inline(never)]
+    fn waits_for<R: Wait + Clock, W: Side, T: Side>(
+        &mut self,
+        asker: &Asker<'_, R, W, T>,
+        txn: &Txn,
+        room: Reserved,
+    ) -> Option<Reserved>
+        requires { IsRoomAt (topics_of txn.now) room }
+        ensures { IfSome result (λ room. (room ≡ topics_of txn.now) ⊎ (room ≡ [])) }
+    {
+        let mut room = room;
+        match self.tries(asker, txn, &mut room) {
+            Ok(()) => Some(room),
+            Err(Stop::Waits) => {
+                self.keep_room(asker, room);
+                None
+            }
+            Err(Stop::NoMemory) => self.without_room(asker, room),
+        }
+    }
+
+    /// It waits, and keeps this room meanwhile.
+    #[inline(never)]
+    fn keep_room<R: Wait, W: Side, T: Side>(
+        &mut self,
+        asker: &Asker<'_, R, W, T>,
+        room: Reserved,
+    )
+        ensures { self.new ≡ record self.old { held = true } }
+    {
+        self.held = true;
+        let waiters = asker.hub.waiters();
+        let other = waiters.swap_kept(asker.rt, asker.desk, room);
+        asker.hub.release_room(asker.rt, other);
+    }
+
+    /// Room at no topic, which takes no memory: this is given back.
+    #[inline(never)]
+    fn without_room<R: Wait + Clock, W: Side, T: Side>(
+        &mut self,
+        asker: &Asker<'_, R, W, T>,
+        room: Reserved,
+    ) -> Option<Reserved>
+        ensures { result ≡ Some [] }
+    {
+        self.gives_up(asker, room);
+        Some(asker.hub.running.broker.no_room())
     }
 
     /// Goes on with this one, which has room at the first of its topics, until it has room at all, or waits.
     #[tactic(auto, using(crate::proofs::LineLemmas::whole))]
-    pub(crate) fn tries<R: Wait + Clock, W: Side, T: Side>(
+    fn tries<R: Wait + Clock, W: Side, T: Side>(
         &mut self,
         asker: &Asker<'_, R, W, T>,
         txn: &Txn,
@@ -413,7 +530,7 @@ impl Waiting {
     ) {
         let was_timed = self.timed;
         self.timed = false;
-        if !was_timed && !self.wait.is_counted() && !asker.hub.has_behind() {
+        if !was_timed && !self.wait.is_counted() && !asker.hub.crowd.has_behind() {
             return;
         }
         let count = self
@@ -446,8 +563,14 @@ impl Waiting {
         }
     }
 
+    /// None is to wait any more: it leaves, and what it keeps is given back.
+    pub(crate) fn ends<R: Wait + Clock, W: Side, T: Side>(&mut self, asker: &Asker<'_, R, W, T>) {
+        let room = kept_room(asker);
+        self.gives_up(asker, room);
+    }
+
     /// It isn't to wait any more: it leaves, and gives back this room, which it has, and its places.
-    pub(crate) fn gives_up<R: Wait + Clock, W: Side, T: Side>(
+    fn gives_up<R: Wait + Clock, W: Side, T: Side>(
         &mut self,
         asker: &Asker<'_, R, W, T>,
         room: Reserved,
@@ -457,6 +580,20 @@ impl Waiting {
         asker.hub.release_room(asker.rt, room);
         self.held = false;
     }
+}
+
+/// The room that is kept for who waits.
+fn kept_room<R: Wait, W: Side, T: Side>(asker: &Asker<'_, R, W, T>) -> Reserved {
+    let none = asker.hub.running.broker.no_room();
+    asker.hub.waiters().swap_kept(asker.rt, asker.desk, none)
+}
+
+/// Whether this room is at the first of these topics.
+#[tactic(auto, using(trace_audit::proofs::Explaining::topics_equal))]
+fn is_at(topics: &[Topic], room: &Reserved) -> bool
+    ensures { result ≡ true → IsRoomAt topics.now room.now }
+{
+    topics.starts_with(room.topics())
 }
 
 /// The first topic of this transaction at which there is no room.
