@@ -247,7 +247,7 @@ inline turn_now(at) {
 #endif
 }
 
-/* calls.rt end_at, of one: the flag, then the seat, topic_seats.rt remove_all, then the broker */
+/* ends.rt end_at, of one: the flag, then the seat, topic_seats.rt remove_all, then the broker */
 inline sub_end(sub) {
   if
   :: over[sub] -> skip
@@ -282,7 +282,7 @@ inline sub_has_lagged(sub, is) {
 }
 
 #define EACH_OF(c, at, does) for (s : 0 .. SUBS - 1) { if :: TOPIC(s) == at && TAKER(s) == c && held[s] -> does :: else fi } s = 0
-/* conversation.rt close, calls.rt end_all: all that is open ends, that of one topic at once, calls.rt end_at: the seats,
+/* conversation.rt close, calls.rt end_all: all that is open ends, that of one topic at once, ends.rt end_at: the seats,
    topic_seats.rt remove_all, then the subscriptions, broker.rt unsubscribe_all */
 inline talk_close(c, why) {
   d_step { exit[c] = why; more[c] = false };

@@ -62,7 +62,7 @@ inline ring_all() {
   }
   i = 0; UNLOCK(bells)
 }
-/* hub.rt close */
+/* crowd.rt close */
 inline hub_close() {
 #ifdef M_RINGS_BEFORE_CLOSING
   ring_all(); closing = true
@@ -70,7 +70,7 @@ inline hub_close() {
   closing = true; ring_all()
 #endif
 }
-/* hub.rt fail */
+/* crowd.rt fail */
 inline hub_fail() {
   failed = true;
   hub_close();
@@ -90,7 +90,7 @@ work:
   :: else -> bell[c] = Awake
   fi;
   if
-  :: closing -> goto leave                                       /* hub.rt is_closing */
+  :: closing -> goto leave                                       /* crowd.rt is_closing */
   :: else
   fi;
   if
@@ -112,7 +112,7 @@ end:
 leave:
   may_fail = false;
   workers--;                                                     /* running.rt put_worker */
-  LOCK(bells); entered[c] = false; UNLOCK(bells);                /* hub.rt leave */
+  LOCK(bells); entered[c] = false; UNLOCK(bells);                /* crowd.rt leave */
   free++;                                                        /* desks.rt free_number */
   atomic { ended[c] = true; running-- }
 }
@@ -134,7 +134,7 @@ proctype Accepting() {
   do
   :: true ->
      if
-     :: failed ->                                                /* hub.rt has_failed */
+     :: failed ->                                                /* crowd.rt has_failed */
 #ifndef M_CLOSES_ONCE
         hub_close();                                             /* serving.rt run_at: a second time */
 #endif
@@ -154,7 +154,7 @@ proctype Accepting() {
            atomic { running++; workers++; assert(workers <= DESKS); run Connection(next) };
            LOCK(bells); entered[next] = true; UNLOCK(bells);
 #else
-           LOCK(bells); entered[next] = true; UNLOCK(bells);     /* accepting.rt start, hub.rt enter */
+           LOCK(bells); entered[next] = true; UNLOCK(bells);     /* accepting.rt outfit_of, crowd.rt enter */
            atomic { running++; workers++; assert(workers <= DESKS); run Connection(next) };
 #endif
            next++

@@ -44,7 +44,7 @@ inline ring_door() {
      was = Awake
   fi
 }
-/* hub.rt stir, totals.rt stirs: a load, a swap where it was resting, and the door's bell where that was so still */
+/* crowd.rt stir, totals.rt stirs: a load, a swap where it was resting, and the door's bell where that was so still */
 inline stir() {
   if
   :: resting ->
@@ -75,7 +75,7 @@ proctype Connection(byte c) {
   if
   :: true -> skip                                                /* it stays */
   :: true ->
-     LOCK(list);                                                 /* hub.rt leave */
+     LOCK(list);                                                 /* crowd.rt leave */
      d_step { there[c] = false; past = past + shown[c] };        /* totals.rt leaves */
      stir();
      UNLOCK(list)
@@ -106,7 +106,7 @@ proctype Accepting() {
 #ifndef M_RESTS_AFTER
            resting = true;                                       /* totals.rt rest */
 #endif
-           LOCK(list);                                           /* hub.rt figures */
+           LOCK(list);                                           /* crowd.rt figures */
            sum = past;
            do
            :: i < CONNS -> sum = sum + (there[i] -> shown[i] : 0); i++

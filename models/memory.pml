@@ -93,7 +93,7 @@ again:
   do
   :: n < SENDS && !refused ->
      n++;
-     tell_open(s, holds[s] + 1);                                 /* calls.rt may_hold, note_held, tell_held */
+     tell_open(s, holds[s] + 1);                                 /* charging.rt may_hold, note_held, tell_held */
 #ifdef M_SENT_BEFORE_OPEN
      have = sent; refused = REFUSED(have + open, holds[s] + 1, sent_of[s]);
 #else
@@ -121,10 +121,10 @@ again:
               tell_open(s, holds[s] - 1);                        /* before it is counted */
 #endif
               to = t; t = 0;
-              d_step { sent_of[s]++; holds[s]-- };               /* calls.rt charge, meter.rt add_sent */
+              d_step { sent_of[s]++; holds[s]-- };               /* charging.rt charge, meter.rt add_sent */
               sent++;                                            /* holdings.rt add_sent */
 #ifndef M_OPEN_BEFORE_SENT
-              tell_open(s, holds[s]);                            /* calls.rt tell_held */
+              tell_open(s, holds[s]);                            /* charging.rt tell_held */
 #endif
               atomic {
                 if
@@ -147,7 +147,7 @@ again:
 #endif
   n = 0; refused = false; comes++;
   if
-  :: comes < COMES ->                                            /* another one comes in its place: hub.rt meter */
+  :: comes < COMES ->                                            /* another one comes in its place: crowd.rt meter */
      d_step {
        do
        :: t < TAKERS -> ITEMS(t, SENDERS) = ITEMS(t, SENDERS) + ITEMS(t, s); ITEMS(t, s) = 0; t++
@@ -206,7 +206,7 @@ end:
      do
      :: queue[t] > 0 -> let_go(t); took = true; since = 0        /* its client reads: desk.rt write */
      :: queue[t] > 0 -> stuck[t] = true; break                   /* or it doesn't: desk.rt note_stuck */
-     :: queue[t] == 0 -> passed_over[t] = false; break           /* calls.rt find_empty, seat.rt take_passed_over */
+     :: queue[t] == 0 -> passed_over[t] = false; break           /* seated_sub.rt find_empty, seat.rt take_passed_over */
      od;
      if
      :: stuck[t] ->

@@ -360,7 +360,7 @@ inline give_room_back(at, c) {
   line_ring(at, Any)
 #endif
 }
-/* calls.rt tell_taken: taker.rt tell, in place of what was told and isn't heard yet, and hub.rt room_made */
+/* seated_sub.rt tell_taken: taker.rt tell, in place of what was told and isn't heard yet, and hub.rt room_made */
 inline tell_taken(sub, is_rung) {
 #ifdef M_RINGS_BEFORE_TELL
   if
@@ -398,7 +398,7 @@ inline tell_taken(sub, is_rung) {
 #else
 #define NONE_RINGS true
 #endif
-/* calls.rt find_empty: a swap, and room.rt wait_for behind the topic's lock, where its queue is known to be empty; who
+/* seated_sub.rt find_empty: a swap, and room.rt wait_for behind the topic's lock, where its queue is known to be empty; who
    isn't waited for stays passed over */
 inline wait_again(sub) {
   d_step { some = passed_over[sub]; passed_over[sub] = false };
@@ -422,7 +422,7 @@ inline wait_again(sub) {
   fi
 }
 
-/* calls.rt end_at, of one: the seat, then the subscription, then who waits for room */
+/* ends.rt end_at, of one: the seat, then the subscription, then who waits for room */
 inline sub_end(sub) {
 #ifdef M_RINGS_BEFORE_END
   line_ring(TOPIC(sub), Sub(sub));
@@ -434,7 +434,7 @@ inline sub_end(sub) {
 #endif
 }
 #define EACH_OF(c, at, does) for (s : 0 .. SUBS - 1) { if :: TOPIC(s) == at && TAKER(s) == c && has[s] -> does :: else fi } s = 0
-/* conversation.rt close, calls.rt end_all: all that is open ends, that of one topic at once, calls.rt end_at: the seats,
+/* conversation.rt close, calls.rt end_all: all that is open ends, that of one topic at once, ends.rt end_at: the seats,
    topic_seats.rt remove_all, then the subscriptions, broker.rt unsubscribe_all, then who waits for room */
 inline talk_close(c) {
 #ifdef HALVES
@@ -797,7 +797,7 @@ round:                                                           /* connection.r
 heard:
 #ifdef CLOSES
   if
-  :: closing -> may = false; goto leave                          /* hub.rt is_closing */
+  :: closing -> may = false; goto leave                          /* crowd.rt is_closing */
   :: else
   fi;
 #endif
@@ -984,7 +984,7 @@ on:                                                              /* the next top
   :: t < TOPICS && (lacks || mark[t] != Nobody)
 #endif
   fi;
-  if                                                             /* calls.rt room_at */
+  if                                                             /* waiting.rt room_at */
   :: tries -> skip
 #ifdef ONCE
   :: !tries && commits == 0 -> tries = true
@@ -1229,7 +1229,7 @@ answers:                                                         /* conversation
 answered:
 #endif
 #ifdef OWN
-  if                                                             /* connection.rt end_wait */
+  if                                                             /* desk.rt end_wait */
   :: again && TAKES(c) -> desk_deliver(c, false); sent = false
   :: !again || !TAKES(c)
   fi;
@@ -1324,7 +1324,7 @@ end:
 }
 
 #ifdef CLOSES
-/* hub.rt close */
+/* crowd.rt close */
 proctype Closer() {
   byte c;
   closing = true;

@@ -122,7 +122,7 @@ inline leave(t) {
 #define IS_WITHIN (!beside)
 #endif
 
-/* calls.rt leave_turnstile */
+/* front.rt leave */
 inline leave_turnstile() {
   if
   :: within != NONE && IS_WITHIN -> leave(within)

@@ -1,6 +1,6 @@
 //! What one connection asks of the broker.
 
-ghost use Rattle.std.specs.Prelude.{◌≡◌, ◌≤◌, ◌<◌, ◌⊎◌, ◌-◌, [], map, true, IfSome, None, Some};
+ghost use Rattle.std.specs.Prelude.{◌≡◌, ◌≤◌, ◌<◌, ◌⊎◌, ◌==◌, ◌-◌, [], map, true, IfSome, None};
 ghost use Rattle.std.specs.Option.{is_some};
 ghost use Rattle.mcast_txn.specs.Transaction.{topics_of};
 ghost use Rattle.broker_server.specs.BrokerRows.{AsksInOrder, Unsubscribes};
@@ -16,7 +16,6 @@ use crate::serving::charging::Charging;
 use crate::serving::ends::{end_at, end_each_topic};
 use crate::serving::front::Front;
 use crate::serving::hub::Hub;
-use crate::serving::moment::Moment;
 use crate::serving::owed::Owed;
 use crate::serving::peer::Peer;
 use crate::serving::seat::Seat;

@@ -25,7 +25,6 @@ use broker_locks::Side;
 use log::Log;
 use std::alloc::Global;
 use std::sync::{Arc, Wait};
-use std::thread::yield_now;
 use std::time::{Clock, Duration};
 
 /// So many reads are heard in a row, at most, before what is there for the connection is looked for again (our choice).
@@ -81,7 +80,6 @@ enum Sleep {
 }
 
 /// A connection that is there, as its thread has it: it works at the connection's desk.
-#[derive(Drop)]
 struct Connection<'a, 'b, R: Wait + Log + Clock, W: Side, T: Side> {
     rt: &'a R,
     hub: &'a Hub<R, W, T>,
@@ -93,6 +91,23 @@ struct Connection<'a, 'b, R: Wait + Log + Clock, W: Side, T: Side> {
     asleep: Vec<Arc<Seat>>,
     /// What was said that it asked for, and is ignored.
     said: Ignored,
+}
+
+impl<'a, 'b, R: Wait + Log + Clock, W: Side, T: Side> Drop for Connection<'a, 'b, R, W, T> {
+    /// Written out, so that letting one go is one call for the prover wherever it happens.
+    fn drop(self) {
+        let Connection {
+            rt: _,
+            hub: _,
+            desks: _,
+            outfit,
+            came: _,
+            asleep,
+            said: _,
+        } = self;
+        drop(outfit);
+        drop(asleep);
+    }
 }
 
 impl<'a, 'b, R: Wait + Log + Clock, W: Side, T: Side> Connection<'a, 'b, R, W, T> {
@@ -336,7 +351,7 @@ impl<'a, 'b, R: Wait + Log + Clock, W: Side, T: Side> Connection<'a, 'b, R, W, T
                 Round::Leaving => return Ok(None),
                 Round::Closing => return Err(WhyLeft::Closing),
                 Round::Gone => return Err(WhyLeft::WriteFailed),
-                Round::Idle if rounds.yields() => yield_now(),
+                Round::Idle if rounds.owes_others() => rounds.let_run(),
                 Round::Idle => {
                     rounds = Rounds::new();
                     self.show(desk);

@@ -16,7 +16,6 @@ pub(crate) const MAX_CONNECTIONS: u64 = 256;
 
 /// The connections that are there: the bell of each, what they hold together, how many are behind, what is counted of them,
 /// and whether they are to end.
-#[derive(Drop)]
 pub(crate) struct Crowd {
     /// The bell of each.
     bells: Mutex<Vec<(u64, Arc<Bell>)>>,
@@ -31,6 +30,25 @@ pub(crate) struct Crowd {
     closing: AtomicBool,
     /// Whether a poll failed.
     failed: AtomicBool,
+}
+
+impl Drop for Crowd {
+    /// Written out, so that letting one go is one call for the prover wherever it happens.
+    fn drop(self) {
+        let Crowd {
+            bells,
+            behind: _,
+            holdings,
+            door,
+            totals,
+            closing: _,
+            failed: _,
+        } = self;
+        drop(bells);
+        drop(holdings);
+        drop(door);
+        drop(totals);
+    }
 }
 
 impl Crowd {

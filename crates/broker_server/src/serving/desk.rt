@@ -39,7 +39,6 @@ const MUCH: usize = 4_096;
 
 /// What a connection's thread works at: what the connection says and is told, what it asks of the broker, and its
 /// socket. While that thread sleeps, another one may stand in for it here.
-#[derive(Drop)]
 pub(crate) struct Desk<'a, R: Wait + Log + Clock, W: Side, T: Side> {
     pub(crate) socket: Socket,
     pub(crate) calls: Calls<'a, R, W, T>,
@@ -54,6 +53,25 @@ pub(crate) struct Desk<'a, R: Wait + Log + Clock, W: Side, T: Side> {
     octets_in: u64,
     /// How many octets the system took.
     octets_out: u64,
+}
+
+impl<'a, R: Wait + Log + Clock, W: Side, T: Side> Drop for Desk<'a, R, W, T> {
+    /// Written out, so that letting one go is one call for the prover wherever it happens.
+    fn drop(self) {
+        let Desk {
+            socket,
+            calls,
+            talk,
+            untaken: _,
+            waits: _,
+            streak: _,
+            octets_in: _,
+            octets_out: _,
+        } = self;
+        drop(socket);
+        drop(calls);
+        drop(talk);
+    }
 }
 
 impl<'a, R: Wait + Log + Clock, W: Side, T: Side> Desk<'a, R, W, T> {

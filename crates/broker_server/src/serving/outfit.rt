@@ -22,13 +22,29 @@ const WIDE_READ: usize = 65_536;
 const EVENTS: usize = 4;
 
 /// What a connection's thread is made with: its peer, what it waits by, and room for a read.
-#[derive(Drop)]
 pub(crate) struct Outfit {
     pub(crate) peer: Peer,
     pub(crate) poll: Poll,
     pub(crate) events: Events,
     pub(crate) bell: Arc<Bell>,
     pub(crate) room: Vec<u8>,
+}
+
+impl Drop for Outfit {
+    /// Written out, so that letting one go is one call for the prover wherever it happens.
+    fn drop(self) {
+        let Outfit {
+            peer: _,
+            poll,
+            events,
+            bell,
+            room,
+        } = self;
+        drop(poll);
+        drop(events);
+        drop(bell);
+        drop(room);
+    }
 }
 
 impl Outfit {

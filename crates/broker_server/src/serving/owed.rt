@@ -1,6 +1,6 @@
 //! What a connection owes to the topics to which it committed.
 
-ghost use Rattle.std.specs.Prelude.{◌≡◌, nat_le};
+ghost use Rattle.std.specs.Prelude.{◌≡◌, ◌≤◌, ◌<◌, true, false};
 ghost use Rattle.broker_server.specs.Counts.{plus};
 ghost use Rattle.broker_server.specs.Owing.{nothing_owed};
 
@@ -57,7 +57,8 @@ impl Owed {
 
     /// Whether little was heard since the topics were turned.
     pub(crate) fn heard_little(&self) -> bool
-        ensures { result ≡ nat_le self.now.heard 1048576 }
+        ensures little { result ≡ true → self.now.heard ≤ 1048576 }
+        ensures much { result ≡ false → 1048576 < self.now.heard }
     {
         self.heard <= MOST_HEARD
     }

@@ -2,6 +2,8 @@
 
 ghost use Rattle.std.specs.Prelude.{◌≡◌};
 
+use std::thread::yield_now;
+
 /// After so many rounds in a row that found something to do, the poll is asked what else is there (our choice).
 const MAX_ROUNDS: u32 = 16;
 
@@ -34,12 +36,16 @@ impl Rounds {
         self.busy % MAX_ROUNDS == 0
     }
 
-    /// Whether others are let run before the thread sleeps: once for those that did.
-    pub(crate) fn yields(&mut self) -> bool {
-        if self.busy.wrapping_sub(self.yielded_at) < ROUNDS_TO_YIELD {
-            return false;
-        }
+    /// Whether others are to be let run before the thread sleeps.
+    pub(crate) fn owes_others(&self) -> bool {
+        self.busy.wrapping_sub(self.yielded_at) >= ROUNDS_TO_YIELD
+    }
+
+    /// They are let run now.
+    pub(crate) fn let_run(&mut self)
+        ensures { self.new ≡ record self.old { yielded_at = self.old.busy } }
+    {
         self.yielded_at = self.busy;
-        true
+        yield_now();
     }
 }

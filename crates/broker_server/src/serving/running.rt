@@ -23,13 +23,26 @@ use trace_audit::Trace;
 
 /// The broker, the names of its topics, and the workers that no connection uses. No two of their locks are ever held at
 /// once.
-#[derive(Drop)]
 pub(crate) struct Running<R: Wait, W: Side, T: Side> {
     pub(crate) broker: Broker<R, W, T>,
     /// The names of the topics. No lock is taken while its own is held.
     pub(crate) names: Mutex<Names>,
     /// The workers that no connection uses.
     workers: Mutex<Vec<Worker<W>>>,
+}
+
+impl<R: Wait, W: Side, T: Side> Drop for Running<R, W, T> {
+    /// Written out, so that letting one go is one call for the prover wherever it happens.
+    fn drop(self) {
+        let Running {
+            broker,
+            names,
+            workers,
+        } = self;
+        drop(broker);
+        drop(names);
+        drop(workers);
+    }
 }
 
 impl<R: Wait, W: Side, T: Side> Running<R, W, T> {

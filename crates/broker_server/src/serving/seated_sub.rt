@@ -12,7 +12,6 @@ use std::sync::{Arc, Wait};
 use std::sync::atomic::{AtomicBool, Ordering};
 
 /// A connection's open subscription, with its seat.
-#[derive(Drop)]
 pub(crate) struct SeatedSub {
     pub(crate) topic: Topic,
     pub(crate) begun: Subscribed,
@@ -25,6 +24,23 @@ pub(crate) struct SeatedSub {
     over: AtomicBool,
     /// Whether it was said that it has lagged.
     said: AtomicBool,
+}
+
+impl Drop for SeatedSub {
+    /// Written out, so that letting one go is one call for the prover wherever it happens.
+    fn drop(self) {
+        let SeatedSub {
+            topic: _,
+            begun,
+            seat,
+            flag: _,
+            untold: _,
+            over: _,
+            said: _,
+        } = self;
+        drop(begun);
+        drop(seat);
+    }
 }
 
 impl SeatedSub {

@@ -45,8 +45,8 @@ impl Seating {
         let bell = bell.clone()?;
         let number = self.begun;
         self.begun = number.saturating_add(1);
-        let seat = Seat::new(peer.number, number, peer.desk, bell);
-        Ok(Arc::new(alloc, seat)?)
+        let seat = Arc::new(alloc, Seat::new(peer.number, number, peer.desk, bell))?;
+        Ok(seat)
     }
 
     /// One more has begun.
