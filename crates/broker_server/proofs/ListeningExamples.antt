@@ -1,7 +1,7 @@
 -- Worked examples of what the program `serve` writes, and of its topics.
 use Rattle.std.proofs.Common.{◌≡◌, ℕ, List, [], ◌∷◌, ◌++◌, codes, Some, Err, Result, refl, inl, inr}
 use Rattle.delivery.specs.Topics.{no_topics}
-use Rattle.broker_server.specs.declared.program_fault.ProgramFault.TheVariants.{Io, NoMemory}
+use Rattle.broker_programs.specs.declared.program_fault.ProgramFault.TheVariants.{Io, NoMemory}
 use Rattle.broker_server.specs.Listening.{SaysLine, known_with, listening_line, topics_with_names}
 
 -- ---- the line

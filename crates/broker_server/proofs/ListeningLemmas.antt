@@ -6,10 +6,10 @@ use Rattle.std.proofs.lemmas.Bool.{false≢true}
 use Rattle.std.proofs.lemmas.List.{length-append}
 use Rattle.std.proofs.lemmas.Option.{get_or_from_slice_get, slice_get_within}
 use Rattle.stomp_session.specs.Names.{is_known, with_name}
-use Rattle.broker_server.specs.declared.ending.Ending.{Ending}
-use Rattle.broker_server.specs.declared.program_fault.ProgramFault.{ProgramFault}
-use Rattle.broker_server.specs.declared.program_fault.ProgramFault.TheVariants.{Io}
-use Rattle.broker_server.specs.Endings.{ending_of}
+use Rattle.broker_programs.specs.declared.ending.Ending.{Ending}
+use Rattle.broker_programs.specs.declared.program_fault.ProgramFault.{ProgramFault}
+use Rattle.broker_programs.specs.declared.program_fault.ProgramFault.TheVariants.{Io}
+use Rattle.broker_programs.specs.Endings.{ending_of}
 use Rattle.broker_server.specs.Listening.{IsServed, SaysLine, known_with, listening_line}
 
 -- a call that failed wrote nothing

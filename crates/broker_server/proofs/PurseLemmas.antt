@@ -6,7 +6,7 @@ use Rattle.std.proofs.lemmas.List.{get_or-set_same, get_or-set_other}
 use Rattle.std.proofs.lemmas.List.Sums.{sum_by_push}
 use Rattle.broker_server.specs.declared.serving.moment.Moment.{Moment}
 use Rattle.broker_server.specs.declared.serving.tenths.Tenth.{Tenth}
-use Rattle.broker_server.specs.Counts.{plus}
+use Rattle.broker_programs.specs.Counts.{plus}
 use Rattle.broker_server.specs.Purses.{no_tenth, tenth, tenth_octets, tenths_after}
 
 range_more : (a n j : ℕ) → a + n ≡ j → range_with_len a (suc n) ≡ range_with_len a n ++ j ∷ []

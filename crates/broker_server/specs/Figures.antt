@@ -4,7 +4,7 @@ use Rattle.broker_server.specs.declared.conversation.exit.Exit.TheVariants as ex
 use Rattle.broker_server.specs.declared.serving.endings.Endings.{Endings}
 use Rattle.broker_server.specs.declared.serving.why_left.WhyLeft.{WhyLeft}
 use Rattle.broker_server.specs.declared.serving.why_left.WhyLeft.TheVariants.{By, WriteFailed, Untaken, Unconnected, NoMemory, PollFailed, Closing}
-use Rattle.broker_server.specs.Counts.{plus}
+use Rattle.broker_programs.specs.Counts.{plus}
 
 -- how many connections ended, and by what, with one more that left so; a lag is one whether it was told or not
 abbrev pub endings_with : WhyLeft → Endings → Endings

@@ -3,10 +3,10 @@ use Rattle.std.specs.Prelude.{◌≡◌, ◌⊎◌, ℕ, Bool, ◌&&◌, not, na
 use Rattle.std.specs.Io.KnownBytes.{Appends}
 use Rattle.stomp_session.specs.Names.{is_known, max_topics, with_name}
 use Rattle.delivery.specs.Topics.{TopicList}
-use Rattle.broker_server.specs.declared.ending.Ending.{Ending}
-use Rattle.broker_server.specs.declared.program_fault.ProgramFault.{ProgramFault}
-use Rattle.broker_server.specs.declared.program_fault.ProgramFault.TheVariants.{Io}
-use Rattle.broker_server.specs.Endings.{ending_of}
+use Rattle.broker_programs.specs.declared.ending.Ending.{Ending}
+use Rattle.broker_programs.specs.declared.program_fault.ProgramFault.{ProgramFault}
+use Rattle.broker_programs.specs.declared.program_fault.ProgramFault.TheVariants.{Io}
+use Rattle.broker_programs.specs.Endings.{ending_of}
 
 -- The line by which it says that it listens at an address: at `127.0.0.1:61613` it is
 -- `listening 127.0.0.1:61613` and LF.

@@ -10,7 +10,7 @@ use Rattle.broker_server.specs.declared.serving.pace.Pace.{Pace}
 use Rattle.broker_server.specs.declared.serving.fund.Fund.{Fund}
 use Rattle.broker_server.specs.declared.serving.purse.Purse.{Purse}
 use Rattle.broker_server.specs.declared.serving.account.Account.{Account}
-use Rattle.broker_server.specs.Counts.{plus}
+use Rattle.broker_programs.specs.Counts.{plus}
 
 -- ---- times
 

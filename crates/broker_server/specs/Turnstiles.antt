@@ -2,7 +2,7 @@
 use Rattle.std.specs.Prelude.{ℕ, ◌-◌, ◌*◌, min, Bool, not, nat_lt, ◌&&◌, ◌||◌}
 use Rattle.broker_server.specs.declared.serving.moment.Moment.{Moment}
 use Rattle.broker_server.specs.declared.serving.passage.Passage.{Passage}
-use Rattle.broker_server.specs.Counts.{plus}
+use Rattle.broker_programs.specs.Counts.{plus}
 
 -- Whether one has to wait in front that is regular, or isn't: somebody is within, or a regular waits, which
 -- goes first.

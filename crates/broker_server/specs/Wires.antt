@@ -9,8 +9,8 @@ use Rattle.stomp_frame.specs.declared.raw_frame.RawFrame.{RawFrame}
 use Rattle.stomp_frame.specs.Writing.{spelling_of}
 use Rattle.broker_server.specs.declared.one_write.OneWrite.{OneWrite}
 use Rattle.broker_server.specs.declared.one_write.OneWrite.TheVariants.{Took, Again, Stopped}
-use Rattle.broker_server.specs.declared.program_fault.ProgramFault.{ProgramFault}
-use Rattle.broker_server.specs.declared.program_fault.ProgramFault.TheVariants.{Io}
+use Rattle.broker_programs.specs.declared.program_fault.ProgramFault.{ProgramFault}
+use Rattle.broker_programs.specs.declared.program_fault.ProgramFault.TheVariants.{Io}
 
 -- A frame as the server writes it: its spelling, and behind its NULL one of the EOLs that may follow it
 -- (STOMP 1.2, "Augmented BNF": `NULL *( EOL )`), which is LF (own). So the RECEIPT of `r` is `RECEIPT`, LF,

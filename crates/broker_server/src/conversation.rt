@@ -34,8 +34,8 @@ mod open_sub;
 mod taking;
 
 use crate::draining::drain_wire;
-use crate::program_fault::ProgramFault;
 use crate::wire::Wire;
+use broker_programs::ProgramFault;
 pub use broker_calls::BrokerCalls;
 use closing::end_subs;
 pub use conversation_fault::ConversationFault;

@@ -3,8 +3,8 @@
 ghost use Rattle.broker_server.specs.Wires.{GoesOut};
 
 use crate::one_write::OneWrite;
-use crate::program_fault::ProgramFault;
 use crate::wire::Wire;
+use broker_programs::ProgramFault;
 use std::io::Write;
 
 /// Writes octets that wait, by single writes, at most as many as there are octets, and returns how many went out. It

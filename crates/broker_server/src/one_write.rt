@@ -3,7 +3,7 @@
 ghost use Rattle.std.specs.Prelude.{◌≡◌};
 ghost use Rattle.broker_server.specs.Wires.{one_write};
 
-use crate::program_fault::ProgramFault;
+use broker_programs::ProgramFault;
 use std::io;
 use std::io::ErrorKind;
 

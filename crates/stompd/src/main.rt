@@ -4,9 +4,8 @@
 #[cfg(test)]
 mod tests;
 
-use broker_server::{
-    Counting, Ending, LogForm, LogQueue, Queued, Request, run_program, run_server,
-};
+use broker_programs::{Counting, Ending, Request, run_program};
+use broker_server::{LogForm, LogQueue, Queued, run_server};
 use log::{LevelFilter, Logged};
 use std::process::ExitCode;
 use std::{env, io};

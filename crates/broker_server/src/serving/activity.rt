@@ -1,7 +1,7 @@
 //! What a connection did, and has.
 
 ghost use Rattle.std.specs.Prelude.{◌≡◌};
-ghost use Rattle.broker_server.specs.Counts.{plus};
+ghost use Rattle.broker_programs.specs.Counts.{plus};
 
 use std::fmt;
 use std::fmt::{Display, Formatter};

@@ -5,13 +5,10 @@ ghost use Rattle.delivery.specs.Topics.{no_topics};
 ghost use Rattle.broker_server.specs.Listening.{IsServed, SaysLine, listening_line, topics_with_name, topics_with_names};
 
 use crate::draining::drain_wire;
-use crate::ending::Ending;
-use crate::program_fault::ProgramFault;
-use crate::serve_words::ServeWords;
 use crate::serving::serve;
-use crate::version::VERSION;
 use crate::wire::Wire;
 use broker_locks::{Broker, ServerFault, Side};
+use broker_programs::{Ending, ProgramFault, ServeWords, VERSION};
 use delivery::Topics;
 use log::{Log, error, info};
 use mcast_txn::NoMemory;

@@ -1,7 +1,7 @@
 //! What a connection owes to the topics to which it committed.
 
 ghost use Rattle.std.specs.Prelude.{◌≡◌, ◌≤◌, ◌<◌, true, false};
-ghost use Rattle.broker_server.specs.Counts.{plus};
+ghost use Rattle.broker_programs.specs.Counts.{plus};
 ghost use Rattle.broker_server.specs.Owing.{nothing_owed};
 
 use crate::serving::unturned::Unturned;

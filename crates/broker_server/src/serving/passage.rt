@@ -1,7 +1,7 @@
 //! Who is within a turnstile.
 
 ghost use Rattle.std.specs.Prelude.{◌≡◌, ◌-◌, ◌||◌, nat_lt, not, true, false, Some, None, if◌then◌else◌};
-ghost use Rattle.broker_server.specs.Counts.{plus};
+ghost use Rattle.broker_programs.specs.Counts.{plus};
 ghost use Rattle.broker_server.specs.Turnstiles.{is_shut, next_at, within_at};
 
 use crate::serving::moment::Moment;

@@ -2,7 +2,7 @@
 
 ghost use Rattle.std.specs.Prelude.{◌≡◌, None, Some, if◌then◌else◌};
 ghost use Rattle.broker_server.specs.Purses.{is_line_due};
-ghost use Rattle.broker_server.specs.Counts.{plus};
+ghost use Rattle.broker_programs.specs.Counts.{plus};
 
 use crate::serving::moment::Moment;
 

@@ -1,7 +1,7 @@
 //! How many subscriptions a connection has and had.
 
 ghost use Rattle.std.specs.Prelude.{◌≡◌, ◌-◌};
-ghost use Rattle.broker_server.specs.Counts.{plus};
+ghost use Rattle.broker_programs.specs.Counts.{plus};
 
 use crate::serving::bell::Bell;
 use crate::serving::peer::Peer;

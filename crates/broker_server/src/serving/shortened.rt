@@ -1,6 +1,6 @@
 //! The first octets of a text, in a line of the log.
 
-use crate::spelled::Spelled;
+use broker_programs::Spelled;
 use std::fmt;
 use std::fmt::{Display, Formatter};
 

@@ -2,7 +2,7 @@
 
 ghost use Rattle.std.specs.Prelude.{◌≡◌, ◌&&◌, nat_lt, nat_le};
 ghost use Rattle.broker_server.specs.Purses.{most_buffered};
-ghost use Rattle.broker_server.specs.Counts.{plus};
+ghost use Rattle.broker_programs.specs.Counts.{plus};
 
 use crate::serving::pace::MOST_BUFFERED;
 

@@ -1,7 +1,7 @@
 //! What the system took of a connection's octets, by tenths of a second.
 
 ghost use Rattle.std.specs.Prelude.{◌≡◌, ℕ, ◌+◌, ◌/◌, ◌<◌, ◌≤◌};
-ghost use Rattle.broker_server.specs.Counts.{plus};
+ghost use Rattle.broker_programs.specs.Counts.{plus};
 ghost use Rattle.broker_server.specs.Purses.{counted_octets, lately_taken, no_tenths, tenth, tenth_octets, tenths_after};
 
 use crate::serving::moment::Moment;

@@ -4,7 +4,7 @@ ghost use Rattle.std.specs.Prelude.{◌≡◌, ◌==◌, codes};
 ghost use Rattle.std.specs.List.{list_any};
 
 use crate::conversation::Exit;
-use crate::spelled::Spelled;
+use broker_programs::Spelled;
 use std::fmt;
 use std::fmt::{Display, Formatter};
 

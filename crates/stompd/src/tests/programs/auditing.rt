@@ -2,7 +2,7 @@
 
 use super::peers::{LineFeeds, Source, Target};
 use super::scripting::{Asked, slowly, writes};
-use broker_server::{Counting, ProgramFault, run_audit};
+use broker_programs::{Counting, ProgramFault, run_audit};
 use std::alloc::{AllocError, Global};
 use std::test::Fail;
 

@@ -1,7 +1,7 @@
 //! The scripts of `examples/scripts`, of which one piece is cut, or one octet of a piece is another.
 
 use super::script_rows::{Row, frames, order, senders, spans, uses};
-use broker_server::{Script, ScriptFault};
+use broker_programs::{Script, ScriptFault};
 use delivery::{Event, EventList, MAX_CAPACITY, Net, Outcome, Refusal, Topics};
 use std::alloc::Global;
 use stomp_frame::{NoMemory, Octets};

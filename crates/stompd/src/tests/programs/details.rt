@@ -3,7 +3,7 @@
 use super::peers::{LineFeeds, Source, Target};
 use super::script_rows::FOUR_TICKETS;
 use super::words::run_words;
-use broker_server::{Counting, Ending};
+use broker_programs::{Counting, Ending};
 use std::alloc::{AllocError, Global};
 use std::io::Read;
 use std::test::Fail;

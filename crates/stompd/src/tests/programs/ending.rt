@@ -2,7 +2,7 @@
 
 use super::peers::{Source, Target};
 use super::words::{run_words, words_of};
-use broker_server::{Counting, Ending, Notice, ProgramFault, USAGE, VERSION};
+use broker_programs::{Counting, Ending, Notice, ProgramFault, USAGE, VERSION};
 use std::alloc::{AllocError, Global};
 use std::io;
 use std::io::ErrorKind;

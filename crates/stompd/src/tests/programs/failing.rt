@@ -1,7 +1,7 @@
 //! Reads and writes that fail.
 
 use super::peers::{Source, Target};
-use broker_server::{Counting, ProgramFault, run_relay};
+use broker_programs::{Counting, ProgramFault, run_relay};
 use std::alloc::{AllocError, Global};
 use std::io::{ErrorKind, Read};
 use std::test::Fail;

@@ -1,7 +1,7 @@
 //! Frames at the limits of a frame and past them: 4,096 octets of a line, 64 headers, 1,048,576 octets of a body.
 
 use super::peers::{Source, Target};
-use broker_server::{Counting, run_relay};
+use broker_programs::{Counting, run_relay};
 use std::alloc::{AllocError, Global};
 use std::test::Fail;
 

@@ -2,7 +2,7 @@
 
 use super::peers::Source;
 use super::print::reports::outcomes_of;
-use broker_server::{Counting, ProgramFault, Script, print_report, run_script};
+use broker_programs::{Counting, ProgramFault, Script, print_report, run_script};
 use delivery::Net;
 use std::alloc::{AllocError, Global};
 use std::io;

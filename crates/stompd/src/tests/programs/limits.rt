@@ -2,7 +2,7 @@
 
 use super::peers::{Interrupted, LineFeeds, Target};
 use super::words::{run_words, words_of};
-use broker_server::{Counting, Ending, run_relay};
+use broker_programs::{Counting, Ending, run_relay};
 use std::alloc::{AllocError, Global};
 
 const LIMIT: usize = 16_777_216;

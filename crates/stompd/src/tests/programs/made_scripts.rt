@@ -7,7 +7,7 @@ use super::scripting::{Asked, writes, written};
 use crate::tests::broker_core::claimed::{self, judged, kind_of};
 use crate::tests::broker_core::made::{clock, opening};
 use crate::tests::draws::Draws;
-use broker_server::{ProgramFault, print_report};
+use broker_programs::{ProgramFault, print_report};
 use delivery::{Event, Net, Outcome, Topics};
 use itoa::Buffer;
 use mcast_txn::{Sender, Topic, TxnId};

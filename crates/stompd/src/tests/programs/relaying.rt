@@ -1,7 +1,7 @@
 //! What the relay of the topic `A` writes.
 
 use super::peers::{Source, Target};
-use broker_server::{Counting, ProgramFault, run_relay};
+use broker_programs::{Counting, ProgramFault, run_relay};
 use std::alloc::{AllocError, Global};
 
 /// An input, what is written of it, and the status.

@@ -1,6 +1,6 @@
 //! Which events the lines of a script ask for, and which octets their TEXT spells.
 
-use broker_server::{Script, ScriptFault};
+use broker_programs::{Script, ScriptFault};
 use delivery::{Event, EventList};
 use std::alloc::Global;
 use stomp_frame::NoMemory;

@@ -2,7 +2,7 @@
 
 use super::peers::{LineFeeds, Source, Target};
 use super::script_rows::{CROSSING, FOUR_TICKETS, Row, frames, order, senders, spans, uses};
-use broker_server::{Counting, ProgramFault, run_audit, run_script, run_trace};
+use broker_programs::{Counting, ProgramFault, run_audit, run_script, run_trace};
 use std::alloc::Global;
 use std::test::Fail;
 

@@ -1,7 +1,7 @@
 //! Which texts are scripts, what each line says, and where the first bad line is.
 
 use crate::tests::broker_core::topics::are_topics;
-use broker_server::{Script, ScriptFault};
+use broker_programs::{Script, ScriptFault};
 use std::alloc::{AllocError, Global};
 
 /// What reading a text came to.

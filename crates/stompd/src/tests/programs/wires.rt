@@ -1,7 +1,8 @@
 //! What waits for a connection, and how much of it goes out.
 
 use super::peers::Target;
-use broker_server::{ProgramFault, Wire, drain_wire};
+use broker_programs::ProgramFault;
+use broker_server::{Wire, drain_wire};
 use std::alloc::Global;
 use std::test::Fail;
 use stomp_frame::NoMemory;

@@ -1,6 +1,6 @@
 //! Words on the command line, statuses and texts.
 
-use broker_server::{
+use broker_programs::{
     Counting, Ending, Notice, Program, ProgramFault, RelayFault, Request, USAGE, run_program,
 };
 use std::alloc::{AllocError, Global};

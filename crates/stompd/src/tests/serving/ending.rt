@@ -1,7 +1,8 @@
 //! How the program's server ends.
 
 use super::served::quiet;
-use broker_server::{Notice, ProgramFault, Request, run_server};
+use broker_programs::{Notice, ProgramFault, Request};
+use broker_server::run_server;
 use log::Log;
 use mio::net::TcpListener;
 use std::alloc::{AllocError, Global};

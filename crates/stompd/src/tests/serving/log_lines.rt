@@ -7,7 +7,7 @@ use super::many::Many;
 use super::peers::Reset;
 use super::served::serves;
 use super::slow::{NeverReads, OneOfTwo, Silent};
-use broker_server::VERSION;
+use broker_programs::VERSION;
 use log::{LevelFilter, Logged};
 use std::sync::Mutex;
 

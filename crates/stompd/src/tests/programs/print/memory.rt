@@ -2,7 +2,7 @@
 
 use super::reports::outcomes_of;
 use super::runs::{LEADING, after};
-use broker_server::{print_outcome, print_report};
+use broker_programs::{print_outcome, print_report};
 use delivery::{ConnectionFault, Net, Outcome};
 use std::alloc::Global;
 use std::test::Fail;

@@ -1,6 +1,6 @@
 //! Each outcome has its line.
 
-use broker_server::print_outcome;
+use broker_programs::print_outcome;
 use delivery::{ConnectionFault, Outcome, Refusal};
 use mcast_group::ProposeFault;
 use mcast_txn::{Sender, Stamp, Topic, TxnId};

@@ -1,7 +1,7 @@
 //! Whole runs: the outcomes' lines, and the report's.
 
 use super::runs::{LAGGED, LEADING, NOTHING, Run, after};
-use broker_server::{print_outcome, print_report};
+use broker_programs::{print_outcome, print_report};
 use delivery::Net;
 use std::alloc::Global;
 use std::test::Fail;

@@ -4,7 +4,7 @@ use crate::tests::broker_core::asks::Ask::{
     self, Connect, Decide, Frame, Next, Propose, Take, Turn,
 };
 use crate::tests::broker_core::asks::{answer, step, topics};
-use broker_server::print_report;
+use broker_programs::print_report;
 use delivery::{Event, Net};
 use itoa::Buffer;
 use std::alloc::Global;

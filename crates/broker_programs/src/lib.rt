@@ -1,0 +1,53 @@
+//! The programs of `stompd`, over any reader and writer.
+#![tactic(auto)]
+
+mod audit;
+mod counting;
+mod detail;
+mod drain;
+mod ending;
+mod excerpt;
+mod input;
+mod last;
+pub mod law;
+mod next;
+mod notice;
+mod output;
+mod print;
+mod program;
+mod program_fault;
+mod program_run;
+mod relay;
+mod relay_fault;
+mod request;
+mod script;
+mod script_run;
+mod scripting;
+mod serve_words;
+mod sink;
+mod spelled;
+mod telling;
+mod tracing;
+mod version;
+mod words_fault;
+
+pub use audit::run_audit;
+pub use counting::Counting;
+pub use detail::Detail;
+pub use ending::Ending;
+pub use excerpt::Excerpt;
+pub use notice::Notice;
+pub use print::{print_outcome, print_report};
+pub use program::{Program, USAGE};
+pub use program_fault::ProgramFault;
+pub use program_run::run_program;
+pub use relay::run_relay;
+pub use relay_fault::RelayFault;
+pub use request::Request;
+pub use script::{Script, ScriptFault};
+pub use scripting::run_script;
+pub use serve_words::ServeWords;
+pub use spelled::Spelled;
+pub use tracing::run_trace;
+pub use version::VERSION;
+pub use words_fault::WordsFault;

@@ -1,5 +1,0 @@
-use Rattle.broker_server.proofs.AuditLemmas.{some_audit}
-use Rattle.broker_server.proofs.law.each_input_is_audited.Goals as goal
-
-pub returns : goal.returns
-returns c = some_audit

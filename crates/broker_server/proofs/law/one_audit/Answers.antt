@@ -1,5 +1,0 @@
-use Rattle.broker_server.proofs.AuditLemmas.{one_audit}
-use Rattle.broker_server.proofs.law.one_audit.Goals as goal
-
-pub returns : goal.returns
-returns c = one_audit

@@ -1,5 +1,0 @@
-use Rattle.broker_server.proofs.PrintedTraces.{audit_to_yes}
-use Rattle.broker_server.proofs.law.traces_audit_to_yes.Goals as goal
-
-pub returns : goal.returns
-returns c = audit_to_yes

@@ -1,9 +1,0 @@
-use Rattle.std.proofs.Common.{take}
-use Rattle.std.specs.List.{flat_map}
-use Rattle.broker_server.specs.Inner.Lines.{item_line}
-use Rattle.broker_server.specs.Inner.Puts.{HasPut}
-use Rattle.broker_server.proofs.print.report.put_items.Given as goal
-
--- the lines so far are put
-abbrev pub invariant-loop-i : goal.invariant-loop-i
-invariant-loop-i g l = HasPut (g.D.Drain.counted l.fn.drain) l.fn.out (g.D.Drain.counted l.drain) l.out (flat_map (item_line l.word l.s) (take l.i l.queue.queued))

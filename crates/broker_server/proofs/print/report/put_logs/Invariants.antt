@@ -1,9 +1,0 @@
-use Rattle.std.proofs.Common.{take}
-use Rattle.std.specs.List.{flat_map, enumerate_from}
-use Rattle.broker_server.specs.ReportText.{log_lines}
-use Rattle.broker_server.specs.Inner.Puts.{HasPut}
-use Rattle.broker_server.proofs.print.report.put_logs.Given as goal
-
--- the lines so far are put
-abbrev pub invariant-loop-t : goal.invariant-loop-t
-invariant-loop-t g l = HasPut (g.D.Drain.counted l.fn.drain) l.fn.out (g.D.Drain.counted l.drain) l.out (flat_map log_lines (enumerate_from 0 (take l.t l.report.logs)))
