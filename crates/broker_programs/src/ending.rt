@@ -63,7 +63,7 @@ impl Ending {
     }
 
     /// The ending of a program whose run returned this.
-    pub(crate) fn by(answer: Result<u8, ProgramFault>) -> Ending
+    pub fn by(answer: Result<u8, ProgramFault>) -> Ending
         ensures { result ≡ ending_of answer }
     {
         match answer {
