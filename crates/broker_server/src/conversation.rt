@@ -35,8 +35,8 @@ mod taking;
 
 use crate::draining::drain_wire;
 use crate::wire::Wire;
-use broker_programs::ProgramFault;
 pub use broker_calls::BrokerCalls;
+use broker_programs::ProgramFault;
 use closing::end_subs;
 pub use conversation_fault::ConversationFault;
 use drained::Taking;

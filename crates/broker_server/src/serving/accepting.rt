@@ -104,7 +104,9 @@ where
 {
     let mut socket = Socket::new(stream);
     let Some(outfit) = outfit_of(rt, alloc, hub, peer, &mut socket) else {
-        hub.crowd.totals().leaves(rt, Activity::new(), &WhyLeft::NoMemory);
+        hub.crowd
+            .totals()
+            .leaves(rt, Activity::new(), &WhyLeft::NoMemory);
         desks.free_number(rt, peer.desk);
         return;
     };

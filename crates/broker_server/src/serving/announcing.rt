@@ -28,11 +28,7 @@ pub(crate) fn say_serving<R: Log>(rt: &R, topics: usize) {
 
 /// Says that this peer's connection came, unless too many lines do.
 #[inline(never)]
-pub(crate) fn say_came<R: Wait + Clock + Log>(
-    rt: &R,
-    crowd: &Crowd,
-    peer: Peer,
-) {
+pub(crate) fn say_came<R: Wait + Clock + Log>(rt: &R, crowd: &Crowd, peer: Peer) {
     if admits(rt, crowd) {
         info!(rt; target: "serve", "{peer} came");
     }
@@ -40,12 +36,7 @@ pub(crate) fn say_came<R: Wait + Clock + Log>(
 
 /// Says why this peer's connection left, unless too many lines do. That of one which lagged and took nothing is always there.
 #[inline(never)]
-pub(crate) fn say_left<R: Wait + Clock + Log>(
-    rt: &R,
-    crowd: &Crowd,
-    peer: Peer,
-    left: &WhyLeft,
-) {
+pub(crate) fn say_left<R: Wait + Clock + Log>(rt: &R, crowd: &Crowd, peer: Peer, left: &WhyLeft) {
     match left {
         WhyLeft::Untaken => warn!(rt; target: "serve", "{peer} left: {left}"),
         _ if admits(rt, crowd) => info!(rt; target: "serve", "{peer} left: {left}"),

@@ -191,7 +191,14 @@ impl<'a, R: Wait + Log + Clock, W: Side, T: Side> Calls<'a, R, W, T> {
     /// Ends this subscription at its topic.
     fn end_at(&self, sub: &SeatedSub) {
         let intake = self.bell.intake();
-        end_at(self.rt, self.alloc, self.hub, intake, sub.topic, from_ref(sub));
+        end_at(
+            self.rt,
+            self.alloc,
+            self.hub,
+            intake,
+            sub.topic,
+            from_ref(sub),
+        );
     }
 
     /// This subscription was found to have lagged: it is said and counted, once.

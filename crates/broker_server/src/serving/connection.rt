@@ -453,7 +453,9 @@ impl<'a, 'b, R: Wait + Log + Clock, W: Side, T: Side> Connection<'a, 'b, R, W, T
                 Came::End => return,
                 Came::Octets(_) | Came::Again => {}
                 Came::Nothing => {
-                    if polls >= LAST_POLLS || self.is_over(began) || self.wait(poll_time()).is_err()
+                    if polls >= LAST_POLLS
+                        || self.is_over(began)
+                        || self.wait(poll_time()).is_err()
                     {
                         return;
                     }

@@ -8,8 +8,8 @@ use crate::serving::room_made::RoomMade;
 use crate::serving::seat::Seat;
 use broker_locks::{Side, Subscribed};
 use mcast_txn::Topic;
-use std::sync::{Arc, Wait};
 use std::sync::atomic::{AtomicBool, Ordering};
+use std::sync::{Arc, Wait};
 
 /// A connection's open subscription, with its seat.
 pub(crate) struct SeatedSub {

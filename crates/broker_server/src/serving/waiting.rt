@@ -228,11 +228,7 @@ impl Waiting {
 
     /// It waits, and keeps this room meanwhile.
     #[inline(never)]
-    fn keep_room<R: Wait, W: Side, T: Side>(
-        &mut self,
-        asker: &Asker<'_, R, W, T>,
-        room: Reserved,
-    )
+    fn keep_room<R: Wait, W: Side, T: Side>(&mut self, asker: &Asker<'_, R, W, T>, room: Reserved)
         ensures { self.new ≡ record self.old { held = true } }
     {
         self.held = true;
