@@ -1,6 +1,6 @@
 //! A connection's thread.
 
-ghost use Rattle.std.specs.Prelude.{◌≡◌, ◌<◌, ◌≤◌, Bool, List, slice_range, true, vec_len, IfSome};
+ghost use Rattle.std.specs.Prelude.{◌≡◌, ◌<◌, ◌≤◌, List, slice_range, true, vec_len, IfSome};
 ghost use Rattle.std.specs.Option.{is_some};
 ghost use Rattle.broker_server.specs.BrokerRows.{BrokerRow};
 ghost use Rattle.broker_server.specs.Hearing.{HearsOrKeeps};

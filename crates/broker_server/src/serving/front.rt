@@ -1,6 +1,6 @@
 //! In front of which topics' turnstiles a connection is, and within which.
 
-ghost use Rattle.std.specs.Prelude.{◌≡◌, if◌then◌else◌, false, None};
+ghost use Rattle.std.specs.Prelude.{◌≡◌, ◌==◌, if◌then◌else◌, false, None};
 ghost use Rattle.std.specs.Option.{is_some};
 
 use crate::serving::hub::Hub;
