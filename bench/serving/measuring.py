@@ -7,6 +7,7 @@ import socket
 import statistics
 import subprocess
 import sys
+import threading
 import time
 
 from servers import OUT, Stop
@@ -16,6 +17,9 @@ FAULTS = ("lost", "doubled", "changed", "reordered")
 
 # A run by the clock is no result where it was slower than this part of its rate, or more than this part of it had to wait.
 LEAST_OF_RATE, MOST_HELD = 0.95, 0.01
+
+# What the host takes of a second is said from this part on.
+LEAST_SAID = 0.05
 
 # The window of a run at half of a server's rate, which is never to be full.
 WIDE = 8192
@@ -32,6 +36,32 @@ def share_stolen(begun):
     """What part of the processors' time the host took since then."""
     passed, stolen = (now - then for now, then in zip(processor_times(), begun))
     return stolen / passed if passed else 0.0
+
+
+class HostWatch(threading.Thread):
+    """Looks each second at what the machine's host takes of the processors' time, while the block goes on."""
+
+    def __init__(self):
+        super().__init__(daemon=True)
+        self.begun, self.share, self.most, self.has_ended = processor_times(), 0.0, 0.0, threading.Event()
+
+    def __enter__(self):
+        self.start()
+        return self
+
+    def __exit__(self, *_):
+        self.has_ended.set()
+        self.join()
+        self.share = share_stolen(self.begun)
+
+    def run(self):
+        before = processor_times()
+        while not self.has_ended.wait(1):
+            self.most, before = max(self.most, share_stolen(before)), processor_times()
+
+    def said(self):
+        """What it took in all, and in the worst second; nothing where that was little."""
+        return f"; the host took {self.share:.0%} of the processors' time, {self.most:.0%} of a second's" if self.most >= LEAST_SAID else ""
 
 
 def load(server, row, prefix, words, before=()):

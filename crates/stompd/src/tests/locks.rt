@@ -20,6 +20,7 @@ mod room;
 mod room_memory;
 mod senders;
 mod spans;
+mod told;
 mod topics;
 mod tracing;
 mod turns;
