@@ -8,7 +8,8 @@ use Rattle.delivery.proofs.Theorem.AcceptedIsDue.{reached, accepted_is_due, shar
 use Rattle.delivery.proofs.Theorem.LogIsOfAnswers.{log_is_of_outcomes}
 use Rattle.delivery.proofs.Theorem.SettledLeavesNoneOut.{settled_in_log}
 use Rattle.delivery.proofs.Theorem.ClosedIsSilent.{closed_is_silent}
-use Rattle.delivery.proofs.Theorem.SpansAsAnswered.{handing, spans_end_as_told}
+use Rattle.delivery.proofs.Theorem.SpansAsAnswered.{spans_end_as_told}
+use Rattle.delivery.proofs.Theorem.HandedIsPrefix.{handing}
 use Rattle.delivery.proofs.Core.Said.{said, said_from, commits_said, delivered_said, beginning_said, released_log_said, released_frontier_said, begun_said, settled_said, silent_said}
 use Rattle.delivery.proofs.Core.Started.{EndsAtFrontier, begin_of, numbered, begun_is, asked_at_frontier}
 use Rattle.delivery.proofs.Core.AccountOfRun.{run_of, core_at, core_is, account_is}

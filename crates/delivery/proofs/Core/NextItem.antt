@@ -8,7 +8,7 @@ use Rattle.mcast_txn.specs.TopicSet.{names as names_topic}
 use Rattle.delivery.specs.Core.Account.{due_to}
 use Rattle.delivery.proofs.Theorem.AcceptedIsDue.{reached, accepted_is_due}
 use Rattle.delivery.proofs.Theorem.LogIsOfAnswers.{front}
-use Rattle.delivery.proofs.Theorem.SpansAsAnswered.{handing}
+use Rattle.delivery.proofs.Theorem.HandedIsPrefix.{handing}
 use Rattle.delivery.proofs.Core.Said.{said, commits_said, delivered_said, beginning_said, released_frontier_said}
 use Rattle.delivery.proofs.Core.Started.{begin_of, beginning_is, frontier_of}
 

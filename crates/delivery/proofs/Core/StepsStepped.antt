@@ -15,7 +15,8 @@ use Rattle.delivery.proofs.Theorem.StepLaws.{refusals_change_nothing, others_unt
 use Rattle.delivery.proofs.Theorem.EndsAreAnswered.{ends_are_told}
 use Rattle.delivery.proofs.Theorem.LagsEndBeforeRow.{lags_end_before_row}
 use Rattle.delivery.proofs.Theorem.RowsEnter.{AllEnter, Enters, rows_enter}
-use Rattle.delivery.proofs.Theorem.SpansAsAnswered.{known, handing, ends_stay, spans_end_as_told}
+use Rattle.delivery.proofs.Theorem.SpansAsAnswered.{known, ends_stay, spans_end_as_told}
+use Rattle.delivery.proofs.Theorem.HandedIsPrefix.{handing}
 use Rattle.delivery.proofs.Core.AccountOfRun.{refusal_some}
 use Rattle.delivery.proofs.Core.ClaimsStand.{core_stands}
 use Rattle.delivery.proofs.Core.AtNext.{at_next}

@@ -84,12 +84,17 @@ pub open_items : (closed : Option EntryEnd) (entry : Option Entry) → closed �
 open_items None entry e = refl
 open_items (Some end) entry e = none_some end (sym e)
 
+-- an entry that is found is its subscription's
+pub owned_entry : (past : List Answer) (w : World) (s : ℕ) → Reached past w → (k : Found (entry_at w s)) → Owned w.subscriptions (subscription_at w s).topic s k.it.from
+owned_entry past w s r k =
+    let t = (subscription_at w s).topic in let f = found_entry s (topic_in w.topics t).subscriptions k.it k.is in
+    subst (λ n. Owned w.subscriptions t n k.it.from) f.is (r.inv.subscribes.owned t k.it f.stands)
+
+-- closing a subscription leaves of each queue what it accepted
 closed_grow : (past : List Answer) (w : World) (s : ℕ) → Reached past w → (k : Found (entry_at w s)) → Grow w (close_effect_of w s (Some k.it))
 closed_grow past w s h k r l =
     let entry = k.it in let t = (subscription_at w s).topic in let x = topic_in w.topics t in let y = after_unsubscribe s x in
-    let v = close_effect_of w s (Some entry) in
-    let f = found_entry s x.subscriptions entry k.is in
-    let own = subst (λ n. Owned w.subscriptions t n entry.from) f.is (h.inv.subscribes.owned t entry f.stands) in
+    let v = close_effect_of w s (Some entry) in let own = owned_entry past w s h k in
     at_set_within (λ (z : Subscription). More (accepted_at w r) (items_by z.closed (find_entry r (topic_in v.topics z.topic).subscriptions))) w.subscriptions s r _ no_subscription own.there
     (λ same. subst (λ n. More (accepted_at w n) (end_of x.frontier entry).accepted) (sym same)
     (More-equal (accepted_at w s) (end_of x.frontier entry).accepted

@@ -2,7 +2,7 @@
 use Rattle.delivery.proofs.Words.Std.{◌≡◌, ℕ, zero, suc, ◌+◌, ◌<◌, ◌≤◌, Bool, true, false, cond, not, ◌&&◌, List, [], ◌∷◌, length, Option, Some, None, refl, sym, subst, ◌⊎◌, inl, inr, arith, ltb, slice_get, is_some, true≢false, and_parts, ltb-true, not-false}
 use Rattle.delivery.proofs.Words.Topics.{part_at, Decision, In, Topic, TxnId, ProposeFault, first_refusal, Item, Pending, due_part, propose_fault}
 use Rattle.delivery.proofs.Words.Lemmas.{none_some, some_same, not_true}
-use Rattle.delivery.proofs.Words.Machine.{World, Leftover, Subscription, subscription_at, speaker, topic_at, accepted_at, end_at, Move, move_answer, move_refusal, move_refusals, cancel_objection, learn_objection, commit_answer, leave_answer, propose_answer, proposal_fault, or_out_of_memory, cancel_answer, release_answer, take_answer, find_leftover, find_verdict, oldest_live, is_live, undecided_at, IsAnswer, AddsTopic, Opens, Connects, Commits, Subscribes, Unsubscribes, Disconnects, Errs, Lost, Leaves, Proposes, Decides, Withdraws, Cancels, Learns, Releases, Turns, Takes}
+use Rattle.delivery.proofs.Words.Machine.{World, Leftover, Subscription, subscription_at, speaker, topic_at, accepted_at, end_at, Move, move_answer, move_refusal, move_refusals, cancel_objection, learn_objection, commit_answer, leave_answer, propose_answer, proposal_fault, or_out_of_memory, cancel_answer, release_answer, take_answer, find_leftover, find_verdict, oldest_live, is_live, undecided_at, IsAnswer, AddsTopic, Opens, Connects, Commits, Subscribes, Unsubscribes, Disconnects, Errs, Lost, Leaves, Proposes, Decides, Withdraws, Cancels, Learns, Releases, Turns, Takes, Answer, answer_to}
 use Rattle.delivery.specs.Theorem.Answers.{IsOldest, MovesAreAnswered}
 use Rattle.delivery.proofs.Machine.Invariant.{sub_in}
 use Rattle.delivery.proofs.Machine.SenderSteps.{leftover_found}
@@ -135,3 +135,7 @@ answer_is w (Takes s) n =
 -- each event has an answer of its own, in any core
 pub events_are_answered : MovesAreAnswered
 events_are_answered w e = by_refusal (λ v o. IsAnswer w e o) w e (λ why. tt) (λ n. answer_is w e n)
+
+-- so what it is answered says which event it was
+pub answer_as : (w : World) (e : Move) {o : Answer} → answer_to w e ≡ o → IsAnswer w e o
+answer_as w e a = subst (IsAnswer w e) a (events_are_answered w e)
