@@ -13,7 +13,7 @@ use Rattle.delivery.proofs.Machine.Effects.{made_answer, made_world, refused_ans
 use Rattle.delivery.proofs.Machine.InvariantIsKept.{checked, in_flight}
 use Rattle.delivery.proofs.Core.ByRun.{run_append, answers_append, longer}
 use Rattle.delivery.proofs.Core.Said.{said, txn_count_said, has_closed_said}
-use Rattle.delivery.proofs.Core.Speaking.{Spoken, id_at, open_in, run_spoken, start_spoken}
+use Rattle.delivery.proofs.Core.Speaking.{spoken, id_at, open_in}
 use Rattle.delivery.proofs.Core.Tests.{connection_there}
 use Rattle.delivery.proofs.Core.NextItem.{next_item_is, connection_is}
 use Rattle.delivery.proofs.Core.SendsLeft.{sends_are_left}
@@ -47,10 +47,6 @@ core_with names w steps = record { names = names; world = w; steps = steps }
 -- that of a run of the machine
 abbrev pub core_at : List (List ℕ) → Run → List CoreStep → Core
 core_at names r steps = core_with names (final_world r) steps
-
--- what a run keeps of connections and senders
-pub spoken : (r : Run) → Spoken (answers_of r) (final_world r)
-spoken r = run_spoken r.events [] (start r.capacity r.log_limit r.clocks) (start_spoken r.capacity r.log_limit r.clocks)
 
 -- ---- answers and outcomes
 

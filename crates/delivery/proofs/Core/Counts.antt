@@ -8,7 +8,7 @@ use Rattle.delivery.proofs.Words.Core.{Event, Outcome, TopicList, CoreStep, Read
 use Rattle.stomp_session.specs.declared.action.Action.TheVariants as actions
 use Rattle.delivery.proofs.Core.ByRun.{run_append}
 use Rattle.delivery.proofs.Machine.SubscriptionSteps.{set_length}
-use Rattle.delivery.proofs.Machine.ByFound.{InEachCase, by_found, by_entry}
+use Rattle.delivery.proofs.Machine.ByFound.{InEachCase, by_found}
 use Rattle.delivery.specs.Core.Delivery.{opened_by, opened_in}
 use Rattle.delivery.proofs.Machine.SenderSteps.{In-append_cases}
 use Rattle.delivery.proofs.Machine.InvariantIsKept.{by_refusal}
@@ -345,7 +345,7 @@ counted topics capacity steps same run = (topics_counted topics capacity steps s
 
 -- no move changes it
 effect_limit : (w : World) (e : Move) → InEachCase (λ v o. v.log_limit ≡ w.log_limit) w e
-effect_limit w (Leaves c) = (refl, λ s. by_entry (λ v. v.log_limit ≡ w.log_limit) w s refl (λ k. refl))
+effect_limit w (Leaves c) = (refl, λ s. (refl, λ k. refl))
 effect_limit w _ = (refl, λ k. refl)
 
 run_limit : (ms : List Move) (w : World) → (run ms w).log_limit ≡ w.log_limit

@@ -1,7 +1,7 @@
 -- What a move makes, by what its effect finds: a commit's SENDs, the entry of a subscription, the oldest subscription that is left, a fault, a
 -- leftover, a verdict, a part that is due, or an item. What holds in each case holds of what the move makes; so an invariant has one row for
 -- all moves that leave what it speaks of.
-use Rattle.delivery.proofs.Words.Std.{◌≡◌, List, [], ◌∷◌, Option, Some, None, refl, slice_get}
+use Rattle.delivery.proofs.Words.Std.{◌≡◌, List, [], ◌∷◌, Option, Some, None, refl, slice_get, is_some, false, true≢false}
 use Rattle.delivery.proofs.Words.Topics.{SentMessage, due_part, after_release}
 use Rattle.delivery.proofs.Words.Machine.{World, Move, Answer, move_effect, move_answer, topic_at, with_topic, speaker, subscription_at, entry_at, accepted_at, queue_has_room, find_leftover, find_verdict, oldest_live, commit_effect, commit_answer, close_effect_of, end_now, leave_effect, leave_answer, proposal_fault, propose_effect, propose_answer, cancel_effect, cancel_answer, learn_effect, release_answer, take_effect, take_answer, Commits, Unsubscribes, Leaves, Proposes, Cancels, Learns, Releases, Takes, Done, Gone, Learnt, Unsubscribed, Cancelled, Released, Handed}
 -- what an option has
@@ -13,6 +13,11 @@ pub record Found {X : Type 0} (o : Option X) : Type 0 where
 pub found : {X : Type 0} (P : Option X → Type 0) (o : Option X) → P None → ((k : Found o) → P (Some k.it)) → P o
 found P None h g = h
 found P (Some x) h g = g (record { it = x; is = refl })
+
+-- an option that has no value is None
+pub none_of : {X : Type 0} (o : Option X) → is_some o ≡ false → o ≡ None
+none_of None e = refl
+none_of (Some x) e = absurd (true≢false e)
 
 -- P holds of the world and the answer where nothing is found, and where something is
 abbrev pub InEachCase : (World → Answer → Type 0) → World → Move → Type 0

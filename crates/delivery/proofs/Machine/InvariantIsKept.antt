@@ -1,8 +1,8 @@
 -- Every event keeps the invariant, and the commit list of the past is the core's.
 use Rattle.delivery.proofs.Words.Std.{◌≡◌, ℕ, ◌+◌, ◌<◌, ◌≤◌, Bool, true, false, cond, not, inl, inr, List, [], ◌∷◌, ◌++◌, length, set, Option, Some, None, refl, sym, ap, subst, ◌∙◌, arith, option_or, option_map, is_some, true≢false, and_parts, ltb-true, not-false}
-use Rattle.delivery.proofs.Words.Topics.{greatest, part_at, topics_of, Transaction, CommitRow, same_id, In, names, Decision, Topic, TxnId, SentMessage, ProposeFault, LearnFault, first_refusal, Pending, Entry, propose_fault, is_pending, after_learn, due_part, after_release, after_turn, decided_stamp}
+use Rattle.delivery.proofs.Words.Topics.{greatest, part_at, topics_of, Transaction, CommitRow, same_id, In, names, Decision, Topic, TxnId, SentMessage, ProposeFault, LearnFault, first_refusal, Pending, propose_fault, is_pending, after_learn, due_part, after_release, after_turn, decided_stamp}
 use Rattle.delivery.proofs.Words.Lemmas.{id_equal, id_itself, at_set, NoneHolds, passes, some_same, none_some, not_true}
-use Rattle.delivery.proofs.Words.Machine.{Objection, World, Undecided, Leftover, SenderState, topic_at, new_sender, speaker, entry_at, speaker_number, Move, Answer, world_after, answer_to, move_refusal, move_effect, move_answer, undecided_at, undecided_or_none, find_leftover, find_verdict, verdict_in, has_ticket, next_txn, next_ticket, connect_effect, commit_effect, commit_answer, proposal_fault, propose_effect, propose_answer, decide_effect, withdraw_effect, cancel_effect, cancel_answer, learn_effect, learn_objection, release_answer, queue_has_room, close_effect, close_effect_of, or_out_of_memory, learn_objection_of, is_topic, move_refusals, topic_objection, txn_of_id, commits_of}
+use Rattle.delivery.proofs.Words.Machine.{Objection, World, Undecided, Leftover, SenderState, topic_at, new_sender, speaker, speaker_number, Move, Answer, world_after, answer_to, move_refusal, move_effect, move_answer, undecided_at, undecided_or_none, find_leftover, find_verdict, verdict_in, has_ticket, next_txn, next_ticket, connect_effect, commit_effect, commit_answer, proposal_fault, propose_effect, propose_answer, decide_effect, withdraw_effect, cancel_effect, cancel_answer, learn_effect, learn_objection, release_answer, queue_has_room, or_out_of_memory, learn_objection_of, is_topic, move_refusals, topic_objection, txn_of_id, commits_of}
 use Rattle.mcast_group.specs.Machine.{propose_refusals}
 use Rattle.delivery.specs.Machine.Moves.Move.{AddsTopic, Connects, Commits, Subscribes, Unsubscribes, Leaves, Proposes, Decides, Withdraws, Cancels, Learns, Releases, Turns, Takes}
 use Rattle.delivery.specs.Machine.Moves.Answer.{Refused, Done, Begun, Ticket}
@@ -274,13 +274,6 @@ learned_reached past w t id h e =
       commits = h.commits ∙ sym same.1;
     }
 
-closed_case : (past : List Answer) (w : World) (s : ℕ) → Reached past w → (o : Option Entry) → entry_at w s ≡ o → Reached past (close_effect_of w s o)
-closed_case past w s h None e = h
-closed_case past w s h (Some entry) e = record { inv = end_step (tickets past) w s entry h.inv e; flights = h.flights; commits = h.commits }
-
-closed_reached : (past : List Answer) (w : World) (s : ℕ) → Reached past w → Reached past (close_effect w s)
-closed_reached past w s h = closed_case past w s h (entry_at w s) refl
-
 -- an outcome that says nothing of tickets, transactions and decisions
 unspoken : (past : List Answer) (w : World) (o : Answer) → tickets (o ∷ past) ≡ tickets past → ((id : TxnId) → txn_of_id id (o ∷ past) ≡ txn_of_id id past) → commits_of (o ∷ past) ≡ commits_of past → Reached past w → Reached (o ∷ past) w
 unspoken past w o a b c h = record {
@@ -313,10 +306,15 @@ happens_reached past w (Subscribes c t) h e =
       flights = h.flights;
       commits = h.commits;
     }
-happens_reached past w (Unsubscribes c s) h e = unspoken past (close_effect w s) _ refl (λ id. refl) refl (closed_reached past w s h)
+happens_reached past w (Unsubscribes c s) h e =
+    by_found (λ v o. Reached (o ∷ past) v) w (Unsubscribes c s)
+    (record { inv = h.inv; flights = h.flights; commits = h.commits }, λ k. record { inv = end_step (tickets past) w s k.it h.inv k.is; flights = h.flights; commits = h.commits })
 happens_reached past w (Leaves c) h e =
     by_found (λ v o. Reached (o ∷ past) v) w (Leaves c)
-    (record { inv = h.inv; flights = h.flights; commits = h.commits }, λ s. unspoken past (close_effect w s) _ refl (λ id. refl) refl (closed_reached past w s h))
+    (record { inv = h.inv; flights = h.flights; commits = h.commits }, λ s. (
+      record { inv = h.inv; flights = h.flights; commits = h.commits },
+      λ k. record { inv = end_step (tickets past) w s.it k.it h.inv k.is; flights = h.flights; commits = h.commits },
+    ))
 happens_reached past w (Proposes c t memory) h e = proposed_case past w c t memory h (asks_of w c t memory e) (proposal_fault w c t memory) refl
 happens_reached past w (Decides c) h e = decided_reached past w c h e
 happens_reached past w (Withdraws c) h e = withdrawn_reached past w c h e

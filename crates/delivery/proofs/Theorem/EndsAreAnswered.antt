@@ -13,7 +13,7 @@ use Rattle.delivery.proofs.Theorem.HandedIsPrefix.{handing, find_kept, find_inse
 use Rattle.delivery.proofs.Machine.QueueSteps.{Goes, release_goes, turned_goes}
 use Rattle.delivery.proofs.Machine.SpanSteps.{end_in, step_tells, moves_topic}
 use Rattle.delivery.proofs.Theorem.SpansAsAnswered.{known, end_there, closed_ends}
-use Rattle.delivery.proofs.Machine.ByFound.{InEachCase, always, Found}
+use Rattle.delivery.proofs.Machine.ByFound.{InEachCase, by_found, always, Found}
 
 -- an end that is new
 record New (w : World) (s : ℕ) (end : Stamp) (v : World) : Type 0 where
@@ -93,7 +93,7 @@ closed_why : (past : List Answer) (w : World) (q s : ℕ) (end : Stamp) → Reac
     New w s end v → Unsubscribed q (end_now w q) ≡ Unsubscribed s end
 closed_why past w q s end r k new = elim (cases_order s q) [
   | inl d ↦ (let v = close_effect_of w q (Some k.it) in
-      let same : end_now w q ≡ end = some_same (end_now w q) end (sym (closed_ends past w q r k) ∙ (ap (λ n. end_at v n) (sym d) ∙ new.now)) in
+      let same : end_now w q ≡ end = some_same (end_now w q) end (sym (closed_ends past w q r k).end ∙ (ap (λ n. end_at v n) (sym d) ∙ new.now)) in
       ap (Unsubscribed q) same ∙ ap (λ n. Unsubscribed n end) (sym d))
   | inr (inl l) ↦ not_new (closed_other past w q s r (λ d. omega arith) k) new
   | inr (inr l) ↦ not_new (closed_other past w q s r (λ d. omega arith) k) new
@@ -116,7 +116,7 @@ effect_why r (Turns t) s end n l =
     let w = final_world r in
     always (λ new. inr (inr (ap Turns (sym (lag_topic w t _ s end new))), lag_full r t _ s end l (turned_goes w (topic_at w t)) new))
 effect_why r (Takes q) s end n l = (not_new refl, λ k. not_new (taken_one (final_world r) q s k.it))
-effect_why r _ s end n l = always (not_new refl)
+effect_why r _ s end n l = (not_new refl, λ k. not_new refl)
 
 -- a span gets its end as it is closed, or by a release or a turn that leaves its queue full
 pub ends_are_told : Reported.EndsAreAnswered

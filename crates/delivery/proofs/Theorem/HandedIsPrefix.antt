@@ -232,9 +232,9 @@ handed_handing past w s l h k =
           (λ e. subst (λ n. IsTaken (delivered_items n (Handed s k.it ∷ past)) (items_by (subscription_at w s).closed (find_entry n (topic_in w.topics (subscription_at w s).topic).subscriptions)) ((subscription_at w s).taken + 1)) (sym e)
           (subst (λ z. IsTaken z (accepted_at w s) ((subscription_at w s).taken + 1)) (sym (handed_same s k.it past))
           (taken_next (delivered_items s past) (accepted_at w s) (subscription_at w s).taken k.it (h.held s l) k.is)))
-          (λ ne. subst (λ z. IsTaken z (accepted_at w r) (subscription_at w r).taken) (sym (handed_other s r k.it past (λ e. ne (sym e))))
+          (λ ne. subst (λ z. IsTaken z (accepted_at w r) (subscription_at w r).taken) (sym (handed_other r s k.it past (λ e. ne (sym e))))
           (h.held r (omega arith)));
-      fresh = λ r j. handed_other s r k.it past (λ e. omega arith) ∙ h.fresh r (omega arith);
+      fresh = λ r j. handed_other r s k.it past (λ e. omega arith) ∙ h.fresh r (omega arith);
     }
 
 -- ---- each event

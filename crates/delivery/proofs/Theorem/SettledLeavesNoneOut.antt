@@ -192,7 +192,7 @@ happens_settling past w (Releases t) h l e =
 happens_settling past w (Turns t) h l e = turn_settling past w t h l
 happens_settling past w (Takes s) h l e =
     by_found (λ v o. Settling (o ∷ past) v.topics v.senders) w (Takes s)
-    (note_quiet past w.topics w.senders (take_answer w s None) (quiet (take_answer w s None) refl) l, λ item. note_quiet past w.topics w.senders (Handed s item) (quiet (Handed s item) refl) l)
+    (note_quiet past w.topics w.senders (take_answer w s None) (quiet (take_answer w s None) refl) l, λ k. note_quiet past w.topics w.senders (Handed s k.it) (quiet (Handed s k.it) refl) l)
 happens_settling past w e h l n = note_quiet past w.topics w.senders (move_answer w e) (quiet (move_answer w e) refl) l
 
 -- each event keeps Settling

@@ -8,7 +8,7 @@ use Rattle.delivery.proofs.Machine.Invariant.{topic_in}
 use Rattle.delivery.proofs.Machine.SubscriptionSteps.{beyond, at_push_two, finds_entry, new_subscription}
 use Rattle.delivery.proofs.Machine.InvariantIsKept.{Reached, tickets, by_refusal, step_reached, checked}
 use Rattle.delivery.proofs.Theorem.AcceptedIsDue.{reached, start_reached, frontier_is}
-use Rattle.delivery.proofs.Theorem.ClosedIsSilent.{none_of}
+use Rattle.delivery.proofs.Machine.ByFound.{none_of}
 use Rattle.delivery.proofs.Machine.SpanSteps.{end_in, none_there, step_tells}
 use Rattle.delivery.proofs.Machine.ByFound.{Found}
 use Rattle.delivery.proofs.Theorem.MovesAreAnswered.{answer_as}
@@ -17,43 +17,56 @@ use Rattle.delivery.proofs.Theorem.HandedIsPrefix.{handing, owned_entry}
 -- ---- an answer that begins a subscription
 
 -- subscription s is there, and has this topic and this beginning
-pub record Begins (w : World) (s : ℕ) (t : Topic) (from : Stamp) : Type 0 where
+pub record Begins (w : World) (s c : ℕ) (t : Topic) (from : Stamp) : Type 0 where
   pub there : s < length w.subscriptions
   pub topic : (subscription_at w s).topic ≡ t
   pub start : (subscription_at w s).from ≡ from
+  pub owner : (subscription_at w s).connection ≡ c
 
-begins_new : (w : World) (c : ℕ) (t : Topic) (s : ℕ) (from : Stamp) → s ≡ length w.subscriptions → from ≡ (topic_at w t).frontier → Begins (move_effect w (Subscribes c t)) s t from
+begins_new : (w : World) (c : ℕ) (t : Topic) (s : ℕ) (from : Stamp) → s ≡ length w.subscriptions → from ≡ (topic_at w t).frontier → Begins (move_effect w (Subscribes c t)) s c t from
 begins_new w c t s from n f =
     let m = length_push w.subscriptions (new_subscription w c t) in record {
       there = omega arith;
       topic = at_push_two (λ (z : Subscription). z.topic ≡ t) w.subscriptions s (new_subscription w c t) no_subscription (λ k. refl) (λ ne. absurd (ne n));
       start = at_push_two (λ (z : Subscription). z.from ≡ from) w.subscriptions s (new_subscription w c t) no_subscription (λ k. sym f) (λ ne. absurd (ne n));
+      owner = at_push_two (λ (z : Subscription). z.connection ≡ c) w.subscriptions s (new_subscription w c t) no_subscription (λ k. refl) (λ ne. absurd (ne n));
     }
 
-begins_now : (w : World) (e : Move) (s c : ℕ) (t : Topic) (from : Stamp) → answer_to w e ≡ Subscribed s c t from → Begins (world_after w e) s t from
+begins_now : (w : World) (e : Move) (s c : ℕ) (t : Topic) (from : Stamp) → answer_to w e ≡ Subscribed s c t from → Begins (world_after w e) s c t from
 begins_now w e s c t from a =
     let h = answer_as w e a in
-    subst (λ z. Begins (world_after w z) s t from) (sym h.0)
-    (by_refusal (λ v o. o ≡ Subscribed s c t from → Begins v s t from) w (Subscribes c t) (λ why d. cc) (λ n d. begins_new w c t s from h.1 h.2) (ap (answer_to w) (sym h.0) ∙ a))
+    subst (λ z. Begins (world_after w z) s c t from) (sym h.0)
+    (by_refusal (λ v o. o ≡ Subscribed s c t from → Begins v s c t from) w (Subscribes c t) (λ why d. cc) (λ n d. begins_new w c t s from h.1 h.2) (ap (answer_to w) (sym h.0) ∙ a))
 
 -- ---- an answer that ends one
 
--- a subscription that isn't closed has its entry
-live_entry : (past : List Answer) (w : World) (c s : ℕ) → Reached past w → s < length w.subscriptions → is_live c (subscription_at w s) ≡ true → Found (entry_at w s)
+-- a live subscription isn't closed
+pub live_unclosed : (c : ℕ) (x : Subscription) → is_live c x ≡ true → x.closed ≡ None
+live_unclosed c x e = none_of x.closed (not-true (is_some x.closed) (and_parts (x.connection == c) (not (is_some x.closed)) e).1)
+
+-- so it has its entry
+pub live_entry : (past : List Answer) (w : World) (c s : ℕ) → Reached past w → s < length w.subscriptions → is_live c (subscription_at w s) ≡ true → Found (entry_at w s)
 live_entry past w c s r l live =
     let x = subscription_at w s in
-    let h = r.inv.subscribes.live s l (none_of x.closed (not-true (is_some x.closed) (and_parts (x.connection == c) (not (is_some x.closed)) live).1)) in
+    let h = r.inv.subscribes.live s l (live_unclosed c x live) in
     let f = finds_entry s (topic_in w.topics x.topic).subscriptions h.entry h.stands h.number in record { it = f.entry; is = f.found }
 
--- its span ends as it is closed
-pub closed_ends : (past : List Answer) (w : World) (s : ℕ) → Reached past w → (k : Found (entry_at w s)) → end_at (close_effect_of w s (Some k.it)) s ≡ Some (end_now w s)
+-- it is closed, and its span ends so
+pub record Ends (w : World) (s : ℕ) (to : Stamp) : Type 0 where
+  pub end : end_at w s ≡ Some to
+  pub closed : is_some (subscription_at w s).closed ≡ true
+
+-- as it is when it is closed
+pub closed_ends : (past : List Answer) (w : World) (s : ℕ) → Reached past w → (k : Found (entry_at w s)) → Ends (close_effect_of w s (Some k.it)) s (end_now w s)
 closed_ends past w s r k =
     let t = (subscription_at w s).topic in let left = end_of (topic_at w t).frontier k.it in let v = close_effect_of w s (Some k.it) in
-    at_set_within (λ (z : Subscription). end_in v.topics s z ≡ Some left.to) w.subscriptions s s (record (subscription_at w s) { closed = Some left }) no_subscription
-    (owned_entry past w s r k).there (λ d. refl) (λ ne. absurd (ne refl))
-    ∙ ap (λ (o : Option Entry). Some (elim o [ None ↦ zero_stamp | Some e ↦ (end_of (topic_at w t).frontier e).to ])) (sym k.is)
+    let l = (owned_entry past w s r k).there in let new : Subscription = record (subscription_at w s) { closed = Some left } in record {
+      end = at_set_within (λ (z : Subscription). end_in v.topics s z ≡ Some left.to) w.subscriptions s s new no_subscription l (λ d. refl) (λ ne. absurd (ne refl))
+          ∙ ap (λ (o : Option Entry). Some (elim o [ None ↦ zero_stamp | Some e ↦ (end_of (topic_at w t).frontier e).to ])) (sym k.is);
+      closed = at_set_within (λ (z : Subscription). is_some z.closed ≡ true) w.subscriptions s s new no_subscription l (λ d. refl) (λ ne. absurd (ne refl));
+    }
 
-ends_now : (past : List Answer) (w : World) (e : Move) (s : ℕ) (to : Stamp) → Reached past w → answer_to w e ≡ Unsubscribed s to → end_at (world_after w e) s ≡ Some to
+ends_now : (past : List Answer) (w : World) (e : Move) (s : ℕ) (to : Stamp) → Reached past w → answer_to w e ≡ Unsubscribed s to → Ends (world_after w e) s to
 ends_now past w e s to r a = elim (answer_as w e a) [
   | inl (c, is, live) ↦ by_move (Unsubscribes c s) is (λ n d.
       let k = and_parts (ltb s (length w.subscriptions)) (is_live c (subscription_at w s)) (not-false _ (checked w (Unsubscribes c s) n).1.1.1.0) in
@@ -61,18 +74,18 @@ ends_now past w e s to r a = elim (answer_as w e a) [
   | inr (c, is, old) ↦ by_move (Leaves c) is (λ n d. left (live_entry past w c s r old.there old.live) c (oldest_live c 0 w.subscriptions) d)
 ]
   where
-    by_move : (m : Move) → e ≡ m → (move_refusal w m ≡ None → move_answer w m ≡ Unsubscribed s to → end_at (move_effect w m) s ≡ Some to) → end_at (world_after w e) s ≡ Some to
+    by_move : (m : Move) → e ≡ m → (move_refusal w m ≡ None → move_answer w m ≡ Unsubscribed s to → Ends (move_effect w m) s to) → Ends (world_after w e) s to
     by_move m is h =
-        subst (λ z. end_at (world_after w z) s ≡ Some to) (sym is)
-        (by_refusal (λ v o. o ≡ Unsubscribed s to → end_at v s ≡ Some to) w m (λ why d. cc) h (ap (answer_to w) (sym is) ∙ a))
+        subst (λ z. Ends (world_after w z) s to) (sym is)
+        (by_refusal (λ v o. o ≡ Unsubscribed s to → Ends v s to) w m (λ why d. cc) h (ap (answer_to w) (sym is) ∙ a))
 
-    closes : Found (entry_at w s) → (q : ℕ) → Unsubscribed q (end_now w q) ≡ Unsubscribed s to → end_at (close_effect w q) s ≡ Some to
+    closes : Found (entry_at w s) → (q : ℕ) → Unsubscribed q (end_now w q) ≡ Unsubscribed s to → Ends (close_effect w q) s to
     closes k q d =
         let same : q ≡ s = cc in let end : end_now w q ≡ to = cc in
-        subst (λ n. end_at (close_effect w n) s ≡ Some to) (sym same)
-        (subst (λ o. end_at (close_effect_of w s o) s ≡ Some (end_now w s)) (sym k.is) (closed_ends past w s r k) ∙ ap Some (ap (end_now w) (sym same) ∙ end))
+        subst (λ n. Ends (close_effect w n) s to) (sym same)
+        (subst (λ z. Ends (close_effect w s) s z) (ap (end_now w) (sym same) ∙ end) (subst (λ o. Ends (close_effect_of w s o) s (end_now w s)) (sym k.is) (closed_ends past w s r k)))
 
-    left : Found (entry_at w s) → (c : ℕ) (o : Option ℕ) → leave_answer w c o ≡ Unsubscribed s to → end_at (leave_effect w c o) s ≡ Some to
+    left : Found (entry_at w s) → (c : ℕ) (o : Option ℕ) → leave_answer w c o ≡ Unsubscribed s to → Ends (leave_effect w c o) s to
     left k c None d = cc
     left k c (Some q) d = closes k q d
 
@@ -89,8 +102,8 @@ end_there past w s end r e = elim (cases_lt s (length w.subscriptions)) [
 pub record Known (capacity : ℕ) (past : List Answer) (w : World) : Type 0 where
   pub same : w.capacity ≡ capacity
   pub bounded : (s : ℕ) → s < length w.subscriptions → length (accepted_at w s) ≤ (subscription_at w s).taken + w.capacity
-  pub begun : (s c : ℕ) (t : Topic) (from : Stamp) → In (Subscribed s c t from) past → Begins w s t from
-  pub ended : (s : ℕ) (to : Stamp) → In (Unsubscribed s to) past → end_at w s ≡ Some to
+  pub begun : (s c : ℕ) (t : Topic) (from : Stamp) → In (Subscribed s c t from) past → Begins w s c t from
+  pub ended : (s : ℕ) (to : Stamp) → In (Unsubscribed s to) past → Ends w s to
 
 step_known : (capacity : ℕ) (past : List Answer) (w : World) (e : Move) → Reached past w → Known capacity past w → Known capacity (answer_to w e ∷ past) (world_after w e)
 step_known capacity past w e r h =
@@ -106,11 +119,12 @@ step_known capacity past w e r h =
           there = omega arith;
           topic = (k.each s l).topic ∙ b.topic;
           start = (k.each s l).from ∙ b.start;
+          owner = (k.each s l).owner ∙ b.owner;
         })
       ];
       ended = λ s to i. elim i [
         | inl d ↦ ends_now past w e s to r d
-        | inr j ↦ (let f = h.ended s to j in (k.each s (end_there past w s to r f)).stays to f)
+        | inr j ↦ (let f = h.ended s to j in let m = k.each s (end_there past w s to r f.end) in record { end = m.stays to f.end; closed = m.closed f.closed })
       ];
     }
 
@@ -133,7 +147,7 @@ spans_begin_as_told r s c t from i = let b = (known r).begun s c t from i in (b.
 
 -- a span has the end that was answered
 pub spans_end_as_told : Reported.SpansEndAsAnswered
-spans_end_as_told r s to i = (known r).ended s to i
+spans_end_as_told r s to i = ((known r).ended s to i).end
 
 -- a span begins at its topic's frontier
 pub spans_begin_at_frontier : Reported.SpansBeginAtFrontier

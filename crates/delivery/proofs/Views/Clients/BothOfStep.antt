@@ -17,7 +17,8 @@ use Rattle.delivery.proofs.Views.Runs.ByRunOfCore.{speaks_of}
 use Rattle.delivery.proofs.Views.Senders.HeldSenders.{spoken_used}
 use Rattle.delivery.proofs.Views.Senders.SenderChanges.{endpoint_of, held_of}
 use Rattle.delivery.proofs.Machine.InvariantIsKept.{by_refusal, checked}
-use Rattle.delivery.proofs.Theorem.SendersAreOwn.{no_flight, speaks}
+use Rattle.delivery.proofs.Theorem.SendersAreOwn.{speaks}
+use Rattle.delivery.proofs.Machine.ByFound.{none_of}
 use Rattle.delivery.proofs.Views.Events.NextStep.{ReadsUnless}
 use Rattle.delivery.proofs.Core.Counts.{no_effect}
 
@@ -203,7 +204,7 @@ leave_gone_both k c o new clients reached free none makes h = record {
 
     idle : (speaker k.world c).flight ≡ None
     idle =
-        no_flight (speaker k.world c).flight
+        none_of (speaker k.world c).flight
         (or_parts (is_some (speaker k.world c).flight) (nat_lt 0 (length (speaker k.world c).leftovers))
         (sym (ap (λ (x : Option ℕ). not (is_some x) && (is_some (speaker k.world c).flight || nat_lt 0 (length (speaker k.world c).leftovers))) oldest)
         ∙ (checked k.world (Move.Leaves c) (can_leave k c free).free).1.1.1.0)).0

@@ -9,7 +9,7 @@ use Rattle.stomp_session.specs.declared.action.Action.TheVariants as actions
 use Rattle.delivery.specs.Core.Connections.{event_connection, OpenAreLive, UnsubscribesFind, OtherConnectionsStay}
 use Rattle.delivery.specs.Core.State.{left_by}
 use Rattle.delivery.proofs.Machine.InvariantIsKept.{by_refusal}
-use Rattle.delivery.proofs.Machine.ByFound.{InEachCase, by_found, by_entry}
+use Rattle.delivery.proofs.Machine.ByFound.{InEachCase, by_found, always}
 use Rattle.delivery.proofs.Core.AccountOfRun.{core_is}
 use Rattle.delivery.proofs.Core.NamesKnown.{other_open}
 use Rattle.delivery.proofs.Views.Events.NextStep.{idle_reads}
@@ -49,13 +49,13 @@ leaving : (w : World) (d c : ℕ) → d ≢ c → Stays w (record w { connection
 leaving w d c n = shut w c d (record { sender = (connection_at w d).sender; standing = Standing.Leaving }) n
 
 effect_stays : (w : World) (mv : Move) (c : ℕ) → Apart w mv c → InEachCase (λ v o. Stays w v c) w mv
-effect_stays w Opens c n = let new : Connection = record { sender = None; standing = Standing.Open } in (pushed w.connections new c n, λ k. pushed w.connections new c n)
-effect_stays w (Connects d claimed) c n = (shut w c d _ n, λ k. shut w c d _ n)
-effect_stays w (Disconnects d) c n = (leaving w d c n, λ k. leaving w d c n)
-effect_stays w (Errs d) c n = (leaving w d c n, λ k. leaving w d c n)
-effect_stays w (Lost d) c n = (leaving w d c n, λ k. leaving w d c n)
-effect_stays w (Leaves d) c n = (shut w c d _ n, λ s. by_entry (λ v. Stays w v c) w s refl (λ k. refl))
-effect_stays w (Withdraws d) c n = (leaving w d c n, λ k. leaving w d c n)
+effect_stays w Opens c n = always (pushed w.connections _ c n)
+effect_stays w (Connects d claimed) c n = always (shut w c d _ n)
+effect_stays w (Disconnects d) c n = always (leaving w d c n)
+effect_stays w (Errs d) c n = always (leaving w d c n)
+effect_stays w (Lost d) c n = always (leaving w d c n)
+effect_stays w (Leaves d) c n = (shut w c d _ n, λ s. (refl, λ k. refl))
+effect_stays w (Withdraws d) c n = always (leaving w d c n)
 effect_stays w (Takes s) c n = (leaving w (subscription_at w s).connection c n, λ k. refl)
 effect_stays w _ c n = (refl, λ k. refl)
 

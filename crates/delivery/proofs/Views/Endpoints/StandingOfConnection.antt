@@ -1,15 +1,14 @@
 -- How each move changes the connections: one more is open, one isn't open any more, or none is changed. So a
 -- connection is closed where its standing says so, and never opens again.
-use Rattle.delivery.proofs.Words.Std.{◌≡◌, ◌≢◌, ℕ, ◌<◌, ◌≤◌, ◌==◌, Bool, true, false, not, ◌||◌, ◌⊎◌, inl, inr, List, [], ◌∷◌, ◌++◌, length, get_or, set, Some, None, refl, sym, ap, subst, ◌∙◌, arith, eqb-true, eq-eqb, false≢true, or_parts, not-false, cases_lt, length_push}
+use Rattle.delivery.proofs.Words.Std.{◌≡◌, ◌≢◌, ℕ, ◌<◌, ◌≤◌, ◌==◌, Bool, true, false, not, ◌||◌, ◌⊎◌, inl, inr, List, [], ◌∷◌, ◌++◌, length, get_or, set, None, refl, sym, ap, subst, ◌∙◌, arith, eqb-true, eq-eqb, false≢true, or_parts, not-false, cases_lt, length_push}
 use Rattle.delivery.proofs.Words.Lemmas.{at_set, at_set_within, not_true}
-use Rattle.delivery.proofs.Words.Machine.{World, Connection, Standing, is_reading, nobody, subscription_at, Move, Answer, world_after, answer_to, move_refusal, move_effect, move_answer, leave_answer, run, Run, answers_of, final_world, closes, Opens, Connects, Disconnects, Errs, Lost, Leaves, Withdraws, Takes}
+use Rattle.delivery.proofs.Words.Machine.{World, Connection, Standing, is_reading, nobody, subscription_at, Move, Answer, world_after, answer_to, move_refusal, run, Run, answers_of, final_world, closes, Opens, Connects, Disconnects, Errs, Lost, Leaves, Withdraws, Takes}
 use Rattle.delivery.proofs.Words.Core.{has_closed}
 use Rattle.delivery.proofs.Machine.SubscriptionSteps.{at_old, set_length, beyond}
 use Rattle.delivery.proofs.Machine.InvariantIsKept.{by_refusal, checked}
-use Rattle.delivery.proofs.Machine.ByFound.{InEachCase, by_found, by_entry}
+use Rattle.delivery.proofs.Machine.ByFound.{InEachCase, by_found, always}
 use Rattle.delivery.proofs.Core.ByRun.{by_run}
-use Rattle.delivery.proofs.Core.Speaking.{open_in}
-use Rattle.delivery.proofs.Core.AccountOfRun.{spoken}
+use Rattle.delivery.proofs.Core.Speaking.{open_in, spoken}
 use Rattle.delivery.proofs.Core.Tests.{connection_there}
 
 -- two numbers are one, or they aren't
@@ -75,24 +74,17 @@ differ c d n = not_true (c == d) refl (λ e. n (eqb-true c d e))
 
 -- ---- each move
 
-abbrev After : World → Move → Type 0
-After w e = Stands w.connections (move_effect w e).connections (move_answer w e)
-
 happens : (w : World) (e : Move) → move_refusal w e ≡ None → InEachCase (λ v o. Stands w.connections v.connections o) w e
-happens w Opens n =
-    let h : After w Opens = inr (inr (inl (record { new = record { sender = None; standing = Standing.Open }; pushed = refl; none = λ d. refl }))) in (h, λ k. h)
-happens w (Connects c claimed) n =
-    let h : After w (Connects c claimed) = inr (inr (inr (record { number = c; new = _; set_to = refl; standing = refl; none = λ d. refl }))) in (h, λ k. h)
-happens w (Disconnects c) n =
-    let h : After w (Disconnects c) = shuts w.connections c _ _ (connection_there w c (checked w (Disconnects c) n).0) refl (λ d k. differ c d k) in (h, λ k. h)
-happens w (Errs c) n = let h : After w (Errs c) = shuts w.connections c _ _ (connection_there w c (checked w (Errs c) n).0) refl (λ d k. differ c d k) in (h, λ k. h)
-happens w (Lost c) n = let h : After w (Lost c) = shuts w.connections c _ _ (connection_there w c (checked w (Lost c) n).0) refl (λ d k. differ c d k) in (h, λ k. h)
+happens w Opens n = always (inr (inr (inl (record { new = record { sender = None; standing = Standing.Open }; pushed = refl; none = λ d. refl }))))
+happens w (Connects c claimed) n = always (inr (inr (inr (record { number = c; new = _; set_to = refl; standing = refl; none = λ d. refl }))))
+happens w (Disconnects c) n = always (shuts w.connections c _ _ (connection_there w c (checked w (Disconnects c) n).0) refl (λ d k. differ c d k))
+happens w (Errs c) n = always (shuts w.connections c _ _ (connection_there w c (checked w (Errs c) n).0) refl (λ d k. differ c d k))
+happens w (Lost c) n = always (shuts w.connections c _ _ (connection_there w c (checked w (Lost c) n).0) refl (λ d k. differ c d k))
 happens w (Leaves c) n = (
   shuts w.connections c _ _ (connection_there w c (checked w (Leaves c) n).0) refl (λ d k. refl),
-  λ s. by_entry (λ v. Stands w.connections v.connections (leave_answer w c (Some s))) w s (stay w.connections _ (λ d. refl)) (λ k. stay w.connections _ (λ d. refl)),
+  λ s. (stay w.connections _ (λ d. refl), λ k. stay w.connections _ (λ d. refl)),
 )
-happens w (Withdraws c) n =
-    let h : After w (Withdraws c) = shuts w.connections c _ _ (connection_there w c (checked w (Withdraws c) n).0) refl (λ d k. differ c d k) in (h, λ k. h)
+happens w (Withdraws c) n = always (shuts w.connections c _ _ (connection_there w c (checked w (Withdraws c) n).0) refl (λ d k. differ c d k))
 happens w (Takes s) n =
     let c = (subscription_at w s).connection in
     let l = open_there w.connections c (not-false (open_in w.connections c) (or_parts _ _ (checked w (Takes s) n).1.0).1) in

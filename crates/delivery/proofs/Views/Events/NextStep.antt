@@ -1,10 +1,10 @@
 -- A Next: the endpoint of its connection alone has another reader, session and text, and the rest is what the machine makes
 -- of it.
-use Rattle.delivery.proofs.Words.Std.{◌≡◌, ◌≢◌, ℕ, ◌+◌, ◌<◌, ◌==◌, Bool, true, false, cond, inl, inr, List, [], ◌∷◌, ◌++◌, length, set, Option, Some, None, refl, sym, ap, subst, ◌∙◌, arith, eq-eqb, flat_map, option_to_list, is_some, unwrap_or, eqb-true, ltb-true, or_parts, not-false, cases_Bool, append-nil, get_or-set_other, set-get_or}
+use Rattle.delivery.proofs.Words.Std.{◌≡◌, ◌≢◌, ℕ, ◌+◌, ◌<◌, ◌==◌, Bool, true, false, cond, inl, inr, List, [], ◌∷◌, ◌++◌, length, set, Option, Some, None, refl, sym, ap, subst, ◌∙◌, arith, eq-eqb, flat_map, option_to_list, unwrap_or, eqb-true, ltb-true, or_parts, not-false, cases_Bool, append-nil, get_or-set_other, set-get_or}
 use Rattle.delivery.proofs.Words.Topics.{first_refusal, In}
 use Rattle.delivery.proofs.Words.Frames.{RawFrame, Unread, spelling_of, held_after, state_of}
 use Rattle.delivery.proofs.Words.Lemmas.{passes}
-use Rattle.delivery.proofs.Words.Machine.{Objection, World, Undecided, Connection, Standing, nobody, connection_at, sender_at, speaker, is_reading, speaks_for, needs_idle, run}
+use Rattle.delivery.proofs.Words.Machine.{Objection, World, Connection, Standing, nobody, connection_at, sender_at, speaker, is_reading, speaks_for, needs_idle, run}
 use Rattle.delivery.proofs.Words.Core.{Event, Outcome, Stage, CoreStep, Reading, frame_in, has_effect, accepted_of, is_cut, next_replies, subscribe_frame, text_out, Core, IsReadBy, next_moves, unread_at, MayStep, reading_outcomes, unless, each_number, live_numbers}
 use Rattle.delivery.proofs.Words.Views.{Makes, step_of, View, EndpointView, view_with, view_after, stage_view, endpoint_view}
 use Rattle.delivery.specs.Core.State.{left_by}
@@ -13,6 +13,7 @@ use Rattle.delivery.proofs.Views.Lists.ByNumber.{each_number-set}
 use Rattle.delivery.proofs.Views.Endpoints.EndpointsStay.{if_same}
 use Rattle.delivery.proofs.Views.Events.OneMove.{with_connection}
 use Rattle.delivery.proofs.Views.Senders.HeldSenders.{senders_alike}
+use Rattle.delivery.proofs.Machine.ByFound.{none_of}
 
 -- ---- what a Next adds
 
@@ -136,13 +137,9 @@ is_open Standing.Gone e = absurd (cc)
 pub idle_open : (w : World) (c : ℕ) → first_refusal (needs_idle w c) ≡ None → (connection_at w c).standing ≡ Standing.Open
 idle_open w c idle = is_open (connection_at w c).standing (idle_reads w c idle)
 
-is_none : (o : Option Undecided) → is_some o ≡ false → o ≡ None
-is_none None e = refl
-is_none (Some f) e = absurd (cc)
-
 -- its sender has no undecided transaction
 pub idle_flight : (w : World) (c : ℕ) → first_refusal (needs_idle w c) ≡ None → (speaker w c).flight ≡ None
-idle_flight w c idle = is_none (speaker w c).flight (or_parts _ _ (passes (needs_idle w c) idle).1.1.0).1
+idle_flight w c idle = none_of (speaker w c).flight (or_parts _ _ (passes (needs_idle w c) idle).1.1.0).1
 
 -- how far it is
 pub idle_stage : (names : List (List ℕ)) (k : Core) (c : ℕ) (accepted : List RawFrame) (unread : Unread) → first_refusal (needs_idle k.world c) ≡ None

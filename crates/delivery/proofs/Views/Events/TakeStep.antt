@@ -10,7 +10,7 @@ use Rattle.delivery.specs.Core.Output.{messages_for}
 use Rattle.delivery.specs.Inner.Takes.{after_item}
 use Rattle.delivery.specs.Inner.View.{View, EndpointView, SubView, view_of, view_with, view_after, group_view, sub_view, stage_view, leaving_endpoint, written_endpoint, parting_receipt, left_view as left_in_view, no_endpoint, no_group}
 use Rattle.delivery.proofs.Machine.Effects.{made_world, made_answer, same_world}
-use Rattle.delivery.proofs.Theorem.ClosedIsSilent.{none_of}
+use Rattle.delivery.proofs.Machine.ByFound.{none_of}
 use Rattle.delivery.proofs.Views.Runs.AccountOfTransactions.{begins_as, next_is}
 use Rattle.delivery.proofs.Views.Lists.ByNumber.{length-each_number}
 use Rattle.delivery.proofs.Views.Endpoints.DisconnectIsLast.{not_parting}

@@ -6,7 +6,8 @@ use Rattle.delivery.proofs.Words.Machine.{Undecided, sender_at, speaker, subscri
 use Rattle.delivery.proofs.Words.Core.{account_of, last_of, beginning_of, next_item, no_item, Core}
 use Rattle.delivery.proofs.Words.Views.{IsReached}
 use Rattle.delivery.proofs.Theorem.NeverRefused.{entries_are_there}
-use Rattle.delivery.proofs.Core.AccountOfRun.{Own, spoken, undecided_is}
+use Rattle.delivery.proofs.Core.AccountOfRun.{Own, undecided_is}
+use Rattle.delivery.proofs.Core.Speaking.{spoken}
 use Rattle.delivery.proofs.Core.NextItem.{next_item_is, connection_is}
 use Rattle.delivery.proofs.Views.Runs.ByRunOfCore.{by_world, by_account, stand_of}
 use Rattle.delivery.proofs.Core.ClaimsStand.{claims_own}

@@ -12,6 +12,7 @@ use Rattle.stomp_session.specs.Versions.{has_version}
 use Rattle.stomp_session.specs.Open.{is_connected}
 use Rattle.stomp_session.specs.Refusals.{Condition, refusals_by}
 use Rattle.delivery.proofs.Views.Runs.ByRunOfCore.{stand_of}
+use Rattle.delivery.proofs.Machine.ByFound.{none_of}
 
 any_append : (xs ys : List RawFrame) → is_connected (xs ++ ys) ≡ (is_connected ys || is_connected xs)
 any_append [] ys = none (is_connected ys)
@@ -104,10 +105,6 @@ has_sender k c f reached other free =
     let first = first_holds (is_closed s.phase) SessionFault.Closed (open_refusals f.command s f) free in
     sender_is k c reached
     ∙ not-false (is_connected (accepted_of c k.steps)) (sym (phase_new (accepted_of c k.steps) first.0) ∙ opens_other f.command s f other first.1)
-
-none_of : (o : Option ℕ) → is_some o ≡ false → o ≡ None
-none_of None e = refl
-none_of (Some s) e = absurd (true≢false e)
 
 -- one of which a CONNECT is accepted has none
 pub has_none : (k : Core) (c : ℕ) (f : RawFrame) → IsReached k → is_connect f.command ≡ true → session_fault (session_at k c) f ≡ None

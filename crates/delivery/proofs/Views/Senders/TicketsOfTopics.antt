@@ -3,7 +3,7 @@
 use Rattle.delivery.proofs.Words.Std.{◌≡◌, ◌≢◌, ℕ, ◌+◌, ◌<◌, ◌==◌, Bool, true, false, cond, nat_lt, ◌||◌, inl, inr, List, [], ◌∷◌, ◌++◌, map, set, Option, Some, None, refl, sym, ap, subst, ◌∙◌, arith, eq-eqb, ltb-true, ltb-false, false≢true, AllByRecursion, option_map, option_to_list}
 use Rattle.delivery.proofs.Words.Topics.{Topic, SentMessage, Stamp, row_at, ticket_rows, In, RisesBy, Slots, topics_of, names, ProposeFault}
 use Rattle.delivery.proofs.Words.Lemmas.{In-insert_cases, at_set, topics_rise, some_same, none_some}
-use Rattle.delivery.proofs.Words.Machine.{World, Undecided, SenderState, new_sender, sender_at, speaker, speaker_number, Move, move_refusal, move_effect, undecided_at, insert_ticket, next_ticket, next_txn, commit_effect, propose_effect, claimed_senders, Run, final_world, Connects, Commits, Leaves, Proposes, Decides, Withdraws, Cancels}
+use Rattle.delivery.proofs.Words.Machine.{World, Undecided, SenderState, new_sender, sender_at, speaker, speaker_number, Move, move_refusal, undecided_at, insert_ticket, next_ticket, next_txn, commit_effect, propose_effect, Run, final_world, Connects, Commits, Leaves, Proposes, Decides, Withdraws, Cancels}
 use Rattle.delivery.proofs.Words.Core.{Core}
 use Rattle.delivery.proofs.Words.Views.{IsReached}
 use Rattle.std.specs.List.{find}
@@ -11,9 +11,9 @@ use Rattle.mcast_txn.specs.Ballot.{slots_of_rows}
 use Rattle.delivery.proofs.Machine.Invariant.{sender_in}
 use Rattle.delivery.proofs.Machine.ProposeStep.{not_given}
 use Rattle.delivery.proofs.Machine.SubscriptionSteps.{at_push_two}
-use Rattle.delivery.proofs.Machine.InvariantIsKept.{Asks, asks_of, by_refusal}
-use Rattle.delivery.proofs.Machine.ByFound.{InEachCase, by_found, by_entry}
-use Rattle.delivery.proofs.Core.ByRun.{by_run}
+use Rattle.delivery.proofs.Machine.InvariantIsKept.{Asks, asks_of}
+use Rattle.delivery.proofs.Machine.ByFound.{InEachCase, always}
+use Rattle.delivery.proofs.Theorem.ByMoves.{by_runs_moves}
 use Rattle.delivery.proofs.Views.Runs.ByRunOfCore.{by_world}
 use Rattle.delivery.proofs.Views.Endpoints.StandingOfConnection.{same_or, differ}
 
@@ -84,23 +84,20 @@ proposed w c t (Some fault) asks h =
 opened : (w : World) → AreGiven w.senders → AreGiven (w.senders ++ new_sender ∷ [])
 opened w h s f = at_push_two (λ (z : SenderState). z.flight ≡ Some f → Given f) w.senders s new_sender new_sender (λ k e. none_some f e) (λ ne. h s f)
 
-happens : (w : World) (e : Move) → AreGiven w.senders → move_refusal w e ≡ None → InEachCase (λ v o. AreGiven v.senders) w e
-happens w (Connects c claimed) h n =
-    let g : AreGiven (claimed_senders w.senders claimed) = elim claimed as (λ o. AreGiven (claimed_senders w.senders o)) [ None ↦ opened w h | Some s ↦ h ] in (g, λ k. g)
-happens w (Commits c sends) h n = (h, λ k. flown w c k.0 k.1 h)
-happens w (Leaves c) h n = (h, λ s. by_entry (λ v. AreGiven v.senders) w s h (λ k. h))
-happens w (Proposes c t memory) h n = let asks = asks_of w c t memory n in (proposed w c t None asks h, λ fault. proposed w c t (Some fault) asks h)
-happens w (Decides c) h n = let g : AreGiven (move_effect w (Decides c)).senders = written w.senders (speaker_number w c) _ (λ f e. none_some f e) h in (g, λ k. g)
-happens w (Withdraws c) h n = let g : AreGiven (move_effect w (Withdraws c)).senders = written w.senders (speaker_number w c) _ (λ f e. none_some f e) h in (g, λ k. g)
-happens w (Cancels c t) h n = (h, λ k. written w.senders (speaker_number w c) _ (h (speaker_number w c)) h)
-happens w _ h n = (h, λ k. h)
+happens : (r : Run) (e : Move) → AreGiven (final_world r).senders → move_refusal (final_world r) e ≡ None → InEachCase (λ v o. AreGiven v.senders) (final_world r) e
+happens r (Connects c None) h n = always (opened (final_world r) h)
+happens r (Commits c sends) h n = (h, λ k. flown (final_world r) c k.0 k.1 h)
+happens r (Leaves c) h n = (h, λ s. (h, λ k. h))
+happens r (Proposes c t memory) h n =
+    let w = final_world r in let asks = asks_of w c t memory n in (proposed w c t None asks h, λ k. proposed w c t (Some k.it) asks h)
+happens r (Decides c) h n = let w = final_world r in always (written w.senders (speaker_number w c) _ (λ f e. none_some f e) h)
+happens r (Withdraws c) h n = let w = final_world r in always (written w.senders (speaker_number w c) _ (λ f e. none_some f e) h)
+happens r (Cancels c t) h n = let w = final_world r in (h, λ k. written w.senders (speaker_number w c) _ (h (speaker_number w c)) h)
+happens r _ h n = always h
 
 -- after each run they are so
 pub given : (r : Run) (s : ℕ) (f : Undecided) → (sender_in (final_world r).senders s).flight ≡ Some f → Given f
-given =
-    by_run (λ past w. AreGiven w.senders) (λ capacity log_limit clocks s f e. none_some f e)
-    (λ r e h. by_refusal (λ v o. AreGiven v.senders) (final_world r) e (λ why. h)
-    (λ n. by_found (λ v o. AreGiven v.senders) (final_world r) e (happens (final_world r) e h n)))
+given = by_runs_moves (λ past w. AreGiven w.senders) (λ capacity log_limit clocks s f e. none_some f e) (λ past w why h. h) happens
 
 -- ---- those of its topics
 

@@ -17,7 +17,7 @@ use Rattle.delivery.proofs.Views.Runs.AccountOfTransactions.{has_entry}
 use Rattle.delivery.proofs.Views.Lists.ByNumber.{each_number-set, get_or-each_number, length-each_number}
 use Rattle.delivery.proofs.Views.Subscriptions.GaugesOfEntries.{gauge_found}
 use Rattle.delivery.proofs.Views.Endpoints.StandingOfConnection.{differ}
-use Rattle.delivery.proofs.Theorem.ClosedAsAnswered.{live_unclosed}
+use Rattle.delivery.proofs.Theorem.SpansAsAnswered.{live_unclosed}
 
 -- ---- a number that is taken out
 

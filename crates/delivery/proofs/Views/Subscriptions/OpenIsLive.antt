@@ -25,7 +25,7 @@ use Rattle.delivery.proofs.Views.Endpoints.NothingBeforeOpen.{unsubscribed}
 use Rattle.delivery.proofs.Views.Subscriptions.SubsOfStep.{StepKeeps, Reads, StepBegins, StepEnds, StepChange, step_change, left_open, left_close}
 use Rattle.delivery.proofs.Core.NamesKnown.{step_left}
 use Rattle.delivery.proofs.Core.ClaimsStand.{core_steps}
-use Rattle.delivery.proofs.Theorem.ClosedAsAnswered.{live_unclosed}
+use Rattle.delivery.proofs.Theorem.SpansAsAnswered.{live_unclosed}
 
 -- the live subscriptions of connection c
 abbrev pub live_at : Core → ℕ → List ℕ

@@ -8,7 +8,7 @@ use Rattle.delivery.proofs.Words.Core.{live_numbers}
 use Rattle.delivery.proofs.Machine.SubscriptionSteps.{set_length}
 use Rattle.delivery.proofs.Machine.InvariantIsKept.{by_refusal, checked}
 use Rattle.delivery.proofs.Machine.ByFound.{by_found}
-use Rattle.delivery.proofs.Theorem.ClosedIsSilent.{oldest_found}
+use Rattle.delivery.proofs.Theorem.MovesAreAnswered.{is_oldest}
 use Rattle.delivery.proofs.Core.Speaking.{open_in}
 use Rattle.delivery.proofs.Views.Subscriptions.ClosedIsDropped.{live_of_others, live_owned}
 use Rattle.delivery.proofs.Views.Endpoints.StandingOfConnection.{stays_shut}
@@ -76,10 +76,7 @@ closed w c d s (Some e) live apart =
 left : (w : World) (c d : ℕ) (o : Option ℕ) → oldest_live d 0 w.subscriptions ≡ o → d ≢ c → Keeps w (leave_effect w d o) c
 left w c d None e apart = kept w (leave_effect w d None) c refl
 left w c d (Some s) e apart =
-    let o = oldest_found d 0 s w.subscriptions e in
-    let is : s ≡ 0 + o.place = o.is in
-    let same : o.place ≡ s = omega (arith, is) in
-    closed w c d s (entry_at w s) (subst (λ n. is_live d (subscription_at w n) ≡ true) same o.live) apart
+    closed w c d s (entry_at w s) (is_oldest w d s e).live apart
 
 -- the connection isn't one that is there and isn't open
 abbrev pub IsNotShut : World → ℕ → Type 0

@@ -3,16 +3,16 @@ use Rattle.delivery.proofs.Words.Std.{◌≡◌, ◌≢◌, ℕ, zero, suc, ◌+
 use Rattle.delivery.proofs.Words.Topics.{Topic, TxnId, Transaction, Decision, same_id, In, topics_of, names}
 use Rattle.delivery.proofs.Words.Lemmas.{id_equal}
 use Rattle.delivery.proofs.Words.Machine.{World, Undecided, SenderState, new_sender, sender_at, speaker_number, Move, Answer, move_refusal, move_effect, undecided_at, find_verdict, Numbered, txn_of_id, txn_count, Run, answers_of, final_world, Leaves, Decides}
-use Rattle.delivery.proofs.Machine.ByFound.{InEachCase, by_found, by_entry}
+use Rattle.delivery.proofs.Machine.ByFound.{InEachCase, always}
+use Rattle.delivery.proofs.Theorem.ByMoves.{by_runs_moves}
 use Rattle.delivery.proofs.Words.Core.{Core, each_number}
 use Rattle.delivery.proofs.Words.Views.{IsReached, verdict_at, view_of, verdict_list}
 use Rattle.std.proofs.lemmas.List.FromFn.{length-map-range_with_len, get_or-map-range_with_len}
 use Rattle.delivery.proofs.Machine.Invariant.{sender_in}
 use Rattle.delivery.proofs.Machine.SenderSteps.{In-append_cases}
-use Rattle.delivery.proofs.Machine.InvariantIsKept.{by_refusal, checked, in_flight, verdict_found}
+use Rattle.delivery.proofs.Machine.InvariantIsKept.{checked, in_flight, verdict_found}
 use Rattle.delivery.proofs.Theorem.AcceptedIsDue.{reached}
 use Rattle.delivery.proofs.Theorem.SeqsCount.{seqs_count}
-use Rattle.delivery.proofs.Core.ByRun.{by_run}
 use Rattle.delivery.proofs.Views.Lists.ByNumber.{get_or-each_number, length-each_number}
 use Rattle.delivery.proofs.Views.Runs.ByRunOfCore.{by_world}
 use Rattle.delivery.proofs.Machine.SubscriptionSteps.{beyond}
@@ -54,14 +54,12 @@ decided r c h n =
     ]
 
 happens : (r : Run) (e : Move) → AreOf [] (final_world r) → move_refusal (final_world r) e ≡ None → InEachCase (λ v o. AreOf [] v) (final_world r) e
-happens r (Decides c) h n = (decided r c h n, λ k. decided r c h n)
-happens r (Leaves c) h n = (h, λ s. by_entry (AreOf []) (final_world r) s h (λ k. h))
-happens r _ h n = (h, λ k. h)
+happens r (Decides c) h n = always (decided r c h n)
+happens r (Leaves c) h n = (h, λ s. (h, λ k. h))
+happens r _ h n = always h
 
 of_transactions : (r : Run) → AreOf [] (final_world r)
-of_transactions =
-    by_run (λ past w. AreOf [] w) (λ capacity log_limit clocks v i. absurd i)
-    (λ r e h. by_refusal (λ v o. AreOf [] v) (final_world r) e (λ why. h) (λ n. by_found (λ v o. AreOf [] v) (final_world r) e (happens r e h n)))
+of_transactions = by_runs_moves (λ past w. AreOf [] w) (λ capacity log_limit clocks v i. absurd i) (λ past w why h. h) happens
 
 -- ---- where a verdict is
 
