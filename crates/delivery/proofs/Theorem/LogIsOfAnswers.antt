@@ -2,7 +2,7 @@
 use Rattle.delivery.proofs.Words.Std.{◌≡◌, ℕ, ◌+◌, ◌-◌, ◌<◌, ◌≤◌, ◌==◌, Bool, true, false, cond, not, ◌&&◌, List, [], ◌∷◌, map, length, take, Option, Some, None, refl, sym, ap, subst, ◌∙◌, arith, not-true, true≢false, and_parts, and_from, eqb-true, eq-eqb, ltb-true, not-false, get_or-set_same, length-append, take-map, filter}
 use Rattle.delivery.proofs.Words.Topics.{stamp_lt, part_at, topics_of, CommitRow, stamp_of, agreed, In, Rises, names, Topic, Stamp, ProposeFault, LogRow, Item, row_stamp, TopicState, Pending, Entry, new_topic, due_part, after_propose, after_cancel, after_learn, after_unsubscribe, after_turn, row_of, decided_stamp}
 use Rattle.delivery.proofs.Words.Lemmas.{lt_asym, le_lt, same_topics, In-map, In-map_cases, In-filter, In-filter_cases, at_set, filter_none, In-sorted, In-sorted_cases, Rises-sorted, Rises-filter, Rises-map, same_rising, map_length, after_release_if}
-use Rattle.delivery.proofs.Words.Machine.{log_row, World, start, topic_at, speaker, subscription_at, entry_at, with_topic, log_at, frontier_at, Move, Answer, world_after, answer_to, move_refusal, move_effect, move_answer, is_topic, find_leftover, find_verdict, verdict_in, oldest_live, commit_effect, commit_answer, proposal_fault, propose_effect, propose_answer, cancel_effect, cancel_answer, learn_effect, release_answer, queue_has_room, take_effect, undecided_at, take_answer, leave_effect, leave_answer, close_effect_of, run, answers_from, commits_of, released_at, answers_of, final_world, is_logged, Done, Learnt}
+use Rattle.delivery.proofs.Words.Machine.{log_row, World, topic_at, speaker, subscription_at, entry_at, with_topic, log_at, frontier_at, Move, Answer, move_refusal, move_effect, move_answer, is_topic, find_leftover, find_verdict, verdict_in, oldest_live, commit_effect, commit_answer, proposal_fault, propose_effect, propose_answer, cancel_effect, cancel_answer, learn_effect, release_answer, queue_has_room, take_effect, undecided_at, take_answer, leave_effect, leave_answer, close_effect_of, commits_of, released_at, answers_of, final_world, is_logged, Done, Learnt}
 use Rattle.mcast_group.proofs.Turns.{turn_grows}
 use Rattle.delivery.specs.Machine.Moves.Move.{AddsTopic, Commits, Subscribes, Unsubscribes, Leaves, Proposes, Cancels, Learns, Releases, Turns, Takes}
 use Rattle.delivery.specs.Theorem.Laws
@@ -121,18 +121,11 @@ effect_counts t past w (Turns u) n h = turned_counts t past w u (not-false (is_t
 effect_counts t past w (Takes q) n h = taken_counts t past w q _ h
 effect_counts t past w _ n h = h
 
-run_counts : (t : Topic) (es : List Move) (past : List Answer) (w : World) → Counts t past w → Counts t (answers_from es w past) (run es w)
-run_counts t [] past w h = h
-run_counts t (e ∷ es) past w h =
-    run_counts t es (answer_to w e ∷ past) (world_after w e)
-    (by_refusal (λ v o. Counts t (o ∷ past) v) w e (λ why. h) (λ n. effect_counts t past w e n h))
-
-start_counts : (capacity log_limit : ℕ) (clocks : List ℕ) (t : Topic) → Counts t [] (start capacity log_limit clocks)
-start_counts capacity log_limit clocks t = at_new (λ (z : TopicState). length z.held ≡ 0) 0 log_limit clocks t.0 t (omega arith) (λ limit clock. refl)
-
 -- a topic's log has as many rows as its answers released
 pub log_counts_releases : Laws.LogCountsReleases
-log_counts_releases r t = run_counts t r.events [] (start r.capacity r.log_limit r.clocks) (start_counts r.capacity r.log_limit r.clocks t)
+log_counts_releases r t =
+    by_run (Counts t) (λ capacity log_limit clocks. at_new (λ (z : TopicState). length z.held ≡ 0) 0 log_limit clocks t.0 t (omega arith) (λ limit clock. refl))
+    (λ q e h. by_refusal (λ v o. Counts t (o ∷ answers_of q) v) (final_world q) e (λ why. h) (λ n. effect_counts t (answers_of q) (final_world q) e n h)) r
 
 -- ---- both
 
