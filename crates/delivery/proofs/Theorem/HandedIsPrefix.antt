@@ -7,7 +7,7 @@ use Rattle.delivery.specs.Machine.Moves.Move.{AddsTopic, Subscribes, Unsubscribe
 use Rattle.delivery.specs.Theorem.Laws
 use Rattle.delivery.proofs.Machine.Invariant.{topic_in, Owned}
 use Rattle.delivery.proofs.Machine.TopicSteps.{Entries, Entries-same, Keeps-release, Keeps-turned, at_topic_from}
-use Rattle.delivery.proofs.Machine.SubscriptionSteps.{at_push_two, at_added, set_length, found_entry, new_subscription, new_entry, topic_with, taken_more}
+use Rattle.delivery.proofs.Machine.SubscriptionSteps.{at_push_two, at_added, set_length, found_entry, finds_entry, new_subscription, new_entry, topic_with, taken_more}
 use Rattle.delivery.proofs.Machine.InvariantIsKept.{Reached, tickets, finds, checked}
 use Rattle.delivery.proofs.Theorem.AcceptedIsDue.{items_by}
 use Rattle.delivery.proofs.Machine.ByFound.{InEachCase, always, Found}
@@ -89,6 +89,12 @@ pub owned_entry : (past : List Answer) (w : World) (s : ℕ) → Reached past w 
 owned_entry past w s r k =
     let t = (subscription_at w s).topic in let f = found_entry s (topic_in w.topics t).subscriptions k.it k.is in
     subst (λ n. Owned w.subscriptions t n k.it.from) f.is (r.inv.subscribes.owned t k.it f.stands)
+
+-- a subscription that isn't closed has one
+pub unclosed_entry : (past : List Answer) (w : World) (s : ℕ) → Reached past w → s < length w.subscriptions → (subscription_at w s).closed ≡ None → Found (entry_at w s)
+unclosed_entry past w s r l unclosed =
+    let h = r.inv.subscribes.live s l unclosed in
+    let f = finds_entry s (topic_in w.topics (subscription_at w s).topic).subscriptions h.entry h.stands h.number in record { it = f.entry; is = f.found }
 
 -- closing a subscription leaves of each queue what it accepted
 closed_grow : (past : List Answer) (w : World) (s : ℕ) → Reached past w → (k : Found (entry_at w s)) → Grow w (close_effect_of w s (Some k.it))

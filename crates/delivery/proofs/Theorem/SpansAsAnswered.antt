@@ -4,15 +4,14 @@ use Rattle.delivery.proofs.Words.Topics.{zero_stamp, Topic, Stamp, In, Item, Ent
 use Rattle.delivery.proofs.Words.Lemmas.{at_set_within, none_some}
 use Rattle.delivery.proofs.Words.Machine.{World, Subscription, no_subscription, topic_at, subscription_at, entry_at, start, accepted_at, end_at, Move, Answer, world_after, answer_to, move_refusal, move_effect, move_answer, is_live, oldest_live, leave_effect, leave_answer, close_effect, close_effect_of, end_now, run, answers_from, Run, answers_of, final_world, Subscribes, Unsubscribes, Leaves, Subscribed, Unsubscribed}
 use Rattle.delivery.specs.Theorem.Reported
-use Rattle.delivery.proofs.Machine.Invariant.{topic_in}
-use Rattle.delivery.proofs.Machine.SubscriptionSteps.{beyond, at_push_two, finds_entry, new_subscription}
+use Rattle.delivery.proofs.Machine.SubscriptionSteps.{beyond, at_push_two, new_subscription}
 use Rattle.delivery.proofs.Machine.InvariantIsKept.{Reached, tickets, by_refusal, step_reached, checked}
 use Rattle.delivery.proofs.Theorem.AcceptedIsDue.{reached, start_reached, frontier_is}
 use Rattle.delivery.proofs.Machine.ByFound.{none_of}
 use Rattle.delivery.proofs.Machine.SpanSteps.{end_in, none_there, step_tells}
 use Rattle.delivery.proofs.Machine.ByFound.{Found}
 use Rattle.delivery.proofs.Theorem.MovesAreAnswered.{answer_as}
-use Rattle.delivery.proofs.Theorem.HandedIsPrefix.{handing, owned_entry}
+use Rattle.delivery.proofs.Theorem.HandedIsPrefix.{handing, owned_entry, unclosed_entry}
 
 -- ---- an answer that begins a subscription
 
@@ -46,10 +45,7 @@ live_unclosed c x e = none_of x.closed (not-true (is_some x.closed) (and_parts (
 
 -- so it has its entry
 pub live_entry : (past : List Answer) (w : World) (c s : ℕ) → Reached past w → s < length w.subscriptions → is_live c (subscription_at w s) ≡ true → Found (entry_at w s)
-live_entry past w c s r l live =
-    let x = subscription_at w s in
-    let h = r.inv.subscribes.live s l (live_unclosed c x live) in
-    let f = finds_entry s (topic_in w.topics x.topic).subscriptions h.entry h.stands h.number in record { it = f.entry; is = f.found }
+live_entry past w c s r l live = unclosed_entry past w s r l (live_unclosed c (subscription_at w s) live)
 
 -- it is closed, and its span ends so
 pub record Ends (w : World) (s : ℕ) (to : Stamp) : Type 0 where
