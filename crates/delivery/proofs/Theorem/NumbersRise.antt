@@ -148,7 +148,7 @@ added_rising past opening w clock r h =
     }
 
 -- the number of topics, where none is added
-abbrev AddsNone : Move → Type 0
+abbrev pub AddsNone : Move → Type 0
 AddsNone (AddsTopic clock) = Prim.⊥
 AddsNone e = Unit {0}
 
@@ -164,7 +164,7 @@ length_effect w (Releases t) n = always (set_length w.topics t.0 _)
 length_effect w (Turns t) n = always (set_length w.topics t.0 _)
 length_effect w _ n = (refl, λ k. refl)
 
-topics_stay : (w : World) (e : Move) → AddsNone e → length (world_after w e).topics ≡ length w.topics
+pub topics_stay : (w : World) (e : Move) → AddsNone e → length (world_after w e).topics ≡ length w.topics
 topics_stay w e n =
     by_refusal (λ v o. length v.topics ≡ length w.topics) w e (λ why. refl) (λ k. by_found (λ v o. length v.topics ≡ length w.topics) w e (length_effect w e n))
 
