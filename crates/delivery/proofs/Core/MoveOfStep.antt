@@ -96,6 +96,8 @@ MovedThen k e rd o =
 
 -- the step is a frame that makes its topic, and what it does then
 pub record MadeTopic (k : Core) (e : Event) (rd : Reading) (o : Outcome) : Type 0 where
+  pub connection : ℕ
+  pub event : e ≡ Event.Next connection
   pub effect : has_effect o ≡ true
   pub then : MovedThen k e rd o
 
@@ -163,6 +165,8 @@ accepted k c f left o action mv by is own sound effect came = by_use (is_first_u
         (ap (λ ms. run ms k.world) moved ∙ ap (λ (b : Bool). run (cond b (AddsTopic 0 ∷ []) [] ++ mv ∷ []) k.world) e)
         (subst (λ (b : Bool). outcome_of (answer_to (first_world k b) mv) ≡ Some o) e came)
     by_use true e = inr (inr (inr (inr (record {
+      connection = c;
+      event = refl;
       effect = effect;
       then = inr (
         mv,
@@ -185,6 +189,8 @@ done k c f left o action by is e = subst (Comes k (Event.Next c) (Reading.Finds 
     by_use : (new : Bool) → is_first_use k f ≡ new → Comes k (Event.Next c) (Reading.Finds f left) Outcome.Done
     by_use false e = inl (moved ∙ ap (λ (b : Bool). run (cond b (AddsTopic 0 ∷ []) [] ++ []) k.world) e, refl)
     by_use true e = inr (inr (inr (inr (record {
+      connection = c;
+      event = refl;
       effect = refl;
       then = inl (moved ∙ ap (λ (b : Bool). run (cond b (AddsTopic 0 ∷ []) [] ++ []) k.world) e, refl);
     }))))
