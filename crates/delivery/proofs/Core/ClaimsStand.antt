@@ -1,15 +1,16 @@
 -- Whom each connection of a core speaks for, and how many senders there are, is as the accepted CONNECTs say.
 use Rattle.delivery.proofs.Words.Std.{◌≡◌, ℕ, ◌+◌, ◌<◌, ◌==◌, Bool, true, false, cond, not, ◌&&◌, List, [], ◌∷◌, ◌++◌, length, get_or, set, Option, Some, None, inl, inr, refl, sym, ap, subst, ◌∙◌, arith, true≢false, codes, list_all, position_or_len, option_map, option_map_or, option_and_then, option_to_list, option_or, unwrap_or, false≢true, and_parts, ltb-true, eqb-true, eq-eqb, not-false, length_push}
-use Rattle.delivery.proofs.Words.Topics.{first_refusal, In, Topic, SentMessage, Item, ProposeFault, Entry}
+use Rattle.delivery.proofs.Words.Topics.{first_refusal, In, SentMessage}
 use Rattle.delivery.proofs.Words.Frames.{Command, RawFrame, CaseFault, is_connect, case_fault, first_of, Unread, Action, SessionFault, is_known, field, transaction_of, send_of, client_of, has_destination, Held, action_by, commit, sends_in, session_fault}
 use Rattle.delivery.proofs.Words.Lemmas.{at_set, at_set_within, none_some, not_true}
-use Rattle.delivery.proofs.Words.Machine.{Objection, refusal_of, World, Connection, SenderState, nobody, new_sender, connection_at, speaker, speaker_number, subscription_at, entry_at, Move, world_after, move_refusal, move_effect, needs_idle, find_leftover, find_verdict, oldest_live, claimed_senders, connect_effect, commit_effect, proposal_fault, propose_effect, cancel_effect, learn_effect, take_effect, leave_effect, close_effect_of, run, AddsTopic, Opens, Connects, Commits, Unsubscribes, Disconnects, Errs, Lost, Leaves, Proposes, Decides, Withdraws, Cancels, Learns, Takes}
+use Rattle.delivery.proofs.Words.Machine.{Objection, refusal_of, World, Connection, SenderState, nobody, new_sender, connection_at, speaker_number, subscription_at, Move, world_after, move_refusal, move_effect, needs_idle, claimed_senders, connect_effect, run, AddsTopic, Opens, Connects, Commits, Disconnects, Errs, Lost, Leaves, Proposes, Decides, Withdraws, Cancels, Takes, Standing}
 use Rattle.delivery.proofs.Words.Core.{Event, Outcome, Refusal, ConnectionFault, TopicList, CoreStep, Reading, frame_in, has_effect, Claim, claim_of, claims_of, is_kept, begins, begun_count, kept_sender, claimed_sender, sender_claimed, is_one_client, senders_of, sender_of, is_cut, Core, core_for, core_of, names_at, moves, topic_moves, frame_move, session_at, is_no_memory, unless, frame_no_memory, claim_fault, frame_fault, fault_outcomes, outcomes_without, reading_outcomes, outcomes, accepted_outcomes, IsCoreRun}
 use Rattle.stomp_frame.specs.declared.command.Command.TheVariants as commands
 use Rattle.stomp_session.specs.declared.action.Action.TheVariants as actions
 use Rattle.delivery.proofs.Machine.SubscriptionSteps.{at_push, set_length}
 use Rattle.delivery.proofs.Machine.InvariantIsKept.{by_refusal, checked}
 use Rattle.delivery.proofs.Core.SenderPlaces.{no_place, place_of}
+use Rattle.delivery.proofs.Machine.ByFound.{by_found, InEachCase, always}
 
 -- there are as many senders as have begun, and each connection speaks for whom it claimed
 pub record Stand (w : World) (claims : List Claim) : Type 0 where
@@ -27,53 +28,40 @@ abbrev is_quiet : Move → Bool
 is_quiet (Connects c claimed) = false
 is_quiet e = true
 
-alike : (w : World) → Keeps w w
-alike w = record { senders = refl; spoken = λ c. refl }
+senders_alone : {w v : World} → length v.senders ≡ length w.senders → v.connections ≡ w.connections → Keeps w v
+senders_alone {w} same e = record { senders = same; spoken = λ c. ap (λ (z : List Connection). (get_or z c nobody).sender) e }
 
 -- a connection stands otherwise
-standing : (w : World) (c : ℕ) (x : Connection) → x.sender ≡ (connection_at w c).sender → (d : ℕ) → (get_or (set w.connections c x) d nobody).sender ≡ (connection_at w d).sender
-standing w c x e d =
-    at_set (λ (z : Connection). z.sender ≡ (connection_at w d).sender) w.connections c d x nobody (λ k. e ∙ ap (λ n. (connection_at w n).sender) (sym k)) refl
+standing : {w v : World} (c : ℕ) (standing : Standing) → length v.senders ≡ length w.senders
+    → v.connections ≡ set w.connections c (record { sender = (connection_at w c).sender; standing = standing }) → Keeps w v
+standing {w} c standing same e = record {
+  senders = same;
+  spoken = λ d. ap (λ (z : List Connection). (get_or z d nobody).sender) e
+      ∙ at_set (λ (z : Connection). z.sender ≡ (connection_at w d).sender) w.connections c d _ nobody (λ k. ap (λ n. (connection_at w n).sender) (sym k)) refl;
+}
 
-proposed : (w : World) (c : ℕ) (t : Topic) (o : Option ProposeFault) → Keeps w (propose_effect w c t o)
-proposed w c t None = record { senders = set_length w.senders (speaker_number w c) _; spoken = λ d. refl }
-proposed w c t (Some fault) = record { senders = set_length w.senders (speaker_number w c) _; spoken = λ d. refl }
-
-closed : (w : World) (s : ℕ) (o : Option Entry) → Keeps w (close_effect_of w s o)
-closed w s None = alike w
-closed w s (Some e) = record { senders = refl; spoken = λ d. refl }
-
-left : (w : World) (c : ℕ) (o : Option ℕ) → Keeps w (leave_effect w c o)
-left w c None = record { senders = refl; spoken = standing w c _ refl }
-left w c (Some s) = closed w s (entry_at w s)
-
-handed : (w : World) (s : ℕ) (o : Option Item) → Keeps w (take_effect w s o)
-handed w s None = record { senders = refl; spoken = standing w (subscription_at w s).connection _ refl }
-handed w s (Some item) = record { senders = refl; spoken = λ d. refl }
-
-effect_keeps : (w : World) (e : Move) → is_quiet e ≡ true → Keeps w (move_effect w e)
+effect_keeps : (w : World) (e : Move) → is_quiet e ≡ true → InEachCase (λ v o. Keeps w v) w e
 effect_keeps w (Connects c claimed) q = absurd (false≢true q)
-effect_keeps w Opens q = record {
+effect_keeps w Opens q = always (record {
   senders = refl;
   spoken = λ c. at_push (λ (z : Connection). z.sender ≡ (connection_at w c).sender) w.connections c _ nobody (λ k e. e) refl;
-}
-effect_keeps w (Commits c sends) q = elim sends as (λ sends. Keeps w (commit_effect w c sends)) [ [] ↦ alike w | first ∷ others ↦ record { senders = set_length w.senders (speaker_number w c) _; spoken = λ d. refl } ]
-effect_keeps w (Unsubscribes c s) q = closed w s (entry_at w s)
-effect_keeps w (Disconnects c) q = record { senders = refl; spoken = standing w c _ refl }
-effect_keeps w (Errs c) q = record { senders = refl; spoken = standing w c _ refl }
-effect_keeps w (Lost c) q = record { senders = refl; spoken = standing w c _ refl }
-effect_keeps w (Leaves c) q = left w c (oldest_live c 0 w.subscriptions)
-effect_keeps w (Proposes c t memory) q = proposed w c t (proposal_fault w c t memory)
-effect_keeps w (Decides c) q = record { senders = set_length w.senders (speaker_number w c) _; spoken = λ d. refl }
-effect_keeps w (Withdraws c) q = record { senders = set_length w.senders (speaker_number w c) _; spoken = standing w c _ refl }
-effect_keeps w (Cancels c t) q = elim (find_leftover t (speaker w c).leftovers) as (λ o. Keeps w (cancel_effect w c t o)) [ None ↦ alike w | Some k ↦ record { senders = set_length w.senders (speaker_number w c) _; spoken = λ d. refl } ]
-effect_keeps w (Learns t id) q = elim (find_verdict id w.verdicts) as (λ o. Keeps w (learn_effect w t id o)) [ None ↦ alike w | Some v ↦ record { senders = refl; spoken = λ d. refl } ]
-effect_keeps w (Takes s) q = handed w s _
-effect_keeps w _ q = record { senders = refl; spoken = λ d. refl }
+})
+effect_keeps w (Commits c sends) q = (senders_alone refl refl, λ k. senders_alone (set_length w.senders (speaker_number w c) _) refl)
+effect_keeps w (Disconnects c) q = always (standing c Standing.Leaving refl refl)
+effect_keeps w (Errs c) q = always (standing c Standing.Leaving refl refl)
+effect_keeps w (Lost c) q = always (standing c Standing.Leaving refl refl)
+effect_keeps w (Leaves c) q = (standing c Standing.Gone refl refl, λ s. (senders_alone refl refl, λ k. senders_alone refl refl))
+effect_keeps w (Proposes c t memory) q =
+    (senders_alone (set_length w.senders (speaker_number w c) _) refl, λ k. senders_alone (set_length w.senders (speaker_number w c) _) refl)
+effect_keeps w (Decides c) q = always (senders_alone (set_length w.senders (speaker_number w c) _) refl)
+effect_keeps w (Withdraws c) q = always (standing c Standing.Leaving (set_length w.senders (speaker_number w c) _) refl)
+effect_keeps w (Cancels c t) q = (senders_alone refl refl, λ k. senders_alone (set_length w.senders (speaker_number w c) _) refl)
+effect_keeps w (Takes s) q = (standing (subscription_at w s).connection Standing.Leaving refl refl, λ k. senders_alone refl refl)
+effect_keeps w _ q = (senders_alone refl refl, λ k. senders_alone refl refl)
 
 quiet_stand : (w : World) (e : Move) (claims : List Claim) → is_quiet e ≡ true → Stand w claims → Stand (world_after w e) claims
 quiet_stand w e claims q h =
-    let k = by_refusal (λ v o. Keeps w v) w e (λ why. alike w) (λ n. effect_keeps w e q) in
+    let k = by_refusal (λ v o. Keeps w v) w e (λ why. senders_alone refl refl) (λ n. by_found (λ v o. Keeps w v) w e (effect_keeps w e q)) in
     record { begun = k.senders ∙ h.begun; spoken = λ c. k.spoken c ∙ h.spoken c }
 
 run_stand : (ms : List Move) (w : World) (claims : List Claim) → list_all is_quiet ms ≡ true → Stand w claims → Stand (run ms w) claims

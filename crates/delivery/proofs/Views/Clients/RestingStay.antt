@@ -1,10 +1,10 @@
 -- A sender for which no connection speaks is left as it is by each move but a claim and a connection's last.
 use Rattle.delivery.proofs.Words.Std.{◌≡◌, ℕ, zero, suc, ◌==◌, ◌||◌, Bool, true, false, cond, not, ◌&&◌, List, [], ◌∷◌, ◌++◌, set, get_or, Option, Some, None, refl, sym, ap, subst, ◌∙◌, list_any, list_all, option_map_or, true≢false, false≢true, and_parts, or_parts, not-false, get_or-set_other}
-use Rattle.delivery.proofs.Words.Topics.{Topic, Entry, GateState}
-use Rattle.delivery.proofs.Words.Machine.{World, Connection, Leftover, SenderState, Standing, is_gone, nobody, new_sender, connection_at, sender_at, speaker, speaker_number, speaks_for, is_in_use, subscription_at, Move, world_after, move_refusal, move_effect, find_leftover, cancel_effect, close_effect_of, run, Opens, Connects, Commits, Disconnects, Errs, Lost, Leaves, Proposes, Decides, Withdraws, Cancels, Takes}
+use Rattle.delivery.proofs.Words.Topics.{Entry, GateState}
+use Rattle.delivery.proofs.Words.Machine.{World, Connection, SenderState, Standing, is_gone, nobody, new_sender, connection_at, sender_at, speaker, speaker_number, speaks_for, is_in_use, subscription_at, Move, world_after, move_refusal, move_effect, close_effect_of, run, Opens, Connects, Commits, Disconnects, Errs, Lost, Leaves, Proposes, Decides, Withdraws, Cancels, Takes}
 use Rattle.delivery.proofs.Words.Views.{resting_gate}
 use Rattle.delivery.proofs.Machine.InvariantIsKept.{by_refusal, checked}
-use Rattle.delivery.proofs.Machine.ByFound.{by_found}
+use Rattle.delivery.proofs.Machine.ByFound.{by_found, InEachCase}
 use Rattle.delivery.proofs.Machine.Speakers.{has_speaker, cancelling_speaker}
 use Rattle.delivery.proofs.Machine.SenderSteps.{leftover_found}
 use Rattle.delivery.proofs.Theorem.SendersAreOwn.{flying_speaks, speaks, reading_there}
@@ -71,10 +71,6 @@ standing_rests : (w : World) (c : ℕ) (standing : Standing) → is_gone standin
     → (s : ℕ) → cond (list_any (speaks_for s) (set w.connections c (record { sender = (connection_at w c).sender; standing = standing }))) None (Some (gate_by s (sender_at w s))) ≡ resting_gate w s
 standing_rests w c standing n o s = ap (λ (b : Bool). cond b None (Some (gate_by s (sender_at w s)))) (standing_used w c standing n o s)
 
-cancelled : (w : World) (c : ℕ) (t : Topic) (o : Option Leftover) → ((k : Leftover) → o ≡ Some k → speaks_for (speaker_number w c) (connection_at w c) ≡ true) → Rests w (cancel_effect w c t o)
-cancelled w c t None e s = refl
-cancelled w c t (Some k) e s = sender_rests w c _ (e k refl) s
-
 pub closed_rests : (w : World) (n : ℕ) (o : Option Entry) → Rests w (close_effect_of w n o)
 closed_rests w n None s = refl
 closed_rests w n (Some e) s = refl
@@ -85,43 +81,38 @@ is_still (Connects c claimed) = false
 is_still (Leaves c) = false
 is_still e = true
 
-effect_rests : (w : World) (e : Move) → is_still e ≡ true → move_refusal w e ≡ None → Rests w (move_effect w e)
+effect_rests : (w : World) (e : Move) → is_still e ≡ true → move_refusal w e ≡ None → InEachCase (λ v o. Rests w v) w e
 effect_rests w (Connects c claimed) q n = absurd (false≢true q)
 effect_rests w (Leaves c) q n = absurd (false≢true q)
-effect_rests w Opens q n = λ s.
-    ap (λ (b : Bool). cond b None (Some (gate_by s (sender_at w s)))) (any_push (speaks_for s) w.connections (record { sender = None; standing = Standing.Open }) refl)
+effect_rests w Opens q n = always (λ s.
+    ap (λ (b : Bool). cond b None (Some (gate_by s (sender_at w s)))) (any_push (speaks_for s) w.connections (record { sender = None; standing = Standing.Open }) refl))
 effect_rests w (Commits c sends) q n =
     let p = checked w (Commits c sends) n in
-    by_found (λ v o. Rests w v) w (Commits c sends)
-    ((λ s. refl), λ k s. sender_rests w c _ (speaks (speaker_number w c) (connection_at w c) p.1.0 (has_speaker w c (not-false _ p.1.1.1.0))) s)
-effect_rests w (Disconnects c) q n = standing_rests w c Standing.Leaving refl (checked w (Disconnects c) n).1.0
-effect_rests w (Errs c) q n = standing_rests w c Standing.Leaving refl (checked w (Errs c) n).1.0
-effect_rests w (Lost c) q n = standing_rests w c Standing.Leaving refl (checked w (Lost c) n).1.0
+    ((λ s. refl), λ k. sender_rests w c _ (speaks (speaker_number w c) (connection_at w c) p.1.0 (has_speaker w c (not-false _ p.1.1.1.0))))
+effect_rests w (Disconnects c) q n = always (standing_rests w c Standing.Leaving refl (checked w (Disconnects c) n).1.0)
+effect_rests w (Errs c) q n = always (standing_rests w c Standing.Leaving refl (checked w (Errs c) n).1.0)
+effect_rests w (Lost c) q n = always (standing_rests w c Standing.Leaving refl (checked w (Lost c) n).1.0)
 effect_rests w (Proposes c t memory) q n =
-    let p = checked w (Proposes c t memory) n in let own = flying_speaks w c p.1.0 p.1.1.0 in
-    by_found (λ v o. Rests w v) w (Proposes c t memory) ((λ s. sender_rests w c _ own s), λ fault s. sender_rests w c _ own s)
+    let p = checked w (Proposes c t memory) n in let own = flying_speaks w c p.1.0 p.1.1.0 in (sender_rests w c _ own, λ k. sender_rests w c _ own)
 effect_rests w (Decides c) q n =
-    let p = checked w (Decides c) n in sender_rests w c _ (flying_speaks w c p.1.0 p.1.1.0)
-effect_rests w (Withdraws c) q n = λ s.
-    let p = checked w (Withdraws c) n in
-    let v = move_effect w (Withdraws c) in
-    ap (λ (b : Bool). cond b None (Some (gate_by s (sender_at v s))))
-    (any_set (speaks_for s) w.connections c (record { sender = (connection_at w c).sender; standing = Standing.Leaving }) nobody
-    (ap (λ (b : Bool). not b && option_map_or (λ m. m == s) (connection_at w c).sender false) (sym p.1.0)))
-    ∙ sender_rests w c _ (flying_speaks w c p.1.0 p.1.1.0) s
+    let p = checked w (Decides c) n in always (sender_rests w c _ (flying_speaks w c p.1.0 p.1.1.0))
+effect_rests w (Withdraws c) q n =
+    let p = checked w (Withdraws c) n in let v = move_effect w (Withdraws c) in
+    always (λ s. ap (λ (b : Bool). cond b None (Some (gate_by s (sender_at v s)))) (standing_used w c Standing.Leaving refl p.1.0 s)
+    ∙ sender_rests w c _ (flying_speaks w c p.1.0 p.1.1.0) s)
 effect_rests w (Cancels c t) q n =
     let p = checked w (Cancels c t) n in
-    cancelled w c t (find_leftover t (speaker w c).leftovers)
-    (λ k e. speaks (speaker_number w c) (connection_at w c) p.1.0 (cancelling_speaker w c k (leftover_found t (speaker w c).leftovers k e).stands))
+    ((λ s. refl), λ k. sender_rests w c _ (speaks (speaker_number w c) (connection_at w c) p.1.0
+    (cancelling_speaker w c k.it (leftover_found t (speaker w c).leftovers k.it k.is).stands)))
 effect_rests w (Takes r) q n =
     let c = (subscription_at w r).connection in
     let there = reading_there (connection_at w c).standing (not-false _ (or_parts (Rattle.std.specs.Option.is_some (subscription_at w r).closed) _ (checked w (Takes r) n).1.0).1) in
-    by_found (λ v o. Rests w v) w (Takes r) ((λ s. standing_rests w c Standing.Leaving refl there s), λ k s. refl)
-effect_rests w e q n = by_found (λ v o. Rests w v) w e ((λ s. refl), λ k s. refl)
+    (standing_rests w c Standing.Leaving refl there, λ k s. refl)
+effect_rests w _ q n = ((λ s. refl), λ k s. refl)
 
 -- each such move leaves it
 pub move_rests : (w : World) (e : Move) → is_still e ≡ true → Rests w (world_after w e)
-move_rests w e q = by_refusal (λ v o. Rests w v) w e (λ why s. refl) (λ n. effect_rests w e q n)
+move_rests w e q = by_refusal (λ v o. Rests w v) w e (λ why s. refl) (λ n. by_found (λ v o. Rests w v) w e (effect_rests w e q n))
 
 -- and each list of them
 pub run_rests : (es : List Move) (w : World) → list_all is_still es ≡ true → Rests w (run es w)
