@@ -27,6 +27,7 @@ pub mod Started
 pub mod NextItem
 pub mod SendsLeft
 pub mod AccountOfRun
+pub mod Actions
 pub mod SaidParts
 pub mod AtNext
 pub mod LagsAsTold

@@ -1,7 +1,7 @@
 -- The account of a run's steps is what the machine answered to its moves, refusals and what was merely done aside.
 use Rattle.delivery.proofs.Words.Std.{◌≡◌, ℕ, ◌+◌, ◌<◌, ◌==◌, Bool, true, false, cond, not, ◌&&◌, ◌⊎◌, inl, inr, List, [], ◌∷◌, ◌++◌, length, Option, Some, None, refl, sym, ap, subst, ◌∙◌, true≢false, ltb-true, false≢true, not-false, slice_get, codes, is_some, option_map, option_map_or, option_or, option_to_list}
 use Rattle.delivery.proofs.Words.Topics.{Topic, TxnId, SentMessage, greatest, first_refusal, In, Item, ProposeFault, Pending, due_part}
-use Rattle.delivery.proofs.Words.Frames.{RawFrame, Action, Command, first_of, Unread, action_by, commit, Held, held_after, is_ended, transactions_left, sends_in, is_known, has_destination, field, topic_of, id_of, transaction_of, send_of}
+use Rattle.delivery.proofs.Words.Frames.{RawFrame, Action, Command, first_of, Unread, action_by, commit, held_after, is_ended, transactions_left, sends_in, is_known, has_destination, field, transaction_of, send_of}
 use Rattle.delivery.proofs.Words.Lemmas.{NoneHolds, some_same, none_some}
 use Rattle.delivery.proofs.Words.Machine.{due, Run, answers_of, final_world, Objection, refusal_of, accepted_at, World, Leftover, topic_at, connection_at, subscription_at, speaker, start, speaker_number, Move, Answer, world_after, answer_to, move_refusal, move_effect, move_answer, needs_open, needs_idle, undecided_at, find_leftover, oldest_live, or_out_of_memory, commit_answer, proposal_fault, propose_answer, cancel_answer, release_answer, take_answer, leave_answer, next_ticket, end_now, next_txn, run, answers_from, Commits, Subscribes, Unsubscribes, Disconnects, Errs, Lost, Leaves, Proposes, Decides, Withdraws, Cancels, Learns, Releases, Turns, Takes, Connects, AddsTopic}
 use Rattle.delivery.proofs.Words.Core.{TopicList, Event, Outcome, Refusal, ConnectionFault, CoreStep, Reading, frame_in, has_effect, accepted_of, names_after, number_by, account_of, account_of_step, last_of, sends_by, has_closed, replies_to, Core, core_of, moves, session_at, frame_move, topic_moves, is_faulted, is_out_of_memory, unread_at, outcome_of, move_outcome, unless, frame_no_memory, frame_fault, fault_outcomes, frame_outcome, reading_outcomes, cut_of, is_any, reply_outcomes, outcomes, IsCoreRun, accepted_outcomes, outcomes_without, wants_memory, claims_of, claimed_sender, sender_of}
@@ -19,6 +19,7 @@ use Rattle.delivery.proofs.Core.NextItem.{next_item_is, connection_is}
 use Rattle.delivery.proofs.Core.SendsLeft.{sends_are_left}
 use Rattle.delivery.proofs.Core.ClaimsStand.{claims_stand, claims_own}
 use Rattle.delivery.proofs.Machine.Speakers.{has_speaker, flying_speaker, cancelling_speaker}
+use Rattle.delivery.proofs.Core.Actions.{frame_fits}
 
 -- ---- the run of the machine that a run of the core is
 
@@ -386,38 +387,6 @@ taken_says names r older rd s o i = by_case (move_refusal (final_world r) (Takes
       | inr j ↦ elim j [ inl e ↦ subst P e refl | inr k ↦ absurd k ]
     ]
 
--- ---- a frame
-
--- what an action is of a frame: a SUBSCRIBE's topic and an UNSUBSCRIBE's id are the frame's
-
-no_subscribe_sent : (s : Held) (f : RawFrame) (o : Option (List ℕ)) (id : List ℕ) (t : Topic) → option_map_or (λ transaction. actions.Nothing) o (commit (send_of s.names f ∷ [])) ≡ actions.Subscribe id t → Prim.⊥
-no_subscribe_sent s f None id t e = cc
-no_subscribe_sent s f (Some x) id t e = cc
-
-no_subscribe_committed : (sends : List SentMessage) (id : List ℕ) (t : Topic) → commit sends ≡ actions.Subscribe id t → Prim.⊥
-no_subscribe_committed [] id t e = cc
-no_subscribe_committed (x ∷ xs) id t e = cc
-
--- the topic of a SUBSCRIBE is that of its frame
-subscribed_topic : (command : Command) (s : Held) (f : RawFrame) (id : List ℕ) (t : Topic) → action_by command s f ≡ actions.Subscribe id t → topic_of s.names f ≡ t
-subscribed_topic commands.Send s f id t e = absurd (no_subscribe_sent s f (first_of (codes "transaction") f.headers) id t e)
-subscribed_topic commands.Commit s f id t e = absurd (no_subscribe_committed (sends_in (transaction_of f) s.transactions) id t e)
-subscribed_topic _ s f id t e = cc
-
-no_unsubscribe_sent : (s : Held) (f : RawFrame) (o : Option (List ℕ)) (id : List ℕ) → option_map_or (λ transaction. actions.Nothing) o (commit (send_of s.names f ∷ [])) ≡ actions.Unsubscribe id → Prim.⊥
-no_unsubscribe_sent s f None id e = cc
-no_unsubscribe_sent s f (Some x) id e = cc
-
-no_unsubscribe_committed : (sends : List SentMessage) (id : List ℕ) → commit sends ≡ actions.Unsubscribe id → Prim.⊥
-no_unsubscribe_committed [] id e = cc
-no_unsubscribe_committed (x ∷ xs) id e = cc
-
--- the id of an UNSUBSCRIBE is that of its frame
-unsubscribed_id : (command : Command) (s : Held) (f : RawFrame) (id : List ℕ) → action_by command s f ≡ actions.Unsubscribe id → id_of f ≡ id
-unsubscribed_id commands.Send s f id e = absurd (no_unsubscribe_sent s f (first_of (codes "transaction") f.headers) id e)
-unsubscribed_id commands.Commit s f id e = absurd (no_unsubscribe_committed (sends_in (transaction_of f) s.transactions) id e)
-unsubscribed_id _ s f id e = cc
-
 -- ---- the topic that a frame makes
 
 -- the run with the topic of a frame, where it makes one
@@ -558,7 +527,7 @@ accepted_says names r older whose c f left o (actions.Subscribe id t) e i =
     (λ n a z d. subst P (some_same _ z d)
     (says_both names r older c f left (Outcome.Subscribed (length w.subscriptions) (topic_at w t).frontier) refl refl
     (ap (λ u. Answer.Subscribed (length w.subscriptions) c u (topic_at w t).frontier ∷ said past)
-    (subscribed_topic f.command (session_at (core_at names r older) c) f id t e)
+    (frame_fits f.command (session_at (core_at names r older) c) f e).2
     ∙ (ap (λ b. said (b ∷ past)) (sym a)
     ∙ ap (λ b. said (answers_from (own_moves names r older c f b) w past)) (sym e)))))
     (in_option o _ i)
@@ -569,7 +538,7 @@ accepted_says names r older whose c f left o (actions.Unsubscribe id) e i =
     by_answer P w (Unsubscribes c s) o (λ why x a. refl)
     (λ n a z d. subst P (some_same _ z d)
     (says_both names r older c f left (Outcome.Unsubscribed s (end_now w s)) refl refl
-    (ap (λ b. Answer.Unsubscribed (number_by c b older) (end_now w s) ∷ said past) (unsubscribed_id f.command (session_at (core_at names r older) c) f id e)
+    (ap (λ b. Answer.Unsubscribed (number_by c b older) (end_now w s) ∷ said past) (frame_fits f.command (session_at (core_at names r older) c) f e).1
     ∙ (ap (λ b. said (b ∷ past)) (sym a)
     ∙ ap (λ b. said (answers_from (own_moves names r older c f b) w past)) (sym e)))))
     (in_option o _ i)

@@ -1,7 +1,7 @@
 -- Whom each connection of a core speaks for, and how many senders there are, is as the accepted CONNECTs say.
 use Rattle.delivery.proofs.Words.Std.{◌≡◌, ℕ, ◌+◌, ◌<◌, ◌==◌, Bool, true, false, cond, not, ◌&&◌, List, [], ◌∷◌, ◌++◌, length, get_or, set, Option, Some, None, inl, inr, refl, sym, ap, subst, ◌∙◌, arith, true≢false, codes, list_all, position_or_len, option_map, option_map_or, option_and_then, option_to_list, option_or, unwrap_or, false≢true, and_parts, ltb-true, eqb-true, eq-eqb, not-false, length_push}
-use Rattle.delivery.proofs.Words.Topics.{first_refusal, In, SentMessage}
-use Rattle.delivery.proofs.Words.Frames.{Command, RawFrame, CaseFault, is_connect, case_fault, first_of, Unread, Action, SessionFault, is_known, field, transaction_of, send_of, client_of, has_destination, Held, action_by, commit, sends_in, session_fault}
+use Rattle.delivery.proofs.Words.Topics.{first_refusal, In}
+use Rattle.delivery.proofs.Words.Frames.{Command, RawFrame, CaseFault, is_connect, case_fault, Unread, Action, SessionFault, is_known, field, client_of, has_destination, Held, action_by, session_fault}
 use Rattle.delivery.proofs.Words.Lemmas.{at_set, at_set_within, none_some, not_true}
 use Rattle.delivery.proofs.Words.Machine.{Objection, refusal_of, World, Connection, SenderState, nobody, new_sender, connection_at, speaker_number, subscription_at, Move, world_after, move_refusal, move_effect, needs_idle, claimed_senders, connect_effect, run, AddsTopic, Opens, Connects, Commits, Disconnects, Errs, Lost, Leaves, Proposes, Decides, Withdraws, Cancels, Takes, Standing}
 use Rattle.delivery.proofs.Words.Core.{Event, Outcome, Refusal, ConnectionFault, TopicList, CoreStep, Reading, frame_in, has_effect, Claim, claim_of, claims_of, is_kept, begins, begun_count, kept_sender, claimed_sender, sender_claimed, is_one_client, senders_of, sender_of, is_cut, Core, core_for, core_of, names_at, moves, topic_moves, frame_move, session_at, is_no_memory, unless, frame_no_memory, claim_fault, frame_fault, fault_outcomes, outcomes_without, reading_outcomes, outcomes, accepted_outcomes, IsCoreRun}
@@ -11,6 +11,7 @@ use Rattle.delivery.proofs.Machine.SubscriptionSteps.{at_push, set_length}
 use Rattle.delivery.proofs.Machine.InvariantIsKept.{by_refusal, checked}
 use Rattle.delivery.proofs.Core.SenderPlaces.{no_place, place_of}
 use Rattle.delivery.proofs.Machine.ByFound.{by_found, InEachCase, always}
+use Rattle.delivery.proofs.Core.Actions.{frame_fits}
 
 -- there are as many senders as have begun, and each connection speaks for whom it claimed
 pub record Stand (w : World) (claims : List Claim) : Type 0 where
@@ -96,22 +97,10 @@ claimed_stand w c client claims l h = record {
 
 -- ---- an accepted frame
 
-sent_claims : (s : Held) (f : RawFrame) (o : Option (List ℕ)) (client : Option (List ℕ)) → option_map_or (λ transaction. actions.Nothing) o (commit (send_of s.names f ∷ [])) ≡ actions.Connected client → Prim.⊥
-sent_claims s f None client e = cc
-sent_claims s f (Some x) client e = cc
-
-committed_claims : (sends : List SentMessage) (client : Option (List ℕ)) → commit sends ≡ actions.Connected client → Prim.⊥
-committed_claims [] client e = cc
-committed_claims (x ∷ xs) client e = cc
-
 -- a frame that asks for a claim is a CONNECT, and the claim is of its client-id
 pub connect_of : (command : Command) (s : Held) (f : RawFrame) (client : Option (List ℕ)) → action_by command s f ≡ actions.Connected client
     → (is_connect command ≡ true) × (client_of f ≡ client)
-connect_of commands.Send s f client e = absurd (sent_claims s f (first_of (codes "transaction") f.headers) client e)
-connect_of commands.Commit s f client e = absurd (committed_claims (sends_in (transaction_of f) s.transactions) client e)
-connect_of commands.Connect s f client e = (refl, cc)
-connect_of commands.Stomp s f client e = (refl, cc)
-connect_of _ s f client e = cc
+connect_of command s f client e = frame_fits command s f e
 
 -- each CONNECT asks for it
 pub claims_asked : (command : Command) (s : Held) (f : RawFrame) → is_connect command ≡ true → action_by command s f ≡ actions.Connected (client_of f)

@@ -14,9 +14,10 @@ use Rattle.delivery.proofs.Views.Clients.Claiming.{claimed_begun}
 use Rattle.delivery.proofs.Views.Events.ConnectStep.{connect_free, first_fails}
 use Rattle.delivery.proofs.Views.Events.NextStep.{idle_reads}
 use Rattle.delivery.proofs.Views.Runs.ByRunOfCore.{stand_of}
-use Rattle.delivery.proofs.Views.Senders.ConnectedSpeak.{commits_other, has_none, has_sender}
+use Rattle.delivery.proofs.Views.Senders.ConnectedSpeak.{has_none, has_sender}
 use Rattle.delivery.proofs.Views.Senders.SendsAreToTopics.{committed_sends, topic_made}
 use Rattle.delivery.proofs.Views.Subscriptions.OpenIsLive.{names_live, subscribe_free, unsubscribe_free}
+use Rattle.delivery.proofs.Core.Actions.{frame_fits}
 
 -- ---- what is refused
 
@@ -67,7 +68,7 @@ passes k c f reached idle free (actions.Unsubscribe id) does unclaimed move why 
     (unsubscribe_free k.world c (number_by c (id_of f) k.steps) idle live.there live.live))) refused
 passes k c f reached idle free (actions.Commit sends) does unclaimed move why is refused =
     let w = (core_for k f).world in
-    let own = has_sender k c f reached (commits_other f.command (session_at k c) f sends does) free in
+    let own = has_sender k c f reached (frame_fits f.command (session_at k c) f does) free in
     let has = by_use (λ (v : World). is_some (connection_at v c).sender ≡ true) k f own own in
     let made = committed_sends k c f sends reached does in
     commit_lacks w c sends why (idle_for k f c idle) has

@@ -1,7 +1,7 @@
 -- A Next whose frame is accepted, and asks for nothing of the machine but that its connection ends.
-use Rattle.delivery.proofs.Words.Std.{◌≡◌, ℕ, ◌<◌, Bool, true, false, cond, inl, List, [], ◌∷◌, ◌++◌, length, get_or, Option, Some, None, refl, sym, ap, subst, ◌∙◌, codes, flat_map, option_map, option_map_or, option_or, option_and_then, option_to_list, unwrap_or, append-nil, get_or-set_same}
-use Rattle.delivery.proofs.Words.Topics.{In, SentMessage, first_refusal}
-use Rattle.delivery.proofs.Words.Frames.{Command, RawFrame, is_connect, first_of, Unread, receipt_of, connected_frame, receipt_frame, spelling_of, Action, action_by, commit, with_destination, is_disconnect, send_of, transaction_of, Held, sends_in}
+use Rattle.delivery.proofs.Words.Std.{◌≡◌, ℕ, ◌<◌, Bool, true, false, cond, inl, List, [], ◌∷◌, ◌++◌, length, get_or, Option, Some, None, refl, sym, ap, subst, ◌∙◌, flat_map, option_map, option_map_or, option_or, option_and_then, option_to_list, unwrap_or, append-nil, get_or-set_same}
+use Rattle.delivery.proofs.Words.Topics.{In, first_refusal}
+use Rattle.delivery.proofs.Words.Frames.{RawFrame, Unread, receipt_of, connected_frame, receipt_frame, spelling_of, Action, action_by, with_destination, is_disconnect}
 use Rattle.delivery.proofs.Words.Lemmas.{In-append_left}
 use Rattle.delivery.proofs.Words.Machine.{Objection, World, Connection, Standing, nobody, connection_at, sender_at, speaker, is_gone, Move, move_refusal, move_effect, move_answer, needs_idle, with_leaving, run}
 use Rattle.delivery.proofs.Words.Core.{ConnectionFault, Event, Outcome, Stage, Reading, has_effect, accepted_of, is_cut, receipts_of, text_out, Core, core_for, frame_move, is_faulted, next_moves, session_at, names_at, topic_moves, MayStep, claim_fault, fault_outcomes, frame_fault, frame_no_memory, frame_outcome, move_outcome, outcome_of, reading_outcomes, accepted_outcomes, outcomes_without, wants_memory, live_numbers}
@@ -20,6 +20,7 @@ use Rattle.delivery.proofs.Views.Events.NextStep.{view_by, held_still, next_of, 
 use Rattle.delivery.proofs.Views.Endpoints.DisconnectIsLast.{not_parting}
 use Rattle.delivery.proofs.Views.Events.OneMove.{in_outcome}
 use Rattle.delivery.proofs.Views.Clients.RestingStay.{standing_speaks}
+use Rattle.delivery.proofs.Core.Actions.{frame_fits}
 
 -- ---- what is held
 
@@ -165,42 +166,6 @@ move_makes k c f left action receipt held new move o asks unclaimed some free an
       (sym (moved_world k c f left action move o asks.does some free effect fine));
 }
 
--- ---- which frames these are
-
-connects_sent : {client : Option (List ℕ)} → (s : Held) (f : RawFrame) (o : Option (List ℕ)) → option_map_or (λ transaction. actions.Nothing) o (commit (send_of s.names f ∷ [])) ≡ actions.Connected client → is_connect f.command ≡ true
-connects_sent s f None e = absurd (cc)
-connects_sent s f (Some x) e = absurd (cc)
-
-connects_committed : {client : Option (List ℕ)} → (f : RawFrame) (sends : List SentMessage) → commit sends ≡ actions.Connected client → is_connect f.command ≡ true
-connects_committed f [] e = absurd (cc)
-connects_committed f (send ∷ sends) e = absurd (cc)
-
-pub connects : {client : Option (List ℕ)} → (command : Command) (s : Held) (f : RawFrame) → f.command ≡ command → action_by command s f ≡ actions.Connected client → is_connect f.command ≡ true
-connects commands.Connect s f is e = ap is_connect is
-connects commands.Stomp s f is e = ap is_connect is
-connects commands.Send s f is e = connects_sent s f (first_of (codes "transaction") f.headers) e
-connects commands.Commit s f is e = connects_committed f (sends_in (transaction_of f) s.transactions) e
-connects _ s f is e = absurd (cc)
-
-quiet_frame : (command : Command) (s : Held) (f : RawFrame) → action_by command s f ≡ actions.Nothing → is_connect command ≡ false
-quiet_frame commands.Connect s f e = absurd (cc)
-quiet_frame commands.Stomp s f e = absurd (cc)
-quiet_frame _ s f e = refl
-
-parts_sent : (s : Held) (f : RawFrame) (o : Option (List ℕ)) → option_map_or (λ transaction. actions.Nothing) o (commit (send_of s.names f ∷ [])) ≡ actions.Disconnect → is_disconnect f.command ≡ true
-parts_sent s f None e = absurd (cc)
-parts_sent s f (Some x) e = absurd (cc)
-
-parts_committed : (f : RawFrame) (sends : List SentMessage) → commit sends ≡ actions.Disconnect → is_disconnect f.command ≡ true
-parts_committed f [] e = absurd (cc)
-parts_committed f (send ∷ sends) e = absurd (cc)
-
-parts : (command : Command) (s : Held) (f : RawFrame) → f.command ≡ command → action_by command s f ≡ actions.Disconnect → is_disconnect f.command ≡ true
-parts commands.Disconnect s f is e = ap is_disconnect is
-parts commands.Send s f is e = parts_sent s f (first_of (codes "transaction") f.headers) e
-parts commands.Commit s f is e = parts_committed f (sends_in (transaction_of f) s.transactions) e
-parts _ s f is e = absurd (cc)
-
 -- ---- frames that need no more than their RECEIPT
 
 one_receipt : (o : Option (List ℕ)) → receipt_text o ≡ flat_map spelling_of (option_map_or (λ id. receipt_frame id ∷ []) o [])
@@ -218,7 +183,7 @@ pub next_acknowledges : (k : Core) (c : ℕ) (f : RawFrame) (left : Unread) (rec
     → new ≡ with_endpoint held c (written_endpoint (receipt_text receipt) (get_or held.endpoints c d))
     → Makes k (Event.Next c) Outcome.Done new
 next_acknowledges k c f left receipt held new d asks is =
-    let other = quiet_frame f.command (session_at k c) f asks.does in
+    let other = frame_fits f.command (session_at k c) f asks.does in
     let text : receipt_text receipt ≡ text_added (Reading.Finds f left) Outcome.Done =
     receipt_is k c f left actions.Nothing receipt held asks
     ∙ ap (λ (b : Bool). flat_map spelling_of (cond b (connected_frame ∷ []) (receipts_of f))) (sym other) in
@@ -251,7 +216,7 @@ next_disconnects k c f left receipt held new d asks is =
     let accepted = accepted_of c k.steps in
     let parted : parting_receipt (accepted ++ f ∷ []) ≡ receipt =
     ap (λ (g : Option RawFrame). option_and_then receipt_of g)
-    (find_last (λ g. is_disconnect g.command) accepted f (not_parting k c asks.reached (idle_reads k.world c asks.idle)) (parts f.command (session_at k c) f refl asks.does))
+    (find_last (λ g. is_disconnect g.command) accepted f (not_parting k c asks.reached (idle_reads k.world c asks.idle)) (frame_fits f.command (session_at k c) f asks.does))
     ∙ asks.wants in
     let endpoint : leaving_endpoint receipt (staged_endpoint (accepted_stage k c f left) (endpoint_of names q c)) ≡ next_endpoint names q v c reading o =
     λ i. record {

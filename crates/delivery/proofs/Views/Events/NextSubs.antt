@@ -1,8 +1,8 @@
 -- A Next whose frame is a SUBSCRIBE or an UNSUBSCRIBE.
-use Rattle.delivery.proofs.Words.Std.{◌≡◌, ◌≢◌, ℕ, ◌<◌, ◌||◌, Bool, true, false, cond, inl, inr, List, [], ◌∷◌, ◌++◌, length, get_or, Option, Some, None, codes, refl, sym, ap, subst, ◌∙◌, arith, is_some, option_map, ltb-true, get_or-map, get_or-set_same, length-map}
+use Rattle.delivery.proofs.Words.Std.{◌≡◌, ◌≢◌, ℕ, ◌<◌, ◌||◌, Bool, true, false, cond, inl, inr, List, [], ◌∷◌, ◌++◌, length, get_or, Option, Some, None, refl, sym, ap, subst, ◌∙◌, arith, is_some, option_map, ltb-true, get_or-map, get_or-set_same, length-map}
 use Rattle.delivery.proofs.Words.Topics.{In, Topic, Stamp, SubFault, Entry, find_entry, new_topic, subscribe_fault}
-use Rattle.delivery.proofs.Words.Frames.{Command, RawFrame, first_of, Unread, action_by, has_destination, id_of, is_disconnect, is_subscribe, transaction_of, wants_parts, Held, held_after, is_ended, state_of, sends_in}
-use Rattle.delivery.proofs.Words.Lemmas.{some_same, begins_at, ends, sent_subscribes, committed_subscribes}
+use Rattle.delivery.proofs.Words.Frames.{Command, RawFrame, Unread, action_by, has_destination, id_of, is_disconnect, is_subscribe, wants_parts, held_after, is_ended, state_of}
+use Rattle.delivery.proofs.Words.Lemmas.{some_same, begins_at, ends}
 use Rattle.delivery.proofs.Words.Machine.{subscription_at, topic_at, Move, end_now, is_live, is_topic, move_effect, move_refusal, final_world}
 use Rattle.delivery.proofs.Words.Core.{Event, Outcome, Reading, accepted_of, has_effect, number_by, subscribe_frame, text_out, Core, core_for, names_at, session_at, unread_at}
 use Rattle.delivery.proofs.Words.Views.{Asks, accepted_stage, receipt_text, staged_endpoint, IsReached, Makes, closed_view, left_at, number_in, subscribed_view, View, EndpointView, LeftView, group_view, no_endpoint, no_group, view_after, view_with, written_endpoint, group_in}
@@ -27,16 +27,9 @@ use Rattle.delivery.proofs.Views.Senders.SendsAreToTopics.{topic_made}
 use Rattle.delivery.proofs.Views.Events.NextStep.{held_still, idle_reads, idle_there, next_of, text_added, view_by}
 use Rattle.delivery.proofs.Views.Subscriptions.OpenIsLive.{names_live, not_ended, subscribe_free, unsubscribe_free}
 use Rattle.delivery.proofs.Views.Subscriptions.NewSubscription.{begun_as, new_frame, old_frames, subscribed_is}
+use Rattle.delivery.proofs.Core.Actions.{frame_fits}
 
 -- ---- SUBSCRIBE
-
--- it asks for a subscription
-subscribes : (command : Command) (s : Held) (f : RawFrame) (id : List ℕ) (t : Topic) → action_by command s f ≡ actions.Subscribe id t
-    → command ≡ commands.Subscribe
-subscribes commands.Subscribe s f id t e = refl
-subscribes commands.Send s f id t e = sent_subscribes s f (first_of (codes "transaction") f.headers) id t e
-subscribes commands.Commit s f id t e = committed_subscribes (sends_in (transaction_of f) s.transactions) id t e
-subscribes _ s f id t e = absurd (cc)
 
 -- the session says of its id what it asked for
 parts_asked : (k : Core) (c : ℕ) (f : RawFrame) (left : Unread) (id : List ℕ) (t : Topic) (receipt : Option (List ℕ)) (held mid : View) (d : EndpointView)
@@ -48,7 +41,7 @@ parts_asked k c f left id t receipt held mid d asks written =
     let v = view_by names q in
     let accepted = accepted_of c k.steps in
     let endpoint = written_endpoint (receipt_text receipt) (staged_endpoint (accepted_stage k c f left) (endpoint_of names q c)) in
-    let command = subscribes f.command (session_at k c) f id t asks.does in
+    let command = (frame_fits f.command (session_at k c) f asks.does).0 in
     let going : is_ended (accepted ++ f ∷ []) ≡ false =
     list_any-push (λ g. is_disconnect g.command) accepted f
     ∙ (λ i. not_ended k c asks.reached (idle_reads k.world c asks.idle) i || is_disconnect (command i)) in

@@ -14,9 +14,10 @@ use Rattle.delivery.proofs.Views.Events.NextFrames.{accepted_view, move_makes, n
 use Rattle.delivery.proofs.Core.FrameWorld.{by_use, idle_for, with_topic}
 use Rattle.delivery.proofs.Views.Events.NextStep.{view_by, held_still, idle_flight, idle_open, idle_reads, idle_stage, idle_there, next_endpoint, next_of, next_still, own_accepted}
 use Rattle.delivery.proofs.Views.Senders.SenderChanges.{IsSpeaking}
-use Rattle.delivery.proofs.Views.Senders.ConnectedSpeak.{has_sender, commits_other}
+use Rattle.delivery.proofs.Views.Senders.ConnectedSpeak.{has_sender}
 use Rattle.delivery.proofs.Machine.Speakers.{has_speaker}
 use Rattle.delivery.proofs.Theorem.SendersAreOwn.{speaks}
+use Rattle.delivery.proofs.Core.Actions.{frame_fits}
 
 -- ---- nothing stands against it
 
@@ -114,7 +115,7 @@ commits_some k c f left first others receipt held mid new id asks named is withi
     let unread = λ (n : ℕ). unread_at n steps in
     let text = λ (n : ℕ). text_out k.names n steps in
     let began = λ (s : ℕ). subscribe_frame s k.steps in
-    let own = has_sender k c f asks.reached (commits_other f.command (session_at k c) f sends asks.does) asks.free in
+    let own = has_sender k c f asks.reached (frame_fits f.command (session_at k c) f asks.does) asks.free in
     let speaking = speaks (speaker_number k.world c) (connection_at k.world c) (ap is_gone (idle_open k.world c asks.idle)) (has_speaker k.world c own) in
     let still : held ≡ view_with names w accepted unread text began = still_view k c f left action receipt held last asks in
     let same : last ≡ id = sym (is ∙ (ap (λ (v : View). launched_id v c) still ∙ begun_id_for k f c sends asks.reached asks.idle speaking accepted unread text began)) in
@@ -156,7 +157,7 @@ next_idle k c f left sends receipt held asks =
     let unread = λ (n : ℕ). unread_at n steps in
     let text = λ (n : ℕ). text_out k.names n steps in
     let began = λ (s : ℕ). subscribe_frame s k.steps in
-    let own = has_sender k c f asks.reached (commits_other f.command (session_at k c) f sends asks.does) asks.free in
+    let own = has_sender k c f asks.reached (frame_fits f.command (session_at k c) f asks.does) asks.free in
     let speaking = speaks (speaker_number k.world c) (connection_at k.world c) (ap is_gone (idle_open k.world c asks.idle)) (has_speaker k.world c own) in
     let old = idle_in names k c asks.reached (idle_there k.world c asks.idle) speaking (idle_flight k.world c asks.idle) accepted unread text began in
     subst (λ (v : View). IsIdleIn v c) (sym (still_view k c f left (actions.Commit sends) receipt held (launched_id held c) asks))

@@ -13,7 +13,7 @@ use Rattle.stomp_session.specs.Answers.{has_sends}
 use Rattle.delivery.proofs.Machine.Effects.{made_answer}
 use Rattle.delivery.proofs.Core.ClaimsStand.{unobjected}
 use Rattle.delivery.proofs.Views.Events.NextFaults.{asked_claim, asked_objection, fault_is}
-use Rattle.delivery.proofs.Views.Events.NextFrames.{connects}
+use Rattle.delivery.proofs.Core.Actions.{frame_fits}
 
 -- ---- by its session, or by its reply
 
@@ -61,7 +61,7 @@ pub connect_wants : (k : Core) (c : ℕ) (f : RawFrame) (left : Unread) (client 
 connect_wants k c f left client receipt held asks none =
     by_reply k c f Outcome.Done
     (moved_outcome k c f (Move.Connects c (claimed_sender client (claims_of k.steps))) Outcome.Done none (ap (frame_move k c) asks.does) refl)
-    (ap (λ (b : Bool). is_any (cond b (connected_frame ∷ []) (receipts_of f))) (connects f.command (session_at k c) f refl asks.does))
+    (ap (λ (b : Bool). is_any (cond b (connected_frame ∷ []) (receipts_of f))) (frame_fits f.command (session_at k c) f asks.does).0)
 
 any_either : (b : Bool) (os : List RawFrame) → is_any os ≡ true → is_any (cond b (connected_frame ∷ []) os) ≡ true
 any_either true os e = refl

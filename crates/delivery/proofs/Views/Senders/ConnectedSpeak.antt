@@ -1,7 +1,7 @@
 -- A connection whose session is connected speaks for a sender, and no other does.
 use Rattle.delivery.proofs.Words.Std.{◌≡◌, ℕ, ◌==◌, ◌||◌, Bool, true, false, cond, not, List, [], ◌∷◌, ◌++◌, Option, Some, None, refl, sym, ap, ◌∙◌, codes, is_some, option_to_list, unwrap_or, true≢false, false≢true, not-true, not-false}
-use Rattle.delivery.proofs.Words.Topics.{first_refusal, SentMessage}
-use Rattle.delivery.proofs.Words.Frames.{Command, RawFrame, is_connect, SessionFault, action_by, client_of, field, Held, is_ended, is_closed, is_new, open_refusals, session_fault}
+use Rattle.delivery.proofs.Words.Topics.{first_refusal}
+use Rattle.delivery.proofs.Words.Frames.{Command, RawFrame, is_connect, SessionFault, client_of, field, Held, is_ended, is_closed, is_new, open_refusals, session_fault}
 use Rattle.delivery.proofs.Words.Lemmas.{or_third, none_some}
 use Rattle.delivery.proofs.Words.Machine.{connection_at}
 use Rattle.delivery.proofs.Words.Core.{Event, Claim, begun_count, claim_of, claimed_sender, claims_of, sender_claimed, Core, session_at, CoreStep, accepted_of, frame_from, frame_in, has_effect}
@@ -114,9 +114,3 @@ has_none k c f reached connect free =
     let first = first_holds (is_closed s.phase) SessionFault.Closed (open_refusals f.command s f) free in
     none_of (connection_at k.world c).sender (sender_is k c reached
     ∙ not-true (is_connected (accepted_of c k.steps)) (sym (phase_new (accepted_of c k.steps) first.0) ∙ opens_connect f.command s f connect first.1))
-
--- a frame that commits is no CONNECT
-pub commits_other : (command : Command) (s : Held) (f : RawFrame) (sends : List SentMessage) → action_by command s f ≡ actions.Commit sends → is_connect command ≡ false
-commits_other commands.Connect s f sends e = cc
-commits_other commands.Stomp s f sends e = cc
-commits_other _ s f sends e = refl
