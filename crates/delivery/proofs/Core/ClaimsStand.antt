@@ -4,7 +4,7 @@ use Rattle.delivery.proofs.Words.Topics.{first_refusal, In}
 use Rattle.delivery.proofs.Words.Frames.{Command, RawFrame, CaseFault, is_connect, case_fault, Unread, Action, SessionFault, is_known, field, client_of, has_destination, Held, action_by, session_fault}
 use Rattle.delivery.proofs.Words.Lemmas.{at_set, at_set_within, none_some, not_true}
 use Rattle.delivery.proofs.Words.Machine.{Objection, refusal_of, World, Connection, SenderState, nobody, new_sender, connection_at, speaker_number, subscription_at, Move, world_after, move_refusal, move_effect, needs_idle, claimed_senders, connect_effect, run, AddsTopic, Opens, Connects, Commits, Disconnects, Errs, Lost, Leaves, Proposes, Decides, Withdraws, Cancels, Takes, Standing}
-use Rattle.delivery.proofs.Words.Core.{Event, Outcome, Refusal, ConnectionFault, TopicList, CoreStep, Reading, frame_in, has_effect, Claim, claim_of, claims_of, is_kept, begins, begun_count, kept_sender, claimed_sender, sender_claimed, is_one_client, senders_of, sender_of, is_cut, Core, core_for, core_of, names_at, moves, topic_moves, frame_move, session_at, is_no_memory, unless, frame_no_memory, claim_fault, frame_fault, fault_outcomes, outcomes_without, reading_outcomes, outcomes, accepted_outcomes, IsCoreRun}
+use Rattle.delivery.proofs.Words.Core.{Event, Outcome, Refusal, ConnectionFault, TopicList, CoreStep, Reading, frame_in, has_effect, Claim, claim_of, claims_of, is_kept, begins, begun_count, kept_sender, claimed_sender, sender_claimed, is_one_client, senders_of, sender_of, is_cut, Core, core_for, core_of, names_at, moves, topic_moves, frame_move, session_at, is_no_memory, unless, frame_no_memory, claim_fault, frame_fault, fault_outcomes, reading_outcomes, outcomes, accepted_outcomes, IsCoreRun}
 use Rattle.stomp_frame.specs.declared.command.Command.TheVariants as commands
 use Rattle.stomp_session.specs.declared.action.Action.TheVariants as actions
 use Rattle.delivery.proofs.Machine.SubscriptionSteps.{at_push, set_length}
@@ -133,10 +133,6 @@ refusal_silent : (r : Option Refusal) (o : Outcome) → In o (option_to_list (op
 refusal_silent None o i = absurd i
 refusal_silent (Some r) o (inl e) = ap has_effect (sym e)
 refusal_silent (Some r) o (inr i) = absurd i
-
-wanted_silent : (b : Bool) (fault : ConnectionFault) (o : Outcome) → In o (outcomes_without b fault) → has_effect o ≡ false
-wanted_silent true fault o i = fault_silent fault o i
-wanted_silent false fault o i = absurd i
 
 -- a frame that has had its effect had no fault
 faultless : (k : Core) (c : ℕ) (f : RawFrame) (left : Unread) (o : Outcome) → has_effect o ≡ true → In o (outcomes k (Event.Next c) (Reading.Finds f left)) → frame_fault k c f ≡ None

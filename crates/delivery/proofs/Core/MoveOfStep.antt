@@ -47,11 +47,6 @@ is_plain Outcome.NoMemory = true
 is_plain Outcome.Done = true
 is_plain o = false
 
--- the outcome is that a connection was opened
-abbrev pub is_opened : Outcome → Bool
-is_opened (Outcome.Opened c) = true
-is_opened o = false
-
 -- the world after these moves
 abbrev pub world_then : Core → Event → Reading → Outcome → World
 world_then k e rd o = run (moves k e rd o) k.world

@@ -34,11 +34,6 @@ idle_of v c endpoint free is =
     ap (λ (o : Option Objection). option_or o (sending_objection v.senders (number_among v.senders (get_or v.endpoints c none)))) free
     ∙ ap (λ (l : EndpointView). sending_objection v.senders (number_among v.senders l)) same
 
--- where something stands against its endpoint, that does
-pub idle_refused : (v : View) (c : ℕ) (why : Objection) → endpoint_objection (slice_get v.endpoints c) ≡ Some why → idle_objection v c ≡ Some why
-idle_refused v c why is =
-    ap (λ (o : Option Objection). option_or o (sending_objection v.senders (number_among v.senders (get_or v.endpoints c views.no_endpoint)))) is
-
 or_none : (a b : Option Objection) → option_or a b ≡ None → a ≡ None
 or_none None b e = refl
 or_none (Some o) b e = absurd (cc)

@@ -1,8 +1,7 @@
 -- Which accepted frames want memory: wherever the core answers that there was none, its frame does.
-use Rattle.delivery.proofs.Words.Std.{◌≡◌, ℕ, Bool, true, false, cond, ◌||◌, List, [], ◌∷◌, ◌++◌, Option, Some, None, refl, sym, ap, subst, ◌∙◌, codes, list_any, append-nil, is_some, option_map, option_map_or, option_to_list, option_and_then, or_right, or_from}
+use Rattle.delivery.proofs.Words.Std.{◌≡◌, ℕ, Bool, true, false, cond, ◌||◌, List, [], ◌∷◌, ◌++◌, Option, Some, None, refl, sym, ap, subst, ◌∙◌, list_any, append-nil, is_some, option_map, option_map_or, option_to_list, option_and_then, or_right, or_from}
 use Rattle.delivery.proofs.Words.Topics.{SentMessage, Topic, In}
-use Rattle.delivery.proofs.Words.Frames.{Command, RawFrame, case_fault, is_connect, first_of, Unread, receipt_of, connected_frame, receipt_frame, Action, action_by, commit, takes_memory, id_of, transaction_of, Held, sends_in, session_fault}
-use Rattle.delivery.proofs.Words.Lemmas.{sent_subscribes, committed_subscribes}
+use Rattle.delivery.proofs.Words.Frames.{Command, RawFrame, case_fault, is_connect, Unread, receipt_of, connected_frame, receipt_frame, Action, action_by, commit, takes_memory, id_of, transaction_of, Held, sends_in, session_fault}
 use Rattle.delivery.proofs.Words.Machine.{Objection, Answer, Move, end_now, move_answer, move_refusal}
 use Rattle.delivery.proofs.Words.Core.{ConnectionFault, Outcome, claims_of, claimed_sender, Reading, number_by, next_replies, receipts_of, Core, core_for, frame_move, session_at, unread_at, accepted_outcomes, claim_fault, fault_outcomes, frame_fault, frame_no_memory, frame_outcome, is_any, move_outcome, outcome_of, outcomes_without, reading_outcomes, wants_memory}
 use Rattle.delivery.proofs.Words.Views.{Asks, MayLack, View}
@@ -63,28 +62,10 @@ connect_wants k c f left client receipt held asks none =
     (moved_outcome k c f (Move.Connects c (claimed_sender client (claims_of k.steps))) Outcome.Done none (ap (frame_move k c) asks.does) refl)
     (ap (λ (b : Bool). is_any (cond b (connected_frame ∷ []) (receipts_of f))) (frame_fits f.command (session_at k c) f asks.does).0)
 
-any_either : (b : Bool) (os : List RawFrame) → is_any os ≡ true → is_any (cond b (connected_frame ∷ []) os) ≡ true
-any_either true os e = refl
-any_either false os e = e
-
--- a frame that asks for nothing, by its RECEIPT
-pub receipt_wants : (k : Core) (c : ℕ) (f : RawFrame) (left : Unread) (receipt : Option (List ℕ)) (held : View)
-    → Asks k c f left actions.Nothing receipt held → is_some receipt ≡ true → MayLack k c f
-receipt_wants k c f left receipt held asks some none =
-    by_reply k c f Outcome.Done (is_done k c f actions.Nothing asks.does refl)
-    (any_either (is_connect f.command) (receipts_of f) (asked_receipt receipt (receipt_of f) asks.wants some))
-
-subscribe_takes : (command : Command) (s : Held) (f : RawFrame) (id : List ℕ) (t : Topic) → action_by command s f ≡ actions.Subscribe id t
-    → takes_memory command s f ≡ true
-subscribe_takes commands.Subscribe s f id t e = refl
-subscribe_takes commands.Send s f id t e = sent_subscribes s f (first_of (codes "transaction") f.headers) id t e
-subscribe_takes commands.Commit s f id t e = committed_subscribes (sends_in (transaction_of f) s.transactions) id t e
-subscribe_takes _ s f id t e = absurd (cc)
-
 -- a SUBSCRIBE is kept by its session
 pub subscribe_wants : (k : Core) (c : ℕ) (f : RawFrame) (left : Unread) (id : List ℕ) (t : Topic) (receipt : Option (List ℕ)) (held : View)
     → Asks k c f left (actions.Subscribe id t) receipt held → MayLack k c f
-subscribe_wants k c f left id t receipt held asks = by_session k c f (subscribe_takes f.command (session_at k c) f id t asks.does)
+subscribe_wants k c f left id t receipt held asks = by_session k c f (ap (λ (q : Command). takes_memory q (session_at k c) f) (frame_fits f.command (session_at k c) f asks.does).0)
 
 committed_takes : (sends : List SentMessage) (txn : List SentMessage) → commit sends ≡ actions.Commit txn → has_sends sends ≡ true
 committed_takes [] txn e = absurd (cc)

@@ -59,10 +59,6 @@ unforgotten s ns at = by (nat_lt (index_in s ns) (length ns)) refl at
 pub sub_read : (subs : List SubView) (s : ℕ) (x : SubView) → s < length subs → x ≡ get_or subs s x → slice_get subs s ≡ Some x
 sub_read subs s x there is = slice_get-get_or subs s x there ∙ ap (λ (z : SubView). Some z) (sym is)
 
--- there is no such subscription
-pub close_missing : (v : View) (s : ℕ) → slice_get v.subs s ≡ None → left_at s v ≡ None
-close_missing v s none = ap (λ (o : Option SubView). option_and_then (λ x. left_in s (group_in v x.topic)) o) none
-
 -- it has no entry at its topic
 pub close_none : (v : View) (s : ℕ) (x : SubView) → slice_get v.subs s ≡ Some x → left_in s (group_in v x.topic) ≡ None → left_at s v ≡ None
 close_none v s x there none = ap (λ (o : Option SubView). option_and_then (λ x. left_in s (group_in v x.topic)) o) there ∙ none
