@@ -2,7 +2,7 @@
 use Rattle.delivery.proofs.Words.Std.{◌≡◌, ℕ, ◌<◌, ◌≤◌, Bool, true, false, ◌⊎◌, inl, inr, List, [], ◌∷◌, set, Option, Some, None, refl, sym, ap, subst, ◌∙◌, arith, true≢false, false≢true}
 use Rattle.delivery.proofs.Words.Topics.{TopicPart, topics_of, CommitRow, same_id, In, names, Decision, Topic, TxnId, SentMessage, Stamp, ProposeFault, TopicState, Pending, Entry, decided_stamp, new_topic, after_learn, after_cancel, due_part, after_turn}
 use Rattle.delivery.proofs.Words.Lemmas.{id_equal, id_same, id_itself, at_set, at_set_within, Waits, others, not_true, none_some}
-use Rattle.delivery.proofs.Words.Machine.{log_row, World, Undecided, Leftover, SenderState, new_sender, topic_at, speaker, subscription_at, entry_at, start, new_topics, speaker_number, log_at, Move, Answer, world_after, answer_to, move_refusal, move_effect, move_answer, undecided_at, find_leftover, find_verdict, verdict_in, oldest_live, commit_effect, commit_answer, proposal_fault, propose_effect, propose_answer, withdraw_effect, cancel_effect, cancel_answer, learn_effect, release_answer, queue_has_room, take_answer, leave_effect, leave_answer, close_effect, close_effect_of, connect_effect, run, answers_from, commits_of, IsSettled, AllResolved, Run, answers_of, final_world}
+use Rattle.delivery.proofs.Words.Machine.{log_row, World, Undecided, Leftover, SenderState, new_sender, topic_at, speaker, subscription_at, entry_at, new_topics, speaker_number, log_at, Move, Answer, world_after, answer_to, move_refusal, move_effect, move_answer, undecided_at, find_leftover, find_verdict, verdict_in, oldest_live, commit_effect, commit_answer, proposal_fault, propose_effect, propose_answer, withdraw_effect, cancel_effect, cancel_answer, learn_effect, release_answer, queue_has_room, take_answer, leave_effect, leave_answer, close_effect, close_effect_of, connect_effect, commits_of, IsSettled, AllResolved, Run, answers_of, final_world}
 use Rattle.mcast_txn.proofs.Members.{at_set_same}
 use Rattle.mcast_group.specs.Machine.{turn_count}
 use Rattle.mcast_group.proofs.Turning.{turn_none}
@@ -13,12 +13,13 @@ use Rattle.delivery.proofs.Machine.TopicSteps.{flies_uncommitted}
 use Rattle.delivery.proofs.Machine.ProposeStep.{within_senders}
 use Rattle.delivery.proofs.Machine.SenderSteps.{leftover_found}
 use Rattle.delivery.proofs.Machine.SubscriptionSteps.{at_push, at_added}
-use Rattle.delivery.proofs.Machine.InvariantIsKept.{Reached, tickets, by_refusal, checked, in_flight, asks_of, Asks, new_ticket, no_fault, step_reached, same_flights, one_fewer, one_same, one_kept}
+use Rattle.delivery.proofs.Machine.InvariantIsKept.{Reached, tickets, by_refusal, checked, in_flight, asks_of, Asks, new_ticket, no_fault, same_flights, one_fewer, one_same, one_kept}
 use Rattle.delivery.proofs.Machine.ByFound.{by_found}
-use Rattle.delivery.proofs.Theorem.AcceptedIsDue.{at_new, start_reached}
+use Rattle.delivery.proofs.Theorem.AcceptedIsDue.{at_new, reached}
 use Rattle.delivery.proofs.Machine.AnswerLemmas.{In-ticket, commit_of}
 use Rattle.delivery.proofs.Machine.VerdictsFit.{fits, found_one_row, HasCommit}
 use Rattle.delivery.proofs.Theorem.SettledSteps.{Calm, Settling, Gone_to, Gone-same, Gone-learned, Gone-without, Gone-release, Gone-turned, Fewer, Fewer-same, Fewer-topic, Fewer-sender, Fewer-then, Settling-fewer, Quiet, note_quiet, note_withdrawn, note_cancelled, note_turned, flying_settling, ticket_settling}
+use Rattle.delivery.proofs.Core.ByRun.{by_run}
 
 -- ---- quiet outcomes
 
@@ -37,8 +38,8 @@ quiet (Answer.Ticket id ticket) q = absurd (false≢true q)
 quiet (Answer.Withdrawn id c) q = absurd (false≢true q)
 quiet (Answer.Cancelled id t) q = absurd (false≢true q)
 quiet (Answer.Turned t count) q = absurd (false≢true q)
-quiet (Answer.Decided id stamp) q = record { flying = λ txn e. cc; tickets = λ past. refl; withdrawn = λ i d e. cc; cancelled = λ i t e. cc; settled = λ t past h. h.1 }
-quiet _ q = record { flying = λ txn e. cc; tickets = λ past. refl; withdrawn = λ i d e. cc; cancelled = λ i t e. cc; settled = λ t past h. h }
+quiet (Answer.Decided id stamp) q = record { tickets = λ past. refl; over = λ i k. k; settled = λ t past h. h.1 }
+quiet _ q = record { tickets = λ past. refl; over = λ i k. k; settled = λ t past h. h }
 
 -- a quiet outcome of an event after which there is less
 fewer_quiet : (past : List Answer) (w v : World) (o : Answer) → Quiet o → Fewer w.topics w.senders v.topics v.senders → Settling past w.topics w.senders → Settling (o ∷ past) v.topics v.senders
@@ -68,7 +69,7 @@ flights_still past w t h l all s f e = not_true (names t (topics_of f.txn.sends)
     elim (all f.txn (l.flew s f e) n) [
       | inl d ↦ (let c = committed_of past w f.txn.id d.0 h d.1 in
           flies_uncommitted (tickets past) w.commits w.topics s _ _ f ((h.inv.serves s).flying f e) c.row c.stands (id_same c.row.txn.id f.txn.id c.id_is))
-      | inr d ↦ true≢false (sym (id_itself f.txn.id) ∙ l.not_withdrawn s f f.txn.id d.0.0 e d.0.1)
+      | inr d ↦ true≢false (sym (id_itself f.txn.id) ∙ l.not_over s f f.txn.id (Withdrawn f.txn.id d.0.0) e d.0.1 refl)
     ])
 
 turn_settling : (past : List Answer) (w : World) (t : Topic) → Reached past w → Settling past w.topics w.senders → Settling (move_answer w (Turns t) ∷ past) (set w.topics t.0 (after_turn (queue_has_room w) (verdict_in w) (topic_at w t))) w.senders
@@ -203,35 +204,19 @@ step_settling past w e h l =
 
 -- ---- over a run
 
--- Reached and Settling together
-pub record Both (past : List Answer) (w : World) : Type 0 where
-  pub reached : Reached past w
-  pub settling : Settling past w.topics w.senders
-
-run_both : (es : List Move) (past : List Answer) (w : World) → Reached past w → Settling past w.topics w.senders → Both (answers_from es w past) (run es w)
-run_both [] past w h l = record { reached = h; settling = l }
-run_both (e ∷ es) past w h l = run_both es (answer_to w e ∷ past) (world_after w e) (step_reached past w e h) (step_settling past w e h l)
-
 no_parts : (log_limit : ℕ) (clocks : List ℕ) (t : Topic) (p : Pending) → In p (topic_in (new_topics 0 log_limit clocks) t).pending → Prim.⊥
 no_parts log_limit clocks t = at_new (λ z. (p : Pending) → In p z.pending → Prim.⊥) 0 log_limit clocks t.0 t (omega arith) (λ limit clock p i. i)
 
--- Settling holds at the start of a run
-pub start_settling : (log_limit : ℕ) (clocks : List ℕ) → Settling [] (new_topics 0 log_limit clocks) []
-start_settling log_limit clocks = record {
+-- a run beside the core that it leads to
+pub settling_run : (r : Run) → Settling (answers_of r) (final_world r).topics (final_world r).senders
+settling_run = by_run (λ past w. Settling past w.topics w.senders) (λ capacity log_limit clocks. record {
   gone = λ t p id i k. absurd k;
   flew = λ s f e. none_some f e;
   ticket_flew = λ a k. absurd k;
-  withdrawn_old = λ id c k. absurd k;
-  cancelled_old = λ id t k. absurd k;
-  not_withdrawn = λ s f id c e k. absurd k;
-  not_cancelled = λ s f id t e k. absurd k;
+  over_old = λ id o k. absurd k;
+  not_over = λ s f id o e k. absurd k;
   calm = λ t e. record { none = no_parts log_limit clocks t; still = λ s f n. none_some f n };
-}
-
--- a run beside the core that it leads to
-pub settling_run : (r : Run) → Settling (answers_of r) (final_world r).topics (final_world r).senders
-settling_run r =
-    (run_both r.events [] (start r.capacity r.log_limit r.clocks) (start_reached r.capacity r.log_limit r.clocks) (start_settling r.log_limit r.clocks)).settling
+}) (λ r e h. step_settling (answers_of r) (final_world r) e (reached r) h)
 
 logged_of : (w : World) (t : Topic) (r : CommitRow) → Calm w.topics w.senders t → In (log_row r) (topic_in w.topics t).held ⊎ Waits r.txn.id (topic_in w.topics t).pending → In (log_row r) (topic_in w.topics t).held
 logged_of w t r k (inl i) = i
@@ -241,6 +226,5 @@ logged_of w t r k (inr v) = absurd (k.none v.part v.stands)
 pub settled_in_log : (r : Run) (t : Topic) (row : CommitRow) → IsSettled t (answers_of r) → In row (commits_of (answers_of r)) → names t (topics_of row.txn.sends) ≡ true
     → In (log_row row) (log_at (final_world r) t)
 settled_in_log r t row settled i n =
-    let w = final_world r in
-    let b = run_both r.events [] (start r.capacity r.log_limit r.clocks) (start_reached r.capacity r.log_limit r.clocks) (start_settling r.log_limit r.clocks) in
-    logged_of w t row (b.settling.calm t settled) ((b.reached.inv.tied t).placed row (subst (λ z. In row z) b.reached.commits i) n)
+    let w = final_world r in let h = reached r in
+    logged_of w t row ((settling_run r).calm t settled) ((h.inv.tied t).placed row (subst (λ z. In row z) h.commits i) n)
