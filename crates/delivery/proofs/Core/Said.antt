@@ -18,22 +18,7 @@ abbrev pub said : List Answer → List Answer
 said [] = []
 said (Answer.Refused why ∷ past) = said past
 said (Answer.Done ∷ past) = said past
-said (Answer.Opened c ∷ past) = Answer.Opened c ∷ said past
-said (Answer.Begun txn ∷ past) = Answer.Begun txn ∷ said past
-said (Answer.Subscribed r c u from ∷ past) = Answer.Subscribed r c u from ∷ said past
-said (Answer.Unsubscribed r to ∷ past) = Answer.Unsubscribed r to ∷ said past
-said (Answer.Leaving c ∷ past) = Answer.Leaving c ∷ said past
-said (Answer.Error c ∷ past) = Answer.Error c ∷ said past
-said (Answer.Gone c ∷ past) = Answer.Gone c ∷ said past
-said (Answer.Ticket i ticket ∷ past) = Answer.Ticket i ticket ∷ said past
-said (Answer.Failed i why ∷ past) = Answer.Failed i why ∷ said past
-said (Answer.Decided i stamp ∷ past) = Answer.Decided i stamp ∷ said past
-said (Answer.Withdrawn i c ∷ past) = Answer.Withdrawn i c ∷ said past
-said (Answer.Cancelled i u ∷ past) = Answer.Cancelled i u ∷ said past
-said (Answer.Learnt i u ∷ past) = Answer.Learnt i u ∷ said past
-said (Answer.Released u i ∷ past) = Answer.Released u i ∷ said past
-said (Answer.Turned u n ∷ past) = Answer.Turned u n ∷ said past
-said (Answer.Handed r item ∷ past) = Answer.Handed r item ∷ said past
+said (o ∷ past) = o ∷ said past
 
 -- the transaction of an id
 pub txn_of_id_said : (id : TxnId) (past : List Answer) → txn_of_id id (said past) ≡ txn_of_id id past
