@@ -12,7 +12,7 @@ use Rattle.delivery.proofs.Machine.InvariantIsKept.{tickets, checked}
 use Rattle.delivery.proofs.Theorem.LogIsOfAnswers.{log_is_of_outcomes}
 use Rattle.delivery.proofs.Theorem.AcceptedIsDue.{reached, frontier_is}
 use Rattle.delivery.proofs.Core.Tests.{connection_there}
-use Rattle.delivery.proofs.Machine.ByFound.{by_found, InEachCase}
+use Rattle.delivery.proofs.Machine.ByFound.{by_found, InEachCase, always}
 use Rattle.delivery.proofs.Theorem.ByMoves.{by_runs_moves}
 
 -- how a subscription began
@@ -95,7 +95,7 @@ happens r (Subscribes c t) h n =
 happens r (Unsubscribes c s) h n = (h, λ k. same (map_set (final_world r).subscriptions s _ refl) h)
 happens r (Leaves c) h n = (h, λ s. (h, λ k. same (map_set (final_world r).subscriptions s.it _ refl) h))
 happens r (Takes s) h n = (h, λ k. same (map_set (final_world r).subscriptions s _ refl) h)
-happens r _ h n = always h
+happens r _ h n = (h, λ k. h)
 
 started_run : (r : Run) → Started (answers_of r) (final_world r)
 started_run = by_runs_moves Started (λ capacity log_limit clocks. record { beginnings = λ s. refl; begun = refl }) (λ past w why h. h) happens

@@ -11,6 +11,7 @@ use Rattle.delivery.proofs.Machine.TopicSteps.{at_topic_from}
 use Rattle.delivery.proofs.Machine.SubscriptionSteps.{at_added, topic_with}
 use Rattle.delivery.proofs.Machine.InvariantIsKept.{tickets, by_refusal, checked}
 use Rattle.delivery.proofs.Theorem.AcceptedIsDue.{reached, at_new, frontier_is, in_log}
+use Rattle.delivery.proofs.Core.ByRun.{by_run}
 
 -- ---- the log beside the agreed sequence
 

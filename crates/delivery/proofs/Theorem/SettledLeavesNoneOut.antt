@@ -69,7 +69,7 @@ flights_still past w t h l all s f e = not_true (names t (topics_of f.txn.sends)
     elim (all f.txn (l.flew s f e) n) [
       | inl d ↦ (let c = committed_of past w f.txn.id d.0 h d.1 in
           flies_uncommitted (tickets past) w.commits w.topics s _ _ f ((h.inv.serves s).flying f e) c.row c.stands (id_same c.row.txn.id f.txn.id c.id_is))
-      | inr d ↦ true≢false (sym (id_itself f.txn.id) ∙ l.not_over s f f.txn.id (Withdrawn f.txn.id d.0.0) e d.0.1 refl)
+      | inr d ↦ true≢false (sym (id_itself f.txn.id) ∙ l.not_over s f f.txn.id (Answer.Withdrawn f.txn.id d.0.0) e d.0.1 refl)
     ])
 
 turn_settling : (past : List Answer) (w : World) (t : Topic) → Reached past w → Settling past w.topics w.senders → Settling (move_answer w (Turns t) ∷ past) (set w.topics t.0 (after_turn (queue_has_room w) (verdict_in w) (topic_at w t))) w.senders

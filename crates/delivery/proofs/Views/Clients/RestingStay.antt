@@ -4,7 +4,7 @@ use Rattle.delivery.proofs.Words.Topics.{Entry, GateState}
 use Rattle.delivery.proofs.Words.Machine.{World, Connection, SenderState, Standing, is_gone, nobody, new_sender, connection_at, sender_at, speaker, speaker_number, speaks_for, is_in_use, subscription_at, Move, world_after, move_refusal, move_effect, close_effect_of, run, Opens, Connects, Commits, Disconnects, Errs, Lost, Leaves, Proposes, Decides, Withdraws, Cancels, Takes}
 use Rattle.delivery.proofs.Words.Views.{resting_gate}
 use Rattle.delivery.proofs.Machine.InvariantIsKept.{by_refusal, checked}
-use Rattle.delivery.proofs.Machine.ByFound.{by_found, InEachCase}
+use Rattle.delivery.proofs.Machine.ByFound.{by_found, InEachCase, always}
 use Rattle.delivery.proofs.Machine.Speakers.{has_speaker, cancelling_speaker}
 use Rattle.delivery.proofs.Machine.SenderSteps.{leftover_found}
 use Rattle.delivery.proofs.Theorem.SendersAreOwn.{flying_speaks, speaks, reading_there}

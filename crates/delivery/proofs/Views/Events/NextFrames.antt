@@ -7,7 +7,6 @@ use Rattle.delivery.proofs.Words.Machine.{Objection, World, Connection, Standing
 use Rattle.delivery.proofs.Words.Core.{ConnectionFault, Event, Outcome, Stage, Reading, has_effect, accepted_of, is_cut, receipts_of, text_out, Core, core_for, frame_move, is_faulted, next_moves, session_at, names_at, topic_moves, MayStep, claim_fault, fault_outcomes, frame_fault, frame_no_memory, frame_outcome, move_outcome, outcome_of, reading_outcomes, accepted_outcomes, outcomes_without, wants_memory, live_numbers}
 use Rattle.delivery.proofs.Words.Views.{Asks, AsksUnnamed, accepted_stage, error_text, failed_endpoint, receipt_text, staged_endpoint, MayEnd, Makes, View, EndpointView, view_of, view_after, stage_view, leaving_endpoint, no_endpoint, parting_receipt, written_endpoint}
 use Rattle.std.specs.List.{find}
-use Rattle.stomp_frame.specs.declared.command.Command.TheVariants as commands
 use Rattle.stomp_session.specs.declared.action.Action.TheVariants as actions
 use Rattle.delivery.proofs.Machine.Effects.{made_answer, made_world}
 use Rattle.delivery.proofs.Views.Endpoints.EndpointChanges.{with_endpoint, endpoint_again}

@@ -7,7 +7,6 @@ use Rattle.delivery.proofs.Words.Machine.{connection_at}
 use Rattle.delivery.proofs.Words.Core.{Event, Claim, begun_count, claim_of, claimed_sender, claims_of, sender_claimed, Core, session_at, CoreStep, accepted_of, frame_from, frame_in, has_effect}
 use Rattle.delivery.proofs.Words.Views.{IsReached}
 use Rattle.stomp_frame.specs.declared.command.Command.TheVariants as commands
-use Rattle.stomp_session.specs.declared.action.Action.TheVariants as actions
 use Rattle.stomp_session.specs.Versions.{has_version}
 use Rattle.stomp_session.specs.Open.{is_connected}
 use Rattle.stomp_session.specs.Refusals.{Condition, refusals_by}
