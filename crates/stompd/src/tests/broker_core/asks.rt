@@ -83,6 +83,14 @@ pub(crate) fn answer(alloc: Global, net: &mut Net, ask: Ask) -> Result<String, N
     told(alloc, net, ask)
 }
 
+/// Whether that is this text.
+pub(crate) fn answers(alloc: Global, net: &mut Net, ask: Ask, wanted: &str) -> bool {
+    match answer(alloc, net, ask) {
+        Ok(told) => told.as_str() == wanted,
+        Err(NoMemory) => false,
+    }
+}
+
 /// The event at the end of the list.
 fn put(alloc: Global, events: &mut EventList, ask: Ask) -> Result<(), NoMemory> {
     match events.push(event(alloc, ask)?) {

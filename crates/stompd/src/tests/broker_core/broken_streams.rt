@@ -5,7 +5,6 @@ use super::runs::order::leading;
 use super::worked_runs::made;
 use delivery::{Event, Net, Outcome, Refusal};
 use std::alloc::Global;
-use std::test::Fail;
 use stomp_frame::{NoMemory, Octets};
 use trace_audit::{Trace, audit};
 
@@ -51,41 +50,43 @@ fn read(alloc: Global, net: &mut Net) -> Result<Option<usize>, NoMemory> {
 }
 
 /// Whether the connection is lost, and gone once its subscription is closed, if it has one.
-fn is_lost(alloc: Global, net: &mut Net, has_subscribed: bool) -> Result<bool, NoMemory> {
-    let lost = step(alloc, net, Ask::Lost(0))?;
-    let mut left = step(alloc, net, Ask::Leave(0))?;
-    if has_subscribed && matches!(left, Outcome::Unsubscribed(0, _)) {
-        left = step(alloc, net, Ask::Leave(0))?;
+fn is_lost(alloc: Global, net: &mut Net, has_subscribed: bool) -> bool {
+    let lost = step(alloc, net, Ask::Lost(0));
+    let mut left = step(alloc, net, Ask::Leave(0));
+    if has_subscribed && matches!(left, Ok(Outcome::Unsubscribed(0, _))) {
+        left = step(alloc, net, Ask::Leave(0));
     }
-    Ok(lost == Outcome::Leaving && left == (Outcome::Gone { cut: false }))
+    lost == Ok(Outcome::Leaving) && left == Ok(Outcome::Gone { cut: false })
 }
 
 /// Whether this core has done so many whole frames, its connection is lost then, and none left a row.
-fn has_no_row(alloc: Global, net: &mut Net, whole: usize) -> Result<bool, NoMemory> {
-    Ok(
-        read(alloc, net)? == Some(whole)
-            && is_lost(alloc, net, whole >= 2)?
-            && net.report().commits_len() == 0,
-    )
+fn has_no_row(alloc: Global, net: &mut Net, whole: usize) -> bool {
+    read(alloc, net) == Ok(Some(whole))
+        && is_lost(alloc, net, whole >= 2)
+        && net.report().commits_len() == 0
 }
 
 /// Whether each frame that is whole before this place of the stream has its effect, where the connection is lost there, and
 /// none leaves a row.
-fn leaves_no_row(alloc: Global, at: usize) -> Result<bool, NoMemory> {
+fn leaves_no_row(alloc: Global, at: usize) -> bool {
     let Some(octets) = stream().get(..at) else {
-        return Ok(false);
+        return false;
     };
-    let mut net = fed(alloc, Octets::from_slice(alloc, octets)?)?;
-    has_no_row(alloc, &mut net, nulls(octets))
+    let Ok(front) = Octets::from_slice(alloc, octets) else {
+        return false;
+    };
+    match fed(alloc, front) {
+        Ok(mut net) => has_no_row(alloc, &mut net, nulls(octets)),
+        Err(NoMemory) => false,
+    }
 }
 
 #[test]
-fn one_lost_before_its_commit_leaves_no_row(rt: HostRuntime) -> Result<(), Fail> {
+fn one_lost_before_its_commit_leaves_no_row(rt: HostRuntime) {
     assert!(rt; nulls(stream()) == FRAMES);
     for at in 0..stream().len() {
-        assert!(rt; leaves_no_row(rt.alloc(), at)?, "lost before octet {at}");
+        assert!(rt; leaves_no_row(rt.alloc(), at), "lost before octet {at}");
     }
-    Ok(())
 }
 
 // ---- streams that are changed
@@ -120,31 +121,40 @@ fn is_yes(alloc: Global, trace: &Trace) -> bool {
 }
 
 /// Whether the rest of the run goes on at this core, and the audit of its trace is a yes.
-fn goes_on(alloc: Global, net: &mut Net) -> Result<bool, NoMemory> {
-    go_on(alloc, net)?;
-    Ok(is_yes(alloc, &net.trace()?))
+fn goes_on(alloc: Global, net: &mut Net) -> bool {
+    if go_on(alloc, net).is_err() {
+        return false;
+    }
+    match net.trace() {
+        Ok(trace) => is_yes(alloc, &trace),
+        Err(NoMemory) => false,
+    }
 }
 
 /// The same behind a changed stream.
-fn audits_to_yes(alloc: Global, at: usize, octet: u8) -> Result<bool, NoMemory> {
-    let mut net = fed(alloc, changed(alloc, at, octet)?)?;
-    goes_on(alloc, &mut net)
+fn audits_to_yes(alloc: Global, at: usize, octet: u8) -> bool {
+    let Ok(octets) = changed(alloc, at, octet) else {
+        return false;
+    };
+    match fed(alloc, octets) {
+        Ok(mut net) => goes_on(alloc, &mut net),
+        Err(NoMemory) => false,
+    }
 }
 
 /// Whether it is so with each of OCTETS at this place.
-fn audits_with_each(alloc: Global, at: usize) -> Result<bool, NoMemory> {
+fn audits_with_each(alloc: Global, at: usize) -> bool {
     for octet in OCTETS {
-        if !audits_to_yes(alloc, at, octet)? {
-            return Ok(false);
+        if !audits_to_yes(alloc, at, octet) {
+            return false;
         }
     }
-    Ok(true)
+    true
 }
 
 #[test]
-fn any_octet_may_be_another(rt: HostRuntime) -> Result<(), Fail> {
+fn any_octet_may_be_another(rt: HostRuntime) {
     for at in 0..stream().len() {
-        assert!(rt; audits_with_each(rt.alloc(), at)?, "octet {at} is another");
+        assert!(rt; audits_with_each(rt.alloc(), at), "octet {at} is another");
     }
-    Ok(())
 }

@@ -3,11 +3,11 @@
 
 use super::asks::Ask;
 use super::draws::Made;
-use super::made::{feed, is_right, new_net, opening, read, told};
+use super::made::{feed, is_right, is_told, new_net, opening, read};
 use super::past::Past;
 use super::replies::Reply;
 use crate::tests::draws::Draws;
-use delivery::{Net, Outcome};
+use delivery::Net;
 use std::alloc::Global;
 use std::test::Fail;
 use stomp_frame::NoMemory;
@@ -159,44 +159,30 @@ fn leaver(past: &Past) -> u64 {
 }
 
 /// Opens a connection whose CONNECT has the client-id of this letter.
-fn open(alloc: Global, net: &mut Net, past: &mut Past, client: u8) -> Result<bool, NoMemory> {
-    past.speakers.name(client)?;
-    Ok(told(alloc, net, past, Ask::Open)?.0)
+fn open(alloc: Global, net: &mut Net, past: &mut Past, client: u8) -> bool {
+    past.speakers.name(client).is_ok() && is_told(alloc, net, past, Ask::Open)
 }
 
 /// Feeds the connection its CONNECT, and has it read that and its SUBSCRIBE.
-fn connect(alloc: Global, net: &mut Net, past: &mut Past, c: u64) -> Result<bool, NoMemory> {
+fn connect(alloc: Global, net: &mut Net, past: &mut Past, c: u64) -> bool {
     let made = connect_of(past.speakers.client(c));
-    Ok(feed(alloc, net, past, c, made)? && read(alloc, net, past, c, 2)?)
+    feed(alloc, net, past, c, made) && read(alloc, net, past, c, 2)
 }
 
 /// Two connections are opened, and the second of them connects first.
-fn begin(
-    alloc: Global,
-    net: &mut Net,
-    past: &mut Past,
-    draws: &mut Draws,
-) -> Result<bool, NoMemory> {
+fn begin(alloc: Global, net: &mut Net, past: &mut Past, draws: &mut Draws) -> bool {
     let (first, second) = (draws.client(), draws.client());
-    Ok(
-        open(alloc, net, past, first)?
-            && open(alloc, net, past, second)?
-            && connect(alloc, net, past, 1)?
-            && connect(alloc, net, past, 0)?,
-    )
+    open(alloc, net, past, first)
+        && open(alloc, net, past, second)
+        && connect(alloc, net, past, 1)
+        && connect(alloc, net, past, 0)
 }
 
 /// Feeds the connection what is drawn, and has it read some of it; or its CONNECT where it hasn't connected.
-fn feed_any(
-    alloc: Global,
-    net: &mut Net,
-    past: &mut Past,
-    draws: &mut Draws,
-    c: u64,
-) -> Result<bool, NoMemory> {
+fn feed_any(alloc: Global, net: &mut Net, past: &mut Past, draws: &mut Draws, c: u64) -> bool {
     if past.is_connected(c) {
         let made = draws.fed_when_claimed();
-        Ok(feed(alloc, net, past, c, made)? && read(alloc, net, past, c, draws.below(8))?)
+        feed(alloc, net, past, c, made) && read(alloc, net, past, c, draws.below(8))
     } else {
         connect(alloc, net, past, c)
     }
@@ -211,22 +197,17 @@ fn drawn_event(
     draws: &mut Draws,
     kind: u32,
     c: u64,
-) -> Result<bool, NoMemory> {
+) -> bool {
     let ask = match kind {
         10..=21 => draws.ask_of_flight(past, flying(past)),
         22..=25 => draws.ask_of_leaver(leaver(past)),
         _ => draws.ask_when_claimed(c),
     };
-    Ok(told(alloc, net, past, ask)?.0)
+    is_told(alloc, net, past, ask)
 }
 
 /// What is drawn.
-fn drawn(
-    alloc: Global,
-    net: &mut Net,
-    past: &mut Past,
-    draws: &mut Draws,
-) -> Result<bool, NoMemory> {
+fn drawn(alloc: Global, net: &mut Net, past: &mut Past, draws: &mut Draws) -> bool {
     let c = open_one(past, draws);
     match draws.below(32) {
         0 if past.lines.len() < CONNECTIONS => open(alloc, net, past, draws.client()),
@@ -319,31 +300,20 @@ pub(crate) fn kind_of(run: u32) -> u32 {
 }
 
 /// Whether each of so many outcomes that are drawn may be.
-fn are_right(
-    alloc: Global,
-    net: &mut Net,
-    past: &mut Past,
-    draws: &mut Draws,
-) -> Result<bool, NoMemory> {
+fn are_right(alloc: Global, net: &mut Net, past: &mut Past, draws: &mut Draws) -> bool {
     for _ in 0..DRAWS {
-        if !drawn(alloc, net, past, draws)? {
-            return Ok(false);
+        if !drawn(alloc, net, past, draws) {
+            return false;
         }
     }
-    Ok(true)
+    true
 }
 
 /// Whether each outcome of this run may be, which the core takes, and what is reported at its end is right.
-fn is_run_right(
-    alloc: Global,
-    net: &mut Net,
-    past: &mut Past,
-    run: u32,
-    seen: &mut Seen,
-) -> Result<bool, NoMemory> {
+fn is_run_right(alloc: Global, net: &mut Net, past: &mut Past, run: u32, seen: &mut Seen) -> bool {
     let mut draws = Draws::of(run.wrapping_add(1_000));
-    if !begin(alloc, net, past, &mut draws)? || !are_right(alloc, net, past, &mut draws)? {
-        return Ok(false);
+    if !begin(alloc, net, past, &mut draws) || !are_right(alloc, net, past, &mut draws) {
+        return false;
     }
     seen.add(past);
     is_right(alloc, &net.report(), past)
@@ -354,7 +324,7 @@ pub(crate) fn judged(alloc: Global, run: u32, seen: &mut Seen) -> Result<(Net, b
     let kind = kind_of(run);
     let mut net = new_net(alloc, kind)?;
     let mut past = Past::new(alloc, opening(kind))?;
-    let is_right = is_run_right(alloc, &mut net, &mut past, run, seen)?;
+    let is_right = is_run_right(alloc, &mut net, &mut past, run, seen);
     Ok((net, is_right))
 }
 

@@ -1,6 +1,6 @@
 //! As many client-ids as a core keeps, and one more.
 
-use super::asks::{Ask, answer};
+use super::asks::{Ask, answers};
 use delivery::{Event, Net, Outcome, Topics};
 use itoa::Buffer;
 use std::alloc::Global;
@@ -28,23 +28,22 @@ fn claimed(alloc: Global, net: &mut Net, c: u64, id: u64) -> Result<Outcome, NoM
 }
 
 /// Whether the next connection claims the client-id of its own number, and is gone then.
-fn is_kept(alloc: Global, net: &mut Net, c: u64) -> Result<bool, NoMemory> {
-    if claimed(alloc, net, c, c)? != Outcome::Done {
-        return Ok(false);
+fn is_kept(alloc: Global, net: &mut Net, c: u64) -> bool {
+    if claimed(alloc, net, c, c) != Ok(Outcome::Done) || net.reserve(2).is_err() {
+        return false;
     }
-    net.reserve(2)?;
     net.step(Event::Lost(c));
-    Ok(net.step(Event::Leave(c)) == (Outcome::Gone { cut: false }))
+    net.step(Event::Leave(c)) == (Outcome::Gone { cut: false })
 }
 
 /// Whether 65,536 connections do, one after the other.
-fn fills(alloc: Global, net: &mut Net) -> Result<bool, NoMemory> {
+fn fills(alloc: Global, net: &mut Net) -> bool {
     for c in 0..IDS {
-        if !is_kept(alloc, net, c)? {
-            return Ok(false);
+        if !is_kept(alloc, net, c) {
+            return false;
         }
     }
-    Ok(true)
+    true
 }
 
 /// The client-ids of the next connections, and the numbers of the faults that their CONNECTs end by; 0 where they are
@@ -60,62 +59,56 @@ const CLAIMED: &[(u64, u32)] = &[
 ];
 
 /// The number of the fault that a connection ended by, or 0.
-fn number_of(outcome: Outcome) -> u32 {
+fn number_of(outcome: Result<Outcome, NoMemory>) -> u32 {
     match outcome {
-        Outcome::Done => 0,
-        Outcome::Faulted { fault, cut: false } => fault.number(),
+        Ok(Outcome::Done) => 0,
+        Ok(Outcome::Faulted { fault, cut: false }) => fault.number(),
         _ => 1,
     }
 }
 
 /// Whether that comes of them.
-fn is_full(alloc: Global, net: &mut Net) -> Result<bool, NoMemory> {
+fn is_full(alloc: Global, net: &mut Net) -> bool {
     let mut c = IDS;
     for &(id, wanted) in CLAIMED {
-        if number_of(claimed(alloc, net, c, id)?) != wanted {
-            return Ok(false);
+        if number_of(claimed(alloc, net, c, id)) != wanted {
+            return false;
         }
         c = c.saturating_add(1);
     }
-    Ok(true)
+    true
 }
 
 /// What comes of the first SEND of a kept sender, and of one whose connection has no client-id.
 const SENT: &[(u64, &str)] = &[(65_537, "flight 7 1"), (65_543, "flight 65536 1")];
 
 /// Whether that comes of them.
-fn sends(alloc: Global, net: &mut Net) -> Result<bool, NoMemory> {
+fn sends(alloc: Global, net: &mut Net) -> bool {
     for &(c, wanted) in SENT {
-        let told = answer(alloc, net, Ask::Frame(c, b"SEND\ndestination:A\n\nm\0"))?;
-        if told.as_str() != wanted {
-            return Ok(false);
+        let send = Ask::Frame(c, b"SEND\ndestination:A\n\nm\0");
+        if !answers(alloc, net, send, wanted) {
+            return false;
         }
     }
-    Ok(true)
-}
-
-/// Whether the next connection, which has no client-id, is accepted.
-fn is_accepted(alloc: Global, net: &mut Net) -> Result<bool, NoMemory> {
-    Ok(answer(alloc, net, Ask::Connect(65_543))?.as_str() == "done")
+    true
 }
 
 /// What the first connection is written whose client-id isn't kept.
 const REFUSED: &[u8] = b"ERROR\nmessage:78 TooManyClients\ncontent-length:0\n\n\0";
 
-/// Whether a core without topics keeps 65,536 client-ids and not one more, and the senders go on.
-fn keeps(alloc: Global, net: &mut Net) -> Result<bool, NoMemory> {
-    Ok(
-        fills(alloc, net)?
-            && is_full(alloc, net)?
-            && is_accepted(alloc, net)?
-            && sends(alloc, net)?
-            && net.report().out(65_536) == Some(REFUSED),
-    )
+/// Whether a core without topics keeps 65,536 client-ids and not one more, the next connection, which has none, is accepted,
+/// and the senders go on.
+fn keeps(alloc: Global, net: &mut Net) -> bool {
+    fills(alloc, net)
+        && is_full(alloc, net)
+        && answers(alloc, net, Ask::Connect(65_543), "done")
+        && sends(alloc, net)
+        && net.report().out(65_536) == Some(REFUSED)
 }
 
 #[test]
 fn the_65537th_client_id_is_kept_by_none(rt: HostRuntime) -> Result<(), Fail> {
     let mut net = Net::new(rt.alloc(), Topics::new(rt.alloc()), 1)?;
-    assert!(rt; keeps(rt.alloc(), &mut net)?);
+    assert!(rt; keeps(rt.alloc(), &mut net));
     Ok(())
 }

@@ -12,7 +12,6 @@ use mcast_group::Row;
 use mcast_txn::{Released, SentMessage, Stamp, Topic, TxnId};
 use seen::Seen;
 use std::alloc::Global;
-use std::test::Fail;
 use stomp_frame::{Headers, NoMemory, Octets};
 
 /// How many runs there are, and how many draws each has.
@@ -186,30 +185,21 @@ fn have_due(report: &Report<'_>, past: &Past, dues: &[Dues]) -> bool {
 }
 
 /// Whether the connection was written what the outcomes say.
-fn has_out(
-    alloc: Global,
-    report: &Report<'_>,
-    past: &Past,
-    dues: &[Dues],
-    c: usize,
-) -> Result<bool, NoMemory> {
-    let text = out(alloc, &past.written, c as u64, dues)?;
-    Ok(report.out(c) == Some(text.as_bytes()))
+fn has_out(alloc: Global, report: &Report<'_>, past: &Past, dues: &[Dues], c: usize) -> bool {
+    let Ok(text) = out(alloc, &past.written, c as u64, dues) else {
+        return false;
+    };
+    report.out(c) == Some(text.as_bytes())
 }
 
 /// Whether each connection was.
-fn have_outs(
-    alloc: Global,
-    report: &Report<'_>,
-    past: &Past,
-    dues: &[Dues],
-) -> Result<bool, NoMemory> {
+fn have_outs(alloc: Global, report: &Report<'_>, past: &Past, dues: &[Dues]) -> bool {
     for c in 0..past.lines.len() {
-        if !has_out(alloc, report, past, dues, c)? {
-            return Ok(false);
+        if !has_out(alloc, report, past, dues, c) {
+            return false;
         }
     }
-    Ok(report.connections_len() == past.lines.len())
+    report.connections_len() == past.lines.len()
 }
 
 /// Whether the report is what the outcomes say, whose commits are these in the order of their stamps, and what is due this.
@@ -219,21 +209,28 @@ fn is_as_said(
     past: &Past,
     sorted: &[CommitRow],
     dues: &[Dues],
-) -> Result<bool, NoMemory> {
-    Ok(
-        has_commits(report, past)
-            && rise(sorted)
-            && report.topics_len() == past.names.len()
-            && (0..report.topics_len()).all(|t| has_log(report, t, sorted))
-            && have_due(report, past, dues)
-            && have_outs(alloc, report, past, dues)?,
-    )
+) -> bool {
+    has_commits(report, past)
+        && rise(sorted)
+        && report.topics_len() == past.names.len()
+        && (0..report.topics_len()).all(|t| has_log(report, t, sorted))
+        && have_due(report, past, dues)
+        && have_outs(alloc, report, past, dues)
+}
+
+/// The committed transactions, in the order of their stamps.
+fn sorted(alloc: Global, past: &Past) -> Result<Vec<CommitRow>, NoMemory> {
+    agreed(alloc, rows(alloc, past)?)
 }
 
 /// Whether the report is what the outcomes say.
-pub(super) fn is_right(alloc: Global, report: &Report<'_>, past: &Past) -> Result<bool, NoMemory> {
-    let sorted = agreed(alloc, rows(alloc, past)?)?;
-    let dues = dues(alloc, report, past)?;
+pub(super) fn is_right(alloc: Global, report: &Report<'_>, past: &Past) -> bool {
+    let Ok(sorted) = sorted(alloc, past) else {
+        return false;
+    };
+    let Ok(dues) = dues(alloc, report, past) else {
+        return false;
+    };
     is_as_said(alloc, report, past, &sorted, &dues)
 }
 
@@ -247,46 +244,43 @@ pub(super) fn told(
     let event = event(alloc, ask)?;
     net.reserve(1)?;
     let outcome = net.step(event);
-    Ok((past.keep(ask, outcome)?, outcome))
+    Ok((past.keep(ask, outcome), outcome))
+}
+
+/// Takes the event, and keeps what it comes to. Whether the outcome may be.
+pub(super) fn is_told(alloc: Global, net: &mut Net, past: &mut Past, ask: Ask) -> bool {
+    matches!(told(alloc, net, past, ask), Ok((true, _)))
 }
 
 /// Feeds the connection, if all that it was fed was read. Whether the outcome may be.
-pub(super) fn feed(
-    alloc: Global,
-    net: &mut Net,
-    past: &mut Past,
-    c: u64,
-    made: Made,
-) -> Result<bool, NoMemory> {
+pub(super) fn feed(alloc: Global, net: &mut Net, past: &mut Past, c: u64, made: Made) -> bool {
     if past.fed(c).is_some() {
-        return Ok(true);
+        return true;
     }
-    let (may_be, outcome) = told(alloc, net, past, Ask::Piece(c, made.octets))?;
+    let Ok((may_be, outcome)) = told(alloc, net, past, Ask::Piece(c, made.octets)) else {
+        return false;
+    };
     if outcome == Outcome::Fed {
         past.feed(c, Some(made));
     }
-    Ok(may_be)
+    may_be
 }
 
 /// Reads at most so many frames, until one isn't only done. Whether each outcome may be.
-pub(super) fn read(
-    alloc: Global,
-    net: &mut Net,
-    past: &mut Past,
-    c: u64,
-    most: u32,
-) -> Result<bool, NoMemory> {
+pub(super) fn read(alloc: Global, net: &mut Net, past: &mut Past, c: u64, most: u32) -> bool {
     for _ in 0..most {
-        let (may_be, outcome) = told(alloc, net, past, Ask::Next(c))?;
+        let Ok((may_be, outcome)) = told(alloc, net, past, Ask::Next(c)) else {
+            return false;
+        };
         if !may_be || outcome != Outcome::Done {
-            return Ok(may_be);
+            return may_be;
         }
     }
-    Ok(true)
+    true
 }
 
 /// A connection is opened, and sends its CONNECT and a SUBSCRIBE.
-fn connect(alloc: Global, net: &mut Net, past: &mut Past, c: u64) -> Result<bool, NoMemory> {
+fn connect(alloc: Global, net: &mut Net, past: &mut Past, c: u64) -> bool {
     let made = Made {
         octets: b"CONNECT\naccept-version:1.2\nhost:h\n\n\0SUBSCRIBE\nid:s\ndestination:A\n\n\0",
         destinations: b" A",
@@ -294,34 +288,23 @@ fn connect(alloc: Global, net: &mut Net, past: &mut Past, c: u64) -> Result<bool
         id: 's',
         asks: false,
     };
-    Ok(
-        told(alloc, net, past, Ask::Open)?.0
-            && feed(alloc, net, past, c, made)?
-            && read(alloc, net, past, c, 2)?,
-    )
+    is_told(alloc, net, past, Ask::Open)
+        && feed(alloc, net, past, c, made)
+        && read(alloc, net, past, c, 2)
 }
 
 /// Three connections.
-fn connect_all(alloc: Global, net: &mut Net, past: &mut Past) -> Result<bool, NoMemory> {
-    Ok(
-        connect(alloc, net, past, 0)?
-            && connect(alloc, net, past, 1)?
-            && connect(alloc, net, past, 2)?,
-    )
+fn connect_all(alloc: Global, net: &mut Net, past: &mut Past) -> bool {
+    connect(alloc, net, past, 0) && connect(alloc, net, past, 1) && connect(alloc, net, past, 2)
 }
 
 /// What is drawn.
-fn drawn(
-    alloc: Global,
-    net: &mut Net,
-    past: &mut Past,
-    draws: &mut Draws,
-) -> Result<bool, NoMemory> {
+fn drawn(alloc: Global, net: &mut Net, past: &mut Past, draws: &mut Draws) -> bool {
     let c = draws.below(3) as u64;
     match draws.below(16) {
         0..=2 => feed(alloc, net, past, c, draws.made()),
         3..=5 => read(alloc, net, past, c, draws.below(6)),
-        _ => Ok(told(alloc, net, past, draws.ask())?.0),
+        _ => is_told(alloc, net, past, draws.ask()),
     }
 }
 
@@ -363,29 +346,23 @@ pub(super) fn new_net(alloc: Global, run: u32) -> Result<Net, NoMemory> {
 }
 
 /// Whether each outcome of the run may be at this core.
-fn may_be(alloc: Global, run: u32, net: &mut Net, past: &mut Past) -> Result<bool, NoMemory> {
+fn may_be(alloc: Global, run: u32, net: &mut Net, past: &mut Past) -> bool {
     let mut draws = Draws::of(run);
-    if !connect_all(alloc, net, past)? {
-        return Ok(false);
+    if !connect_all(alloc, net, past) {
+        return false;
     }
     for _ in 0..DRAWS {
-        if !drawn(alloc, net, past, &mut draws)? {
-            return Ok(false);
+        if !drawn(alloc, net, past, &mut draws) {
+            return false;
         }
     }
-    Ok(true)
+    true
 }
 
 /// Whether each outcome of the run may be at this core, and what is reported at its end is right.
-fn holds_at(
-    alloc: Global,
-    run: u32,
-    net: &mut Net,
-    past: &mut Past,
-    seen: &mut Seen,
-) -> Result<bool, NoMemory> {
-    if !may_be(alloc, run, net, past)? {
-        return Ok(false);
+fn holds_at(alloc: Global, run: u32, net: &mut Net, past: &mut Past, seen: &mut Seen) -> bool {
+    if !may_be(alloc, run, net, past) {
+        return false;
     }
     seen.add(&net.report(), past);
     seen.add_replies(past);
@@ -393,18 +370,21 @@ fn holds_at(
 }
 
 /// The same at a core of its own.
-fn holds(alloc: Global, run: u32, seen: &mut Seen) -> Result<bool, NoMemory> {
-    let mut net = new_net(alloc, run)?;
-    let mut past = Past::new(alloc, opening(run))?;
+fn holds(alloc: Global, run: u32, seen: &mut Seen) -> bool {
+    let Ok(mut net) = new_net(alloc, run) else {
+        return false;
+    };
+    let Ok(mut past) = Past::new(alloc, opening(run)) else {
+        return false;
+    };
     holds_at(alloc, run, &mut net, &mut past, seen)
 }
 
 #[test]
-fn made_runs(rt: HostRuntime) -> Result<(), Fail> {
+fn made_runs(rt: HostRuntime) {
     let mut seen = Seen::new();
     for run in 0..RUNS {
-        assert!(rt; holds(rt.alloc(), run, &mut seen)?, "run {run}");
+        assert!(rt; holds(rt.alloc(), run, &mut seen), "run {run}");
     }
     assert!(rt; seen.have_all_come());
-    Ok(())
 }

@@ -1,6 +1,6 @@
 //! As many topics as a core has, made on first use, and one more.
 
-use super::asks::{Ask, answer};
+use super::asks::{Ask, answer, answers};
 use delivery::{Event, Net, Outcome, Topics};
 use itoa::Buffer;
 use std::alloc::Global;
@@ -21,45 +21,43 @@ fn send_to(alloc: Global, number: u64) -> Result<Octets, NoMemory> {
 }
 
 /// Whether connection 0 sends to the topic of this number.
-fn sends(alloc: Global, net: &mut Net, number: u64) -> Result<bool, NoMemory> {
-    let octets = send_to(alloc, number)?;
-    net.reserve(2)?;
+fn sends(alloc: Global, net: &mut Net, number: u64) -> bool {
+    let Ok(octets) = send_to(alloc, number) else {
+        return false;
+    };
+    if net.reserve(2).is_err() {
+        return false;
+    }
     net.step(Event::Piece(0, octets));
-    Ok(net.step(Event::Next(0)) == Outcome::Done)
+    net.step(Event::Next(0)) == Outcome::Done
 }
 
 /// Whether this comes of the frame of a connection.
-fn comes(
-    alloc: Global,
-    net: &mut Net,
-    c: u64,
-    octets: &'static [u8],
-    wanted: &str,
-) -> Result<bool, NoMemory> {
-    Ok(answer(alloc, net, Ask::Frame(c, octets))?.as_str() == wanted)
+fn comes(alloc: Global, net: &mut Net, c: u64, octets: &'static [u8], wanted: &str) -> bool {
+    answers(alloc, net, Ask::Frame(c, octets), wanted)
 }
 
 /// Whether a transaction that is aborted names the next topics, as many as it has SENDs.
-fn names_more(alloc: Global, net: &mut Net, first: u64) -> Result<bool, NoMemory> {
-    if !comes(alloc, net, 0, b"BEGIN\ntransaction:x\n\n\0", "done")? {
-        return Ok(false);
+fn names_more(alloc: Global, net: &mut Net, first: u64) -> bool {
+    if !comes(alloc, net, 0, b"BEGIN\ntransaction:x\n\n\0", "done") {
+        return false;
     }
     for number in first..first.saturating_add(SENDS) {
-        if !sends(alloc, net, number)? {
-            return Ok(false);
+        if !sends(alloc, net, number) {
+            return false;
         }
     }
     comes(alloc, net, 0, b"ABORT\ntransaction:x\n\n\0", "done")
 }
 
 /// Whether connection 0 names 1,024 topics in transactions that it aborts, one after the other.
-fn fills(alloc: Global, net: &mut Net) -> Result<bool, NoMemory> {
+fn fills(alloc: Global, net: &mut Net) -> bool {
     for transaction in 0..TRANSACTIONS {
-        if !names_more(alloc, net, transaction.saturating_mul(SENDS))? {
-            return Ok(false);
+        if !names_more(alloc, net, transaction.saturating_mul(SENDS)) {
+            return false;
         }
     }
-    Ok(net.report().topics_len() == 1_024)
+    net.report().topics_len() == 1_024
 }
 
 /// What each further connection sends where 1,024 topics are there, and what comes of it.
@@ -84,32 +82,30 @@ const SENT: &[(&[u8], &str)] = &[
 ];
 
 /// Whether that comes of them, each sent by the next connection.
-fn is_full(alloc: Global, net: &mut Net) -> Result<bool, NoMemory> {
+fn is_full(alloc: Global, net: &mut Net) -> bool {
     let mut c = 0u64;
     for &(octets, wanted) in SENT {
         c = c.saturating_add(1);
-        answer(alloc, net, Ask::Connect(c))?;
-        if !comes(alloc, net, c, octets, wanted)? {
-            return Ok(false);
+        let is_there = answer(alloc, net, Ask::Connect(c)).is_ok();
+        if !is_there || !comes(alloc, net, c, octets, wanted) {
+            return false;
         }
     }
-    Ok(net.report().topics_len() == 1_024)
+    net.report().topics_len() == 1_024
 }
 
-/// Whether the flight of connection 8 is then given the first number of the last topic.
-fn is_given(alloc: Global, net: &mut Net) -> Result<bool, NoMemory> {
-    Ok(answer(alloc, net, Ask::Propose(8, 1_023))?.as_str() == "ticket 1")
-}
-
-/// Whether a core without topics makes 1,024 and not one more.
-fn makes(alloc: Global, net: &mut Net) -> Result<bool, NoMemory> {
-    answer(alloc, net, Ask::Connect(0))?;
-    Ok(fills(alloc, net)? && is_full(alloc, net)? && is_given(alloc, net)?)
+/// Whether a core without topics makes 1,024 and not one more, and the flight of connection 8 is then given the first number of
+/// the last.
+fn makes(alloc: Global, net: &mut Net) -> bool {
+    answer(alloc, net, Ask::Connect(0)).is_ok()
+        && fills(alloc, net)
+        && is_full(alloc, net)
+        && answers(alloc, net, Ask::Propose(8, 1_023), "ticket 1")
 }
 
 #[test]
 fn the_1025th_topic_is_made_by_none(rt: HostRuntime) -> Result<(), Fail> {
     let mut net = Net::new(rt.alloc(), Topics::new(rt.alloc()), 1)?;
-    assert!(rt; makes(rt.alloc(), &mut net)?);
+    assert!(rt; makes(rt.alloc(), &mut net));
     Ok(())
 }

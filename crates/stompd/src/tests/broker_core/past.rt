@@ -163,16 +163,16 @@ impl Past {
         }
     }
 
-    pub(super) fn opened(&mut self) -> Result<bool, NoMemory> {
-        self.lines.push(Line {
+    pub(super) fn opened(&mut self) -> bool {
+        let line = Line {
             fed: None,
             frames: 0,
             flight: None,
             is_open: true,
             is_connected: false,
             has_disconnected: false,
-        })?;
-        Ok(true)
+        };
+        self.lines.push(line).is_ok()
     }
 
     /// The reply is written to the connection.
@@ -199,14 +199,14 @@ impl Past {
 
     /// Keeps whom a connection speaks for. A CONNECT is done, or refused by 77 where another connection has its client-id;
     /// no other frame is refused so.
-    fn keep_claim(&mut self, ask: Ask, outcome: Outcome) -> Result<bool, NoMemory> {
+    fn keep_claim(&mut self, ask: Ask, outcome: Outcome) -> bool {
         let is_77 = matches!(outcome, Outcome::Faulted { fault, .. } if fault.number() == 77);
         match ask {
             Ask::Next(c) if self.may_connect(c) => match outcome {
-                Outcome::Done => Ok(self.speakers.claim(c)?),
-                _ => Ok(is_77 && self.speakers.is_in_use(c)),
+                Outcome::Done => self.speakers.claim(c),
+                _ => is_77 && self.speakers.is_in_use(c),
             },
-            _ => Ok(!is_77),
+            _ => !is_77,
         }
     }
 
@@ -313,9 +313,9 @@ impl Past {
     }
 
     /// The connection's transaction is undecided: it had none. It is the next of its sender.
-    pub(super) fn began(&mut self, c: u64, id: TxnId) -> Result<bool, NoMemory> {
+    pub(super) fn began(&mut self, c: u64, id: TxnId) -> bool {
         let is_first = self.flight(c).is_none();
-        let is_next = self.speakers.begin(c, id)?;
+        let is_next = self.speakers.begin(c, id);
         let (topics, asks) = match self.fed(c) {
             Some(made) => (made.topics, made.asks),
             None => (b"".as_slice(), false),
@@ -331,7 +331,7 @@ impl Past {
             }),
         );
         self.feed(c, None);
-        Ok(is_first && is_next)
+        is_first && is_next
     }
 
     pub(super) fn proposed(&mut self, c: u64, ticket: Stamp) -> bool {
@@ -344,35 +344,34 @@ impl Past {
     }
 
     /// The connection's transaction is committed: its stamp is the greatest of its tickets.
-    pub(super) fn decided(&mut self, c: u64, stamp: Stamp) -> Result<bool, NoMemory> {
+    pub(super) fn decided(&mut self, c: u64, stamp: Stamp) -> bool {
         let Some(flight) = self.flight(c) else {
-            return Ok(false);
+            return false;
         };
         self.fly(c, None);
-        self.commits.push(flight)?;
-        Ok(flight.stamp == stamp)
+        self.commits.push(flight).is_ok() && flight.stamp == stamp
     }
 
     /// The subscription has the next number.
-    pub(super) fn subscribed(&mut self, c: u64, s: u64, from: Stamp) -> Result<bool, NoMemory> {
+    pub(super) fn subscribed(&mut self, c: u64, s: u64, from: Stamp) -> bool {
         let is_next = s as usize == self.spans.len();
         let Some(made) = self.fed(c) else {
-            return Ok(false);
+            return false;
         };
         let topic = match made.topics {
             [letter] => self.number(*letter),
-            _ => return Ok(false),
+            _ => return false,
         };
-        self.spans.push(Span {
+        let span = Span {
             connection: c,
             id: made.id,
             topic,
             from,
             to: None,
             handed: 0,
-        })?;
+        };
         self.feed(c, None);
-        Ok(is_next)
+        self.spans.push(span).is_ok() && is_next
     }
 
     /// The subscription is closed: it wasn't.
@@ -414,32 +413,27 @@ impl Past {
     }
 
     /// Keeps what the outcome says. Whether it may be after what was said before.
-    pub(super) fn keep(&mut self, ask: Ask, outcome: Outcome) -> Result<bool, NoMemory> {
-        let may_claim = self.keep_claim(ask, outcome)?;
-        self.keep_reply(ask, outcome)?;
+    pub(super) fn keep(&mut self, ask: Ask, outcome: Outcome) -> bool {
         let c = self.connection(ask);
-        if is_accepted(ask, outcome) {
-            self.accepted(c)?;
-        }
-        Ok(self.keep_rest(c, ask, outcome)? && may_claim)
+        self.keep_claim(ask, outcome)
+            && self.keep_reply(ask, outcome).is_ok()
+            && (!is_accepted(ask, outcome) || self.accepted(c).is_ok())
+            && self.keep_rest(c, ask, outcome)
     }
 
     /// Keeps all that it says but for whom a connection speaks for, what it was written, and whether its frame was accepted.
-    fn keep_rest(&mut self, c: u64, ask: Ask, outcome: Outcome) -> Result<bool, NoMemory> {
+    fn keep_rest(&mut self, c: u64, ask: Ask, outcome: Outcome) -> bool {
         match outcome {
             Outcome::Opened(_) => self.opened(),
             Outcome::Flying(id) => self.began(c, id),
             Outcome::Decided { stamp, .. } => self.decided(c, stamp),
             Outcome::Subscribed(s, from) => self.subscribed(c, s, from),
-            Outcome::Unsubscribed(s, to) => Ok(self.unsubscribed(s, to)),
-            Outcome::Withdrawn { .. } => Ok(self.ended(c, true)),
-            Outcome::Faulted { .. } | Outcome::Leaving => Ok(self.ended(c, false)),
-            Outcome::Refused(Refusal::NoFrame) => Ok(self.read(c)),
-            Outcome::Gone { .. } => {
-                self.speakers.leave(c)?;
-                Ok(true)
-            }
-            _ => Ok(self.keep_number(c, ask, outcome)),
+            Outcome::Unsubscribed(s, to) => self.unsubscribed(s, to),
+            Outcome::Withdrawn { .. } => self.ended(c, true),
+            Outcome::Faulted { .. } | Outcome::Leaving => self.ended(c, false),
+            Outcome::Refused(Refusal::NoFrame) => self.read(c),
+            Outcome::Gone { .. } => { self.speakers.leave(c).is_ok() }
+            _ => self.keep_number(c, ask, outcome),
         }
     }
 

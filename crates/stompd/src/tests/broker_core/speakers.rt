@@ -83,7 +83,7 @@ impl Speakers {
     }
 
     /// The connection's CONNECT was accepted: it goes on as the sender of its client-id, or is a new one. Whether it may.
-    pub(super) fn claim(&mut self, c: u64) -> Result<bool, AllocError> {
+    pub(super) fn claim(&mut self, c: u64) -> bool {
         let may_be = !self.is_in_use(c) && self.sender(c).is_none();
         let client = self.client(c);
         let known = self
@@ -94,26 +94,28 @@ impl Speakers {
             Some(claim) => claim.sender,
             None => self.senders(),
         };
-        self.claims.push(Claim {
+        let claim = Claim {
             connection: c,
             client,
             sender,
-        })?;
-        Ok(may_be)
+        };
+        self.claims.push(claim).is_ok() && may_be
     }
 
     /// A transaction of the connection has begun: its sender is the connection's, and its number the next of that sender.
-    pub(super) fn begin(&mut self, c: u64, id: TxnId) -> Result<bool, AllocError> {
+    pub(super) fn begin(&mut self, c: u64, id: TxnId) -> bool {
         let Some(sender) = self.sender(c) else {
-            return Ok(false);
+            return false;
         };
         let before = self.begun.iter().filter(|begun| begun.sender == sender);
         let number = before.count() as u64;
-        self.begun.push(Begun {
+        let begun = Begun {
             connection: c,
             sender,
-        })?;
-        Ok(id.sender.0 == sender && id.seq == number.saturating_add(1))
+        };
+        self.begun.push(begun).is_ok()
+            && id.sender.0 == sender
+            && id.seq == number.saturating_add(1)
     }
 
     /// The connection is gone.

@@ -48,60 +48,58 @@ fn connected(alloc: Global) -> Result<Net, NoMemory> {
 }
 
 /// Whether each of the numbers subscribes, as the subscription of that number.
-fn all_subscribe(alloc: Global, net: &mut Net) -> Result<bool, NoMemory> {
+fn all_subscribe(alloc: Global, net: &mut Net) -> bool {
     for number in 0..MOST {
-        if subscribe(alloc, net, number)? != Outcome::Subscribed(number as u64, Stamp::ZERO) {
-            return Ok(false);
+        if subscribe(alloc, net, number) != Ok(Outcome::Subscribed(number as u64, Stamp::ZERO)) {
+            return false;
         }
     }
-    Ok(true)
+    true
 }
 
 /// Whether a Leave closes each of them, the oldest first, and then the connection is gone.
-fn all_leave(net: &mut Net) -> Result<bool, NoMemory> {
+fn all_leave(net: &mut Net) -> bool {
     for number in 0..MOST {
-        if step(net, Event::Leave(0))? != Outcome::Unsubscribed(number as u64, Stamp::ZERO) {
-            return Ok(false);
+        if step(net, Event::Leave(0)) != Ok(Outcome::Unsubscribed(number as u64, Stamp::ZERO)) {
+            return false;
         }
     }
-    Ok(step(net, Event::Leave(0))? == Outcome::Gone { cut: false })
+    step(net, Event::Leave(0)) == Ok(Outcome::Gone { cut: false })
 }
 
 /// Whether the connection ended by the fault of this number.
-fn is_fault(outcome: Outcome, number: u32) -> bool {
-    matches!(outcome, Outcome::Faulted { fault, cut: false } if fault.number() == number)
+fn is_fault(outcome: Result<Outcome, NoMemory>, number: u32) -> bool {
+    matches!(outcome, Ok(Outcome::Faulted { fault, cut: false }) if fault.number() == number)
 }
 
 /// Whether one more is refused by 69, and the connection reads nothing then.
-fn is_refused(alloc: Global, net: &mut Net) -> Result<bool, NoMemory> {
-    Ok(
-        is_fault(subscribe(alloc, net, MOST)?, 69)
-            && step(net, Event::Next(0))? == Outcome::Refused(Refusal::Busy)
-            && net.report().subscriptions_len() == 64,
-    )
+fn is_refused(alloc: Global, net: &mut Net) -> bool {
+    is_fault(subscribe(alloc, net, MOST), 69)
+        && step(net, Event::Next(0)) == Ok(Outcome::Refused(Refusal::Busy))
+        && net.report().subscriptions_len() == 64
 }
 
 /// Whether the connection has 64 subscriptions and not one more, which are closed then.
-fn has_64(alloc: Global, net: &mut Net) -> Result<bool, NoMemory> {
-    Ok(all_subscribe(alloc, net)? && is_refused(alloc, net)? && all_leave(net)?)
+fn has_64(alloc: Global, net: &mut Net) -> bool {
+    all_subscribe(alloc, net) && is_refused(alloc, net) && all_leave(net)
 }
 
 #[test]
 fn a_65th_subscription_is_one_too_many(rt: HostRuntime) -> Result<(), Fail> {
     let mut net = connected(rt.alloc())?;
-    assert!(rt; has_64(rt.alloc(), &mut net)?);
+    assert!(rt; has_64(rt.alloc(), &mut net));
     Ok(())
 }
 
 /// Whether a SEND to the topic is committed and released.
-fn is_sent(alloc: Global, net: &mut Net) -> Result<bool, NoMemory> {
-    next(
-        net,
-        Octets::from_slice(alloc, b"SEND\ndestination:A\n\nm\0")?,
-    )?;
-    step(net, Event::Propose(0, Topic(0)))?;
-    step(net, Event::Decide(0))?;
-    Ok(step(net, Event::Turn(Topic(0)))? == Outcome::Turned(1))
+fn is_sent(alloc: Global, net: &mut Net) -> bool {
+    let Ok(octets) = Octets::from_slice(alloc, b"SEND\ndestination:A\n\nm\0") else {
+        return false;
+    };
+    next(net, octets).is_ok()
+        && step(net, Event::Propose(0, Topic(0))).is_ok()
+        && step(net, Event::Decide(0)).is_ok()
+        && step(net, Event::Turn(Topic(0))) == Ok(Outcome::Turned(1))
 }
 
 /// Whether the queue of this subscription accepted so many items.
@@ -112,12 +110,10 @@ fn has_accepted(net: &Net, s: usize, items: usize) -> bool {
 }
 
 /// Whether the id of number 37 is that of subscription 37, which ends; then that of subscription 64, which ends, too.
-fn ends_twice(alloc: Global, net: &mut Net) -> Result<bool, NoMemory> {
-    Ok(
-        unsubscribe(alloc, net, 37)? == Outcome::Unsubscribed(37, Stamp::ZERO)
-            && subscribe(alloc, net, 37)? == Outcome::Subscribed(64, Stamp::ZERO)
-            && unsubscribe(alloc, net, 37)? == Outcome::Unsubscribed(64, Stamp::ZERO),
-    )
+fn ends_twice(alloc: Global, net: &mut Net) -> bool {
+    unsubscribe(alloc, net, 37) == Ok(Outcome::Unsubscribed(37, Stamp::ZERO))
+        && subscribe(alloc, net, 37) == Ok(Outcome::Subscribed(64, Stamp::ZERO))
+        && unsubscribe(alloc, net, 37) == Ok(Outcome::Unsubscribed(64, Stamp::ZERO))
 }
 
 /// The first subscription of 0 to 64 that accepted other than one item, or none where it is 37 or 64.
@@ -126,19 +122,17 @@ fn wrong_queue(net: &Net) -> Option<usize> {
 }
 
 /// Whether an UNSUBSCRIBE of id 37 ends its subscription alone, and one that finds none is refused by 64.
-fn ends_alone(alloc: Global, net: &mut Net) -> Result<bool, NoMemory> {
-    Ok(
-        all_subscribe(alloc, net)?
-            && ends_twice(alloc, net)?
-            && is_sent(alloc, net)?
-            && wrong_queue(net).is_none()
-            && is_fault(unsubscribe(alloc, net, 37)?, 64),
-    )
+fn ends_alone(alloc: Global, net: &mut Net) -> bool {
+    all_subscribe(alloc, net)
+        && ends_twice(alloc, net)
+        && is_sent(alloc, net)
+        && wrong_queue(net).is_none()
+        && is_fault(unsubscribe(alloc, net, 37), 64)
 }
 
 #[test]
 fn an_unsubscribe_among_64(rt: HostRuntime) -> Result<(), Fail> {
     let mut net = connected(rt.alloc())?;
-    assert!(rt; ends_alone(rt.alloc(), &mut net)?);
+    assert!(rt; ends_alone(rt.alloc(), &mut net));
     Ok(())
 }

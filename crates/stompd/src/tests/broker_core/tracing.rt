@@ -103,46 +103,53 @@ fn has_text(alloc: Global, trace: &Trace, text: &[u8]) -> Result<bool, NoMemory>
 }
 
 /// Whether the text of the audit's answer is this.
-fn is_answered(alloc: Global, trace: &Trace, text: &[u8]) -> Result<bool, NoMemory> {
+fn is_answered(alloc: Global, trace: &Trace, text: &[u8]) -> bool {
     let printed = match audit(alloc, trace) {
-        Ok(agreed) => agreed.print(alloc)?,
-        Err(fault) => fault.print(alloc)?,
+        Ok(agreed) => agreed.print(alloc),
+        Err(fault) => fault.print(alloc),
     };
-    Ok(printed.as_slice() == text)
+    match printed {
+        Ok(printed) => printed.as_slice() == text,
+        Err(_) => false,
+    }
 }
 
 /// How many runs have a trace.
 const TRACED_LEN: usize = 12;
 
 /// Whether the trace has this text, and the audit of it this answer.
-fn has_both(alloc: Global, trace: &Trace, text: &[u8], answer: &[u8]) -> Result<bool, NoMemory> {
-    Ok(has_text(alloc, trace, text)? && is_answered(alloc, trace, answer)?)
+fn has_both(alloc: Global, trace: &Trace, text: &[u8], answer: &[u8]) -> bool {
+    has_text(alloc, trace, text) == Ok(true) && is_answered(alloc, trace, answer)
 }
 
 /// Whether the core's trace has this text, and the audit of it this answer.
-fn has_trace(alloc: Global, net: &Net, text: &[u8], answer: &[u8]) -> Result<bool, NoMemory> {
-    has_both(alloc, &net.trace()?, text, answer)
+fn has_trace(alloc: Global, net: &Net, text: &[u8], answer: &[u8]) -> bool {
+    match net.trace() {
+        Ok(trace) => has_both(alloc, &trace, text, answer),
+        Err(NoMemory) => false,
+    }
 }
 
 /// Whether the run's trace has its text, and the audit of it the answer.
-fn is_traced(alloc: Global, traced: &Traced) -> Result<bool, NoMemory> {
-    let net = stepped(alloc, traced.run)?;
+fn is_traced(alloc: Global, traced: &Traced) -> bool {
+    let Ok(net) = stepped(alloc, traced.run) else {
+        return false;
+    };
     has_trace(alloc, &net, traced.trace, traced.answer)
 }
 
 #[test]
-fn each_run_has_its_trace(rt: HostRuntime) -> Result<(), Fail> {
+fn each_run_has_its_trace(rt: HostRuntime) {
     for i in 0..TRACED_LEN {
         let traced = &traced_at(i).expect(&rt, "a run");
-        assert!(rt; is_traced(rt.alloc(), traced)?, "in {}", traced.run.shows);
+        assert!(rt; is_traced(rt.alloc(), traced), "in {}", traced.run.shows);
     }
-    Ok(())
 }
 
 /// The core after all events of the run, each with memory: made again where one found none.
 fn whole(alloc: Global, run: &Run) -> Result<Net, NoMemory> {
     if let Ok(net) = stepped(alloc, run) {
-        if is_told(alloc, &net.report(), run.report)? {
+        if is_told(alloc, &net.report(), run.report) {
             return Ok(net);
         }
     }
@@ -154,7 +161,7 @@ fn trace_at_last(alloc: Global, net: &Net, report: &str) -> Result<Option<Trace>
     match net.trace() {
         Ok(trace) => Ok(Some(trace)),
         Err(NoMemory) => {
-            if !is_told(alloc, &net.report(), report)? {
+            if !is_told(alloc, &net.report(), report) {
                 return Ok(None);
             }
             Ok(Some(net.trace()?))
@@ -196,6 +203,6 @@ fn each_trace_without_memory(rt: HostRuntime) -> Result<(), Fail> {
 #[test]
 fn a_net_without_events_has_an_empty_trace(rt: HostRuntime) -> Result<(), Fail> {
     let net = Net::new(rt.alloc(), Topics::new(rt.alloc()), 1)?;
-    assert!(rt; has_trace(rt.alloc(), &net, b"", b"complete\n")?);
+    assert!(rt; has_trace(rt.alloc(), &net, b"", b"complete\n"));
     Ok(())
 }

@@ -26,7 +26,9 @@ fn fed(alloc: Global, net: &mut Net, octets: &'static [u8]) -> Result<u64, NoMem
     if step(alloc, net, Open)? == Outcome::NoMemory {
         step(alloc, net, Open)?;
     }
-    prepared(alloc, net, Frame(c, octets))?;
+    if !prepared(alloc, net, Frame(c, octets)) {
+        return Err(NoMemory);
+    }
     Ok(c)
 }
 
@@ -59,17 +61,11 @@ fn fed_and_read(
 
 /// Whether there is nothing of what a connection asked for whose frame found no memory: as many topics as these, and no
 /// subscription. It is gone then, where a frame was done before, which is its CONNECT.
-fn is_in_vain(
-    alloc: Global,
-    net: &mut Net,
-    c: u64,
-    done: u8,
-    topics: usize,
-) -> Result<bool, NoMemory> {
+fn is_in_vain(alloc: Global, net: &mut Net, c: u64, done: u8, topics: usize) -> bool {
     if net.report().topics_len() != topics || net.report().subscriptions_len() != 0 {
-        return Ok(false);
+        return false;
     }
-    Ok(done == 0 || goes(alloc, net, c)?)
+    done == 0 || goes(alloc, net, c)
 }
 
 /// What comes of the last of these frames of a connection, or, where one finds no memory, of those of the next. There has to
@@ -81,7 +77,7 @@ fn used(alloc: Global, net: &mut Net, octets: &'static [u8]) -> Result<Option<Ou
     if !is_72(outcome) {
         return Ok(Some(outcome));
     }
-    if !is_in_vain(alloc, net, c, done, topics)? {
+    if !is_in_vain(alloc, net, c, done, topics) {
         return Ok(None);
     }
     let (_c, _done, next) = fed_and_read(alloc, net, octets)?;
@@ -105,30 +101,26 @@ const USES: &[(&[u8], &str)] = &[
 ];
 
 /// Whether that comes of it, and N is there then, behind A and B.
-fn makes(
-    alloc: Global,
-    net: &mut Net,
-    octets: &'static [u8],
-    want: &str,
-) -> Result<bool, NoMemory> {
-    let Some(outcome) = used(alloc, net, octets)? else {
-        return Ok(false);
+fn makes(alloc: Global, net: &mut Net, octets: &'static [u8], want: &str) -> bool {
+    let Ok(Some(outcome)) = used(alloc, net, octets) else {
+        return false;
     };
-    Ok(has_text(alloc, outcome, want)? && net.report().topics_len() == 3)
+    has_text(alloc, outcome, want) && net.report().topics_len() == 3
 }
 
 /// The same at a core of A and B.
-fn is_made(alloc: Global, octets: &'static [u8], want: &str) -> Result<bool, NoMemory> {
-    let mut net = new_net(alloc, TWO_TOPICS)?;
+fn is_made(alloc: Global, octets: &'static [u8], want: &str) -> bool {
+    let Ok(mut net) = new_net(alloc, TWO_TOPICS) else {
+        return false;
+    };
     makes(alloc, &mut net, octets, want)
 }
 
 #[test]
-fn first_uses(rt: HostRuntime) -> Result<(), Fail> {
+fn first_uses(rt: HostRuntime) {
     for &(octets, want) in USES {
-        assert!(rt; is_made(rt.alloc(), octets, want)?, "{want}");
+        assert!(rt; is_made(rt.alloc(), octets, want), "{want}");
     }
-    Ok(())
 }
 
 /// A CONNECT with the client-id `p`, and a SEND to A, or to B.
@@ -154,19 +146,15 @@ fn commits(alloc: Global, net: &mut Net) -> Result<bool, NoMemory> {
 
 /// Whether the next connection with its client-id goes on with its number and its floor; or the one behind that, where a
 /// frame finds no memory.
-fn goes_on(alloc: Global, net: &mut Net) -> Result<bool, NoMemory> {
-    let Some(outcome) = used(alloc, net, SENDS_B)? else {
-        return Ok(false);
+fn goes_on(alloc: Global, net: &mut Net) -> bool {
+    let Ok(Some(outcome)) = used(alloc, net, SENDS_B) else {
+        return false;
     };
     let c = net.report().connections_len().saturating_sub(1) as u64;
-    let proposed = step(alloc, net, Propose(c, 1))?;
-    Ok(
-        has_text(alloc, outcome, "flight 0 2")?
-            && matches!(
-                proposed,
-                Outcome::Proposed(11) | Outcome::Failed(ProposeFault::NoMemory)
-            ),
-    )
+    let proposed = step(alloc, net, Propose(c, 1));
+    has_text(alloc, outcome, "flight 0 2")
+        && (proposed == Ok(Outcome::Proposed(11))
+            || proposed == Ok(Outcome::Failed(ProposeFault::NoMemory)))
 }
 
 /// Whether it does, where the first connection finds memory.
@@ -174,7 +162,7 @@ fn commits_and_goes_on(alloc: Global, net: &mut Net) -> Result<Option<bool>, NoM
     if !commits(alloc, net)? {
         return Ok(None);
     }
-    Ok(Some(goes_on(alloc, net)?))
+    Ok(Some(goes_on(alloc, net)))
 }
 
 /// The same at a core of A and B.
@@ -194,19 +182,25 @@ fn a_kept_sender(rt: HostRuntime) -> Result<(), Fail> {
 }
 
 /// Whether a connection's claim of a client-id in use is refused, and for want of memory if not by 77.
-fn is_claim_refused(alloc: Global, net: &mut Net) -> Result<bool, NoMemory> {
-    let c = fed(alloc, net, CONNECT_P)?;
-    let refused = step(alloc, net, Next(c))?;
+fn is_claim_refused(alloc: Global, net: &mut Net) -> bool {
+    let Ok(c) = fed(alloc, net, CONNECT_P) else {
+        return false;
+    };
+    let Ok(refused) = step(alloc, net, Next(c)) else {
+        return false;
+    };
     let is_77 = matches!(refused, Outcome::Faulted { fault, .. } if fault.number() == 77);
-    Ok(is_77 || is_72(refused))
+    is_77 || is_72(refused)
 }
 
 /// Whether the client-id's sender is claimed once this connection is gone.
-fn is_free(alloc: Global, net: &mut Net, first: u64) -> Result<bool, NoMemory> {
-    left(alloc, net, first)?;
-    match used(alloc, net, SENDS_B)? {
-        Some(outcome) => has_text(alloc, outcome, "flight 0 1"),
-        None => Ok(false),
+fn is_free(alloc: Global, net: &mut Net, first: u64) -> bool {
+    if left(alloc, net, first).is_err() {
+        return false;
+    }
+    match used(alloc, net, SENDS_B) {
+        Ok(Some(outcome)) => has_text(alloc, outcome, "flight 0 1"),
+        _ => false,
     }
 }
 
@@ -217,8 +211,8 @@ fn refuses(alloc: Global, net: &mut Net) -> Result<Option<bool>, NoMemory> {
     if step(alloc, net, Next(first))? != Outcome::Done {
         return Ok(None);
     }
-    let is_refused = is_claim_refused(alloc, net)?;
-    Ok(Some(is_free(alloc, net, first)? && is_refused))
+    let is_refused = is_claim_refused(alloc, net);
+    Ok(Some(is_free(alloc, net, first) && is_refused))
 }
 
 /// The same at a core of A and B.
