@@ -33,14 +33,22 @@ fn push_turn(events: &mut EventList, topic: u32) -> bool {
 
 const TURNED: &[u32] = &[3, 1, 4, 1, 5, 9, 2, 6, 5];
 
+/// Whether the list has no events at first, and then a Turn of each of these topics, in their order.
+fn keeps_order(events: &mut EventList) -> bool {
+    if !events.is_empty() {
+        return false;
+    }
+    for &topic in TURNED {
+        if !push_turn(events, topic) {
+            return false;
+        }
+    }
+    !events.is_empty() && are_turns(events, TURNED)
+}
+
 /// It holds whichever one allocation fails (`rt try --test --fail-alloc N`).
 #[test]
 fn events_stay_in_their_order(rt: HostRuntime) {
     let mut events = EventList::new(rt.alloc());
-    assert!(rt; events.is_empty());
-    for &topic in TURNED {
-        assert!(rt; push_turn(&mut events, topic));
-    }
-    assert!(rt; !events.is_empty());
-    assert!(rt; are_turns(&events, TURNED));
+    assert!(rt; keeps_order(&mut events));
 }

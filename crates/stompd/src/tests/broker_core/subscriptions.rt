@@ -39,12 +39,17 @@ fn unsubscribe(alloc: Global, net: &mut Net, number: u8) -> Result<Outcome, NoMe
     told(alloc, net, b"UNSUBSCRIBE\nid:", number)
 }
 
-/// A core of one topic, with one connection.
-fn connected(alloc: Global) -> Result<Net, NoMemory> {
-    let mut net = Net::new(alloc, topics(alloc, &[(b"A".as_slice(), 0)])?, 4)?;
-    step(&mut net, Event::Open)?;
-    next(&mut net, Octets::from_slice(alloc, CONNECT)?)?;
-    Ok(net)
+/// A core of one topic.
+fn new_net(alloc: Global) -> Result<Net, NoMemory> {
+    Net::new(alloc, topics(alloc, &[(b"A".as_slice(), 0)])?, 4)
+}
+
+/// Whether there is memory for a connection that connects.
+fn connects(alloc: Global, net: &mut Net) -> bool {
+    match Octets::from_slice(alloc, CONNECT) {
+        Ok(octets) => step(net, Event::Open).is_ok() && next(net, octets).is_ok(),
+        Err(_) => false,
+    }
 }
 
 /// Whether each of the numbers subscribes, as the subscription of that number.
@@ -79,14 +84,14 @@ fn is_refused(alloc: Global, net: &mut Net) -> bool {
         && net.report().subscriptions_len() == 64
 }
 
-/// Whether the connection has 64 subscriptions and not one more, which are closed then.
+/// Whether a connection has 64 subscriptions and not one more, which are closed then.
 fn has_64(alloc: Global, net: &mut Net) -> bool {
-    all_subscribe(alloc, net) && is_refused(alloc, net) && all_leave(net)
+    connects(alloc, net) && all_subscribe(alloc, net) && is_refused(alloc, net) && all_leave(net)
 }
 
 #[test]
 fn a_65th_subscription_is_one_too_many(rt: HostRuntime) -> Result<(), Fail> {
-    let mut net = connected(rt.alloc())?;
+    let mut net = new_net(rt.alloc())?;
     assert!(rt; has_64(rt.alloc(), &mut net));
     Ok(())
 }
@@ -123,7 +128,8 @@ fn wrong_queue(net: &Net) -> Option<usize> {
 
 /// Whether an UNSUBSCRIBE of id 37 ends its subscription alone, and one that finds none is refused by 64.
 fn ends_alone(alloc: Global, net: &mut Net) -> bool {
-    all_subscribe(alloc, net)
+    connects(alloc, net)
+        && all_subscribe(alloc, net)
         && ends_twice(alloc, net)
         && is_sent(alloc, net)
         && wrong_queue(net).is_none()
@@ -132,7 +138,7 @@ fn ends_alone(alloc: Global, net: &mut Net) -> bool {
 
 #[test]
 fn an_unsubscribe_among_64(rt: HostRuntime) -> Result<(), Fail> {
-    let mut net = connected(rt.alloc())?;
+    let mut net = new_net(rt.alloc())?;
     assert!(rt; ends_alone(rt.alloc(), &mut net));
     Ok(())
 }
