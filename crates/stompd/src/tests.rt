@@ -1,8 +1,4 @@
-//! Tests of the layers above the topics, by their public calls alone.
+//! Tests of the server, over sockets.
 
-mod broker_core;
-mod conversation;
 mod draws;
-mod locks;
-mod programs;
 mod serving;

@@ -1,4 +1,4 @@
-//! What made runs are drawn by.
+//! What a run is drawn by.
 
 ghost use Rattle.std.specs.Prelude.{◌<◌};
 
@@ -25,14 +25,5 @@ impl Draws {
             .wrapping_mul(1_664_525)
             .wrapping_add(1_013_904_223);
         (self.state >> 16) % n
-    }
-
-    /// A topic: seldom the last.
-    pub(crate) fn topic(&mut self) -> u32 {
-        match self.below(8) {
-            0..=3 => 0,
-            4..=6 => 1,
-            _ => 2,
-        }
     }
 }

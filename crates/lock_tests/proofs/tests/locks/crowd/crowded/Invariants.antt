@@ -1,0 +1,15 @@
+use Rattle.lock_tests.proofs.tests.locks.crowd.crowded.Given as goal
+
+-- the workers' ledger is that of the first blank
+abbrev pub ghosts-crowded_by-W-Ledger : goal.ghosts-crowded_by-W-Ledger
+ghosts-crowded_by-W-Ledger g a = record { name = a.workers.name; parts = a.workers.parts }
+
+-- the topics' ledger is that of the second
+abbrev pub ghosts-crowded_by-T-Ledger : goal.ghosts-crowded_by-T-Ledger
+ghosts-crowded_by-T-Ledger g a = record { name = a.tickets.name; parts = a.tickets.parts }
+
+abbrev pub ghosts-crowded_by-W-Side : goal.ghosts-crowded_by-W-Side
+ghosts-crowded_by-W-Side g a = record { all = a.workers.parts }
+
+abbrev pub ghosts-crowded_by-T-Side : goal.ghosts-crowded_by-T-Side
+ghosts-crowded_by-T-Side g a = record { all = a.tickets.parts }

@@ -1,0 +1,4 @@
+//! Tests of `broker_locks`, and of the conversations of `broker_server`.
+
+mod conversation;
+mod locks;

@@ -1,6 +1,0 @@
-use Rattle.std.proofs.Common.{[], sym, append-nil}
-use Rattle.stompd.proofs.tests.locks.lost.CallsBrokerCalls.step.Goals as goal
-
-pub returns-in-Err-clause-refused : goal.returns-in-Err-clause-refused
-returns-in-Err-clause-refused g c =
-    let names = c.args.names.now in (names, ([], sym (append-nil names)), c.in-Err.ensures.refused)
