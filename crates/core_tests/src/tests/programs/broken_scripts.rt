@@ -130,8 +130,11 @@ fn piece_at(script: &Parsed, index: usize) -> Option<Piece<'_>> {
 }
 
 /// Whether the audit of the core's trace is a yes.
-fn is_yes(alloc: Global, net: &Net) -> Result<bool, NoMemory> {
-    Ok(audit(alloc, &net.trace()?).is_ok())
+fn is_yes(alloc: Global, net: &Net) -> bool {
+    match net.trace() {
+        Ok(trace) => audit(alloc, &trace).is_ok(),
+        Err(NoMemory) => false,
+    }
 }
 
 // ---- pieces that are cut
@@ -151,17 +154,19 @@ fn read(alloc: Global, net: &mut Net, c: u64) -> Result<Vec<Outcome>, NoMemory> 
 
 /// Whether the connection is lost, and then gone; or not, since its transaction isn't decided, or its tickets aren't
 /// cancelled.
-fn is_lost(net: &mut Net, c: u64) -> Result<bool, NoMemory> {
-    step(net, Event::Lost(c))?;
+fn is_lost(net: &mut Net, c: u64) -> bool {
+    if step(net, Event::Lost(c)).is_err() {
+        return false;
+    }
     for _ in 0..MOST {
-        match step(net, Event::Leave(c))? {
-            Outcome::Unsubscribed(_, _) => {}
-            Outcome::Gone { cut: false } => return Ok(true),
-            Outcome::Refused(why) => return Ok(why == Refusal::Busy || why == Refusal::Gone),
-            _ => return Ok(false),
+        match step(net, Event::Leave(c)) {
+            Ok(Outcome::Unsubscribed(_, _)) => {}
+            Ok(Outcome::Gone { cut: false }) => return true,
+            Ok(Outcome::Refused(why)) => return why == Refusal::Busy || why == Refusal::Gone,
+            _ => return false,
         }
     }
-    Ok(false)
+    false
 }
 
 /// What comes of the frames of these octets, which the connection is fed.
@@ -172,8 +177,8 @@ fn fed(alloc: Global, net: &mut Net, c: u64, octets: &[u8]) -> Result<Vec<Outcom
 }
 
 /// Whether the connection is lost, just so many rows were committed, and the audit of the trace is a yes.
-fn ends_well(alloc: Global, net: &mut Net, c: u64, commits: usize) -> Result<bool, NoMemory> {
-    Ok(is_lost(net, c)? && net.report().commits_len() == commits && is_yes(alloc, net)?)
+fn ends_well(alloc: Global, net: &mut Net, c: u64, commits: usize) -> bool {
+    is_lost(net, c) && net.report().commits_len() == commits && is_yes(alloc, net)
 }
 
 /// What comes of the frames of these octets, where the connection is lost behind them; `None` where it isn't gone then, a row
@@ -186,7 +191,7 @@ fn fed_last(
 ) -> Result<Option<Vec<Outcome>>, NoMemory> {
     let commits = net.report().commits_len();
     let outcomes = fed(alloc, net, c, octets)?;
-    let is_right = ends_well(alloc, net, c, commits)?;
+    let is_right = ends_well(alloc, net, c, commits);
     Ok(if is_right { Some(outcomes) } else { None })
 }
 
@@ -205,39 +210,28 @@ fn cut(
 }
 
 /// Whether the frames of the front before this octet come to the first of these outcomes.
-fn begins(
-    alloc: Global,
-    script: &Parsed,
-    piece: Piece<'_>,
-    at: usize,
-    whole: &[Outcome],
-) -> Result<bool, NoMemory> {
-    match cut(alloc, script, piece, at)? {
-        Some(front) => Ok(whole.starts_with(front.as_slice())),
-        None => Ok(false),
+fn begins(alloc: Global, script: &Parsed, piece: Piece<'_>, at: usize, whole: &[Outcome]) -> bool {
+    match cut(alloc, script, piece, at) {
+        Ok(Some(front)) => whole.starts_with(front.as_slice()),
+        _ => false,
     }
 }
 
 /// Whether it is so with each front of the piece.
-fn all_begin(
-    alloc: Global,
-    script: &Parsed,
-    piece: Piece<'_>,
-    whole: &[Outcome],
-) -> Result<bool, NoMemory> {
+fn all_begin(alloc: Global, script: &Parsed, piece: Piece<'_>, whole: &[Outcome]) -> bool {
     for at in 0..piece.octets.len() {
-        if !begins(alloc, script, piece, at, whole)? {
-            return Ok(false);
+        if !begins(alloc, script, piece, at, whole) {
+            return false;
         }
     }
-    Ok(true)
+    true
 }
 
 /// Whether the frames of each front of the piece come to what the first frames of all of it do: a cut makes no fault.
-fn may_be_cut(alloc: Global, script: &Parsed, piece: Piece<'_>) -> Result<bool, NoMemory> {
-    match cut(alloc, script, piece, piece.octets.len())? {
-        Some(whole) => all_begin(alloc, script, piece, whole.as_slice()),
-        None => Ok(false),
+fn may_be_cut(alloc: Global, script: &Parsed, piece: Piece<'_>) -> bool {
+    match cut(alloc, script, piece, piece.octets.len()) {
+        Ok(Some(whole)) => all_begin(alloc, script, piece, whole.as_slice()),
+        _ => false,
     }
 }
 
@@ -267,49 +261,46 @@ fn audits_behind(
     script: &Parsed,
     piece: Piece<'_>,
     octets: Octets,
-) -> Result<bool, NoMemory> {
-    step(net, Event::Piece(piece.c, octets))?;
+) -> bool {
+    if step(net, Event::Piece(piece.c, octets)).is_err() {
+        return false;
+    }
     let behind = piece.index.saturating_add(1);
-    take(alloc, net, &script.events, behind, script.events.len())?;
+    if take(alloc, net, &script.events, behind, script.events.len()).is_err() {
+        return false;
+    }
     is_yes(alloc, net)
 }
 
 /// The same behind a piece of which one octet is this.
-fn audits_to_yes(
-    alloc: Global,
-    script: &Parsed,
-    piece: Piece<'_>,
-    at: usize,
-    octet: u8,
-) -> Result<bool, NoMemory> {
-    let octets = changed(alloc, piece.octets, at, octet)?;
-    let mut net = before(alloc, script, piece.index)?;
+fn audits_to_yes(alloc: Global, script: &Parsed, piece: Piece<'_>, at: usize, octet: u8) -> bool {
+    let Ok(octets) = changed(alloc, piece.octets, at, octet) else {
+        return false;
+    };
+    let Ok(mut net) = before(alloc, script, piece.index) else {
+        return false;
+    };
     audits_behind(alloc, &mut net, script, piece, octets)
 }
 
 /// Whether it is so with each of OCTETS at this place.
-fn audits_with_each(
-    alloc: Global,
-    script: &Parsed,
-    piece: Piece<'_>,
-    at: usize,
-) -> Result<bool, NoMemory> {
+fn audits_with_each(alloc: Global, script: &Parsed, piece: Piece<'_>, at: usize) -> bool {
     for octet in OCTETS {
-        if !audits_to_yes(alloc, script, piece, at, octet)? {
-            return Ok(false);
+        if !audits_to_yes(alloc, script, piece, at, octet) {
+            return false;
         }
     }
-    Ok(true)
+    true
 }
 
 /// Whether it is so at each place of the piece.
-fn may_be_changed(alloc: Global, script: &Parsed, piece: Piece<'_>) -> Result<bool, NoMemory> {
+fn may_be_changed(alloc: Global, script: &Parsed, piece: Piece<'_>) -> bool {
     for at in 0..piece.octets.len() {
-        if !audits_with_each(alloc, script, piece, at)? {
-            return Ok(false);
+        if !audits_with_each(alloc, script, piece, at) {
+            return false;
         }
     }
-    Ok(true)
+    true
 }
 
 // ---- all pieces
@@ -332,8 +323,8 @@ fn holds_at(
         return Ok((true, 0));
     };
     let may_be = match done {
-        Done::Cut => may_be_cut(alloc, script, piece)?,
-        Done::Changed => may_be_changed(alloc, script, piece)?,
+        Done::Cut => may_be_cut(alloc, script, piece),
+        Done::Changed => may_be_changed(alloc, script, piece),
     };
     Ok((may_be, piece.octets.len()))
 }
@@ -361,29 +352,18 @@ fn held(alloc: Global, done: Done, text: &[u8]) -> Result<Option<usize>, NoMemor
 
 /// Whether it may be done to each piece of the scripts of these that stand from one index to before another. These pieces
 /// have more than 100 octets.
-fn is_held(
-    alloc: Global,
-    done: Done,
-    rows: &[&Row],
-    from: usize,
-    to: usize,
-) -> Result<bool, NoMemory> {
+fn holds(alloc: Global, done: Done, rows: &[&Row], from: usize, to: usize) -> bool {
     let mut octets = 0usize;
     for (i, row) in rows.iter().enumerate() {
         if i < from || i >= to {
             continue;
         }
-        let Some(len) = held(alloc, done, row.script)? else {
-            return Ok(false);
+        let Ok(Some(len)) = held(alloc, done, row.script) else {
+            return false;
         };
         octets = octets.saturating_add(len);
     }
-    Ok(octets > 100)
-}
-
-/// The same, where there is memory for it.
-fn holds(alloc: Global, done: Done, rows: &[&Row], from: usize, to: usize) -> bool {
-    is_held(alloc, done, rows, from, to) == Ok(true)
+    octets > 100
 }
 
 #[test]

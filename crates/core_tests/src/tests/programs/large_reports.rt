@@ -2,7 +2,7 @@
 
 use super::peers::Source;
 use super::print::reports::outcomes_of;
-use broker_server::{Counting, ProgramFault, Script, print_report, run_script};
+use broker_server::{Counting, Script, print_report, run_script};
 use delivery::Net;
 use std::alloc::{AllocError, Global};
 use std::io;
@@ -101,13 +101,17 @@ fn goes_out(alloc: Global, script: &[u8], output: &[u8]) -> bool {
 }
 
 /// Whether the output is as it is when it is put together whole, and no write has more than `MOST` octets.
-fn goes_out_in_pieces(alloc: Global) -> Result<bool, ProgramFault> {
-    let script = script(alloc)?;
-    let output = output(alloc, script.as_slice())?;
-    Ok(goes_out(alloc, script.as_slice(), output.as_slice()))
+fn goes_out_in_pieces(alloc: Global) -> bool {
+    let Ok(script) = script(alloc) else {
+        return false;
+    };
+    let Ok(output) = output(alloc, script.as_slice()) else {
+        return false;
+    };
+    goes_out(alloc, script.as_slice(), output.as_slice())
 }
 
 #[test]
 fn a_large_report(rt: HostRuntime) {
-    assert!(rt; goes_out_in_pieces(rt.alloc()) == Ok(true));
+    assert!(rt; goes_out_in_pieces(rt.alloc()));
 }

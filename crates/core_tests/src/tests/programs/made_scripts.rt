@@ -240,25 +240,35 @@ fn told_of(alloc: Global, net: &Net) -> Result<Octets, NoMemory> {
     Ok(told)
 }
 
+/// The text of its trace.
+fn trace_of(alloc: Global, net: &Net) -> Result<Octets, ProgramFault> {
+    Ok(net.trace()?.print(alloc)?)
+}
+
+/// Whether the audit of this trace is a yes.
+fn is_complete(alloc: Global, trace: &[u8]) -> bool {
+    match written(alloc, Asked::Audit, trace) {
+        Ok(answer) => answer.ends_with(b"complete\n"),
+        Err(_) => false,
+    }
+}
+
 /// Whether the script gives this, and this trace, of which the audit is a yes.
-fn gives_these(
-    alloc: Global,
-    script: &[u8],
-    told: &[u8],
-    trace: &[u8],
-) -> Result<bool, ProgramFault> {
-    Ok(
-        writes(alloc, Asked::Script, script, told, 0)?
-            && writes(alloc, Asked::Trace, script, trace, 0)?
-            && written(alloc, Asked::Audit, trace)?.ends_with(b"complete\n"),
-    )
+fn gives_these(alloc: Global, script: &[u8], told: &[u8], trace: &[u8]) -> bool {
+    writes(alloc, Asked::Script, script, told, 0) == Ok(true)
+        && writes(alloc, Asked::Trace, script, trace, 0) == Ok(true)
+        && is_complete(alloc, trace)
 }
 
 /// Whether the script gives what was told of the core: its outcomes and its report, and its trace, of which the audit is a
 /// yes.
-fn gives(alloc: Global, script: &[u8], net: &Net) -> Result<bool, ProgramFault> {
-    let told = told_of(alloc, net)?;
-    let trace = net.trace()?.print(alloc)?;
+fn gives(alloc: Global, script: &[u8], net: &Net) -> bool {
+    let Ok(told) = told_of(alloc, net) else {
+        return false;
+    };
+    let Ok(trace) = trace_of(alloc, net) else {
+        return false;
+    };
     gives_these(alloc, script, told.as_slice(), trace.as_slice())
 }
 
@@ -306,9 +316,11 @@ impl Seen {
 }
 
 /// Whether the script of a drawn run gives that run.
-fn is_given(alloc: Global, run: u32, seen: &mut Seen) -> Result<bool, ProgramFault> {
+fn is_given(alloc: Global, run: u32, seen: &mut Seen) -> bool {
     let mut script = Octets::new(alloc);
-    let net = drawn(alloc, run, &mut script)?;
+    let Ok(net) = drawn(alloc, run, &mut script) else {
+        return false;
+    };
     seen.add(&net);
     gives(alloc, script.as_slice(), &net)
 }
@@ -316,7 +328,7 @@ fn is_given(alloc: Global, run: u32, seen: &mut Seen) -> Result<bool, ProgramFau
 /// How many runs there are up to the first that isn't given.
 fn first_wrong(alloc: Global, seen: &mut Seen) -> Result<u32, ProgramFault> {
     for run in 0..RUNS {
-        if !is_given(alloc, run, seen)? {
+        if !is_given(alloc, run, seen) {
             return Ok(run);
         }
     }
@@ -359,30 +371,31 @@ fn put_taken(net: &Net, script: &mut Octets) -> Result<(), NoMemory> {
 }
 
 /// Whether the script of a run with client-ids that a core has taken gives it.
-fn is_script_given(alloc: Global, run: u32, net: &Net) -> Result<bool, ProgramFault> {
+fn is_script_given(alloc: Global, run: u32, net: &Net) -> bool {
     let mut script = Octets::new(alloc);
-    put_settings(kind_of(run), &mut script)?;
-    put_taken(net, &mut script)?;
+    if put_settings(kind_of(run), &mut script).is_err() {
+        return false;
+    }
+    if put_taken(net, &mut script).is_err() {
+        return false;
+    }
     gives(alloc, script.as_slice(), net)
 }
 
 /// Whether a run with client-ids is one that the plain program finds right, and its script gives it.
-fn is_given_with_ids(
-    alloc: Global,
-    run: u32,
-    seen: &mut claimed::Seen,
-) -> Result<bool, ProgramFault> {
-    let (net, is_right) = judged(alloc, run, seen)?;
-    Ok(is_right && is_script_given(alloc, run, &net)?)
+fn is_given_with_ids(alloc: Global, run: u32, seen: &mut claimed::Seen) -> bool {
+    let Ok((net, is_right)) = judged(alloc, run, seen) else {
+        return false;
+    };
+    is_right && is_script_given(alloc, run, &net)
 }
 
 /// The expected values are those of a core whose outcomes and report the plain program has judged.
 #[test]
-fn drawn_runs_with_client_ids_are_given_again(rt: HostRuntime) -> Result<(), Fail> {
+fn drawn_runs_with_client_ids_are_given_again(rt: HostRuntime) {
     let mut seen = claimed::Seen::new();
     for run in 0..claimed::RUNS {
-        assert!(rt; is_given_with_ids(rt.alloc(), run, &mut seen)?, "run {run}");
+        assert!(rt; is_given_with_ids(rt.alloc(), run, &mut seen), "run {run}");
     }
     assert!(rt; seen.is_enough(), "{seen:?}");
-    Ok(())
 }

@@ -1,18 +1,14 @@
 //! Brokers of one thread: two commits that cross, and calls at topics behind those that have names.
 
-ghost use Rattle.std.specs.Prelude.{◌≡◌};
-
 use super::flights::{Points, Quiet, begun, no_points, stamp};
-use super::jobs::{Job, Opening, with_broker};
+use super::jobs::{Job, found_by};
 use super::topics::left;
 use broker_locks::{Broker, CommitFault, Point, Side, Subscribed, Worker};
 use mcast_group::SubState;
-use mcast_txn::{NoMemory, Sender, Stamp, Topic};
+use mcast_txn::{Sender, Stamp, Topic};
 use sender_gate::Gate;
 use std::alloc::Global;
 use std::sync::Wait;
-use std::sync::ledger::Blank;
-use std::test::Fail;
 
 /// What a commit answered, without its gate.
 fn answer_of(done: Result<(Gate, Stamp), (Gate, CommitFault)>) -> Result<Stamp, CommitFault> {
@@ -178,24 +174,17 @@ impl<R: Wait> Job<R> for FourTickets {
         self,
         rt: &R,
         alloc: Global,
-        opening: Opening,
-        workers: Blank,
-        tickets: Blank,
-    ) -> Result<Option<Found>, NoMemory>
-        requires workers { (workers.name ≡ W.name) × (workers.parts ≡ W.parts) × (W.parts ≡ W.all) × (W.all ≡ 257) }
-        requires tickets { (tickets.name ≡ T.name) × (tickets.parts ≡ T.parts) × (T.parts ≡ T.all) × (T.all ≡ 1024) }
-    {
-        let broker = opening.begin::<R, W, T>(alloc, workers, tickets)?;
-        Ok(four_tickets(rt, alloc, &broker))
+        broker: Broker<R, W, T>,
+    ) -> Option<Found> {
+        four_tickets(rt, alloc, &broker)
     }
 }
 
 /// The transaction that overtakes has the tickets (2, 0) and (1, 1), the other (1, 0) and (2, 1). While that one has no
 /// second ticket, topic 0 releases nothing, since its part there comes first.
 #[test]
-fn two_commits_cross(rt: HostRuntime) -> Result<(), Fail> {
-    let opening = Opening::new(rt.alloc(), &[0, 0], 4, false)?;
-    let found = with_broker(&rt, rt.alloc(), opening, FourTickets)?;
+fn two_commits_cross(rt: HostRuntime) {
+    let found = found_by(&rt, rt.alloc(), &[0, 0], 4, FourTickets);
     let queue = [Some((1, stamp(2, 0))), Some((0, stamp(2, 1))), None];
     let wanted = Found {
         crossed: Crossed {
@@ -207,8 +196,7 @@ fn two_commits_cross(rt: HostRuntime) -> Result<(), Fail> {
         released: [Some(2), Some(2)],
         items: [queue, queue],
     };
-    assert!(rt; found == Some(wanted));
-    Ok(())
+    assert!(rt; found == Some(Some(wanted)));
 }
 
 /// What calls answer at topics that aren't there, and at one that has no name.
@@ -261,33 +249,20 @@ fn answers_there<R: Wait, W: Side, T: Side>(
 impl<R: Wait> Job<R> for Nowhere {
     type Answer = Refused;
 
-    fn run<W: Side, T: Side>(
-        self,
-        rt: &R,
-        alloc: Global,
-        opening: Opening,
-        workers: Blank,
-        tickets: Blank,
-    ) -> Result<Refused, NoMemory>
-        requires workers { (workers.name ≡ W.name) × (workers.parts ≡ W.parts) × (W.parts ≡ W.all) × (W.all ≡ 257) }
-        requires tickets { (tickets.name ≡ T.name) × (tickets.parts ≡ T.parts) × (T.parts ≡ T.all) × (T.all ≡ 1024) }
-    {
-        let broker = opening.begin::<R, W, T>(alloc, workers, tickets)?;
-        Ok(answers_there(rt, alloc, &broker))
+    fn run<W: Side, T: Side>(self, rt: &R, alloc: Global, broker: Broker<R, W, T>) -> Refused {
+        answers_there(rt, alloc, &broker)
     }
 }
 
 #[test]
-fn a_topic_without_a_lock_refuses(rt: HostRuntime) -> Result<(), Fail> {
-    let opening = Opening::new(rt.alloc(), &[0, 0], 4, false)?;
+fn a_topic_without_a_lock_refuses(rt: HostRuntime) {
     let wanted = Refused {
         faults: [Some(47), Some(48), Some(49)],
         state: None,
         released: Some(0),
     };
-    let found = with_broker(&rt, rt.alloc(), opening, Nowhere)?;
-    assert!(rt; found == wanted);
-    Ok(())
+    let found = found_by(&rt, rt.alloc(), &[0, 0], 4, Nowhere);
+    assert!(rt; found == Some(wanted));
 }
 
 /// A commit to the one topic that has a name and to the last that has a lock, and what both heads answer.
@@ -315,24 +290,15 @@ impl<R: Wait> Job<R> for Unnamed {
         self,
         rt: &R,
         alloc: Global,
-        opening: Opening,
-        workers: Blank,
-        tickets: Blank,
-    ) -> Result<(Option<Result<Stamp, CommitFault>>, [Option<u64>; 2]), NoMemory>
-        requires workers { (workers.name ≡ W.name) × (workers.parts ≡ W.parts) × (W.parts ≡ W.all) × (W.all ≡ 257) }
-        requires tickets { (tickets.name ≡ T.name) × (tickets.parts ≡ T.parts) × (T.parts ≡ T.all) × (T.all ≡ 1024) }
-    {
-        let broker = opening.begin::<R, W, T>(alloc, workers, tickets)?;
-        Ok(commit_unnamed(rt, alloc, &broker))
+        broker: Broker<R, W, T>,
+    ) -> (Option<Result<Stamp, CommitFault>>, [Option<u64>; 2]) {
+        commit_unnamed(rt, alloc, &broker)
     }
 }
 
 /// Topic 0 begins at 6 and gives 7; topic 1,023, which has no name, begins at 0 and gives 1.
 #[test]
-fn a_topic_without_a_name_has_a_lock(rt: HostRuntime) -> Result<(), Fail> {
-    let opening = Opening::new(rt.alloc(), &[6], 4, false)?;
-    let (answer, released) = with_broker(&rt, rt.alloc(), opening, Unnamed)?;
-    assert!(rt; answer == Some(Ok(stamp(7, 0))));
-    assert!(rt; released == [Some(1), Some(1)]);
-    Ok(())
+fn a_topic_without_a_name_has_a_lock(rt: HostRuntime) {
+    let found = found_by(&rt, rt.alloc(), &[6], 4, Unnamed);
+    assert!(rt; found == Some((Some(Ok(stamp(7, 0))), [Some(1), Some(1)])));
 }

@@ -1,14 +1,11 @@
 //! What committed transactions are charged with: until the last of those who subscribed has let go of them.
 
-ghost use Rattle.std.specs.Prelude.{◌≡◌, ◌≤◌};
-
 use super::flights::{Quiet, begun_with, txn_to};
-use super::jobs::{Job, Opening, with_broker};
+use super::jobs::{Job, found_by};
 use broker_locks::{Broker, Side, Subscribed, Worker};
 use mcast_txn::{Charge, Holdings, Meter, NoMemory, Sender, Topic, Txn};
 use sender_gate::Gate;
 use std::alloc::Global;
-use std::sync::ledger::Blank;
 use std::sync::{Arc, Wait};
 
 /// A call, of a broker of two topics and two subscriptions at topic 0, whose queues hold two items.
@@ -223,27 +220,15 @@ impl<'a, R: Wait> Job<R> for Rows<'a> {
         self,
         rt: &R,
         alloc: Global,
-        opening: Opening,
-        workers: Blank,
-        tickets: Blank,
-    ) -> Result<Option<Option<usize>>, NoMemory>
-        requires workers { (workers.name ≡ W.name) × (workers.parts ≡ W.parts) × (W.parts ≡ W.all) × (W.all ≡ 257) }
-        requires tickets { (tickets.name ≡ T.name) × (tickets.parts ≡ T.parts) × (T.parts ≡ T.all) × (T.all ≡ 1024) }
-    {
-        let broker = opening.begin::<R, W, T>(alloc, workers, tickets)?;
-        Ok(found(rt, alloc, &broker, self.rows))
+        broker: Broker<R, W, T>,
+    ) -> Option<Option<usize>> {
+        found(rt, alloc, &broker, self.rows)
     }
 }
 
 /// Whether each of these calls is done, and behind it just this is charged.
 fn charges<R: Wait>(rt: &R, alloc: Global, rows: &[(Call<'_>, [u64; 2])]) -> bool {
-    match Opening::new(alloc, &[0, 0], 2, false) {
-        Ok(opening) => matches!(
-            with_broker(rt, alloc, opening, Rows { rows }),
-            Ok(Some(None))
-        ),
-        Err(NoMemory) => false,
-    }
+    found_by(rt, alloc, &[0, 0], 2, Rows { rows }) == Some(Some(None))
 }
 
 /// Two senders, of whose transactions each is charged until both subscriptions have it, or end; where nobody subscribes it

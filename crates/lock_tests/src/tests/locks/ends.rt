@@ -1,19 +1,16 @@
 //! Several subscriptions of a topic end in one hold of its lock: what each comes to is what it comes to where each is ended
 //! by itself.
 
-ghost use Rattle.std.specs.Prelude.{◌≡◌};
-
 use super::broker::{commit_as, taken};
 use super::flights::{Quiet, stamp};
-use super::jobs::{Job, Opening, with_broker};
+use super::jobs::{Job, Opening, found_by, with_broker};
 use super::topics::{Left, left};
 use super::tracing::has_text;
 use broker_locks::{Broker, NoRoom, PartOctets, Side, Subscribed};
 use mcast_group::{Cause, Ended, NoSub};
-use mcast_txn::{NoMemory, Topic};
+use mcast_txn::Topic;
 use std::alloc::Global;
 use std::sync::Wait;
-use std::sync::ledger::Blank;
 use std::test::Fail;
 use sub_queue::Source;
 use trace_audit::Trace;
@@ -164,20 +161,14 @@ impl<R: Wait> Job<R> for Ends {
         self,
         rt: &R,
         alloc: Global,
-        opening: Opening,
-        workers: Blank,
-        tickets: Blank,
-    ) -> Result<Option<(bool, Trace)>, NoMemory>
-        requires workers { (workers.name ≡ W.name) × (workers.parts ≡ W.parts) × (W.parts ≡ W.all) × (W.all ≡ 257) }
-        requires tickets { (tickets.name ≡ T.name) × (tickets.parts ≡ T.parts) × (T.parts ≡ T.all) × (T.all ≡ 1024) }
-    {
-        let broker = opening.begin::<R, W, T>(alloc, workers, tickets)?;
+        broker: Broker<R, W, T>,
+    ) -> Option<(bool, Trace)> {
         let Some(is_so) = ends_of(rt, alloc, &broker, self) else {
-            return Ok(None);
+            return None;
         };
         match broker.into_trace() {
-            Ok(trace) => Ok(Some((is_so, trace))),
-            Err(_) => Ok(None),
+            Ok(trace) => Some((is_so, trace)),
+            Err(_) => None,
         }
     }
 }
@@ -248,26 +239,18 @@ impl<R: Wait> Job<R> for Waited {
         self,
         rt: &R,
         alloc: Global,
-        opening: Opening,
-        workers: Blank,
-        tickets: Blank,
-    ) -> Result<Option<[Result<(), NoRoom>; 2]>, NoMemory>
-        requires workers { (workers.name ≡ W.name) × (workers.parts ≡ W.parts) × (W.parts ≡ W.all) × (W.all ≡ 257) }
-        requires tickets { (tickets.name ≡ T.name) × (tickets.parts ≡ T.parts) × (T.parts ≡ T.all) × (T.all ≡ 1024) }
-    {
-        let broker = opening.begin::<R, W, T>(alloc, workers, tickets)?;
-        Ok(rooms(rt, alloc, &broker))
+        broker: Broker<R, W, T>,
+    ) -> Option<[Result<(), NoRoom>; 2]> {
+        rooms(rt, alloc, &broker)
     }
 }
 
 #[test]
-fn those_that_end_at_once_are_waited_for_no_longer(rt: HostRuntime) -> Result<(), Fail> {
-    let opening = Opening::new(rt.alloc(), &[0, 0], 1, false)?;
-    let found = with_broker(&rt, rt.alloc(), opening, Waited)?;
+fn those_that_end_at_once_are_waited_for_no_longer(rt: HostRuntime) {
+    let found = found_by(&rt, rt.alloc(), &[0, 0], 1, Waited);
     let full = NoRoom::Full {
         topic: Topic(0),
         sub: Some(0),
     };
-    assert!(rt; found == Some([Err(full), Ok(())]));
-    Ok(())
+    assert!(rt; found == Some(Some([Err(full), Ok(())])));
 }

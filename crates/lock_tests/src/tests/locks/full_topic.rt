@@ -1,17 +1,13 @@
 //! A topic that is full: which commits it refuses, and what a refused one leaves at its other topics.
 
-ghost use Rattle.std.specs.Prelude.{◌≡◌};
-
 use super::broker::{Crossed, TWO_POINTS, commit_as, commit_overtaken, heads};
 use super::flights::{Quiet, begun, next_stamp, stamp};
-use super::jobs::{Job, Opening, with_broker};
+use super::jobs::{Job, found_by};
 use broker_locks::{Broker, CommitFault, Side, Worker};
-use mcast_txn::{NoMemory, Sender, Stamp};
+use mcast_txn::{Sender, Stamp};
 use sender_gate::Gate;
 use std::alloc::Global;
 use std::sync::Wait;
-use std::sync::ledger::Blank;
-use std::test::Fail;
 
 /// How many parts and rows a topic takes before it is turned and drained.
 const LIMIT: u64 = 65_536;
@@ -76,24 +72,17 @@ impl<R: Wait> Job<R> for FullTopic {
         self,
         rt: &R,
         alloc: Global,
-        opening: Opening,
-        workers: Blank,
-        tickets: Blank,
-    ) -> Result<Option<Found>, NoMemory>
-        requires workers { (workers.name ≡ W.name) × (workers.parts ≡ W.parts) × (W.parts ≡ W.all) × (W.all ≡ 257) }
-        requires tickets { (tickets.name ≡ T.name) × (tickets.parts ≡ T.parts) × (T.parts ≡ T.all) × (T.all ≡ 1024) }
-    {
-        let broker = opening.begin::<R, W, T>(alloc, workers, tickets)?;
-        Ok(full_topic(rt, alloc, &broker))
+        broker: Broker<R, W, T>,
+    ) -> Option<Found> {
+        full_topic(rt, alloc, &broker)
     }
 }
 
 /// The refused commit's part at topic 0, with the ticket (1, 0), holds back the one that overtakes it, with (2, 0). Once it is
 /// cancelled, that one is due: so its topics, which the point was told, have to be turned after a refusal, too.
 #[test]
-fn a_full_topic_refuses_a_commit(rt: HostRuntime) -> Result<(), Fail> {
-    let opening = Opening::new(rt.alloc(), &[0, 0], 4, false)?;
-    let found = with_broker(&rt, rt.alloc(), opening, FullTopic)?;
+fn a_full_topic_refuses_a_commit(rt: HostRuntime) {
+    let found = found_by(&rt, rt.alloc(), &[0, 0], 4, FullTopic);
     let wanted = Found {
         filled: (LIMIT, CommitFault::LogFull),
         crossed: Crossed {
@@ -105,15 +94,13 @@ fn a_full_topic_refuses_a_commit(rt: HostRuntime) -> Result<(), Fail> {
         released: [Some(1), Some(LIMIT)],
         again: Some(Ok(stamp(65_537, 1))),
     };
-    assert!(rt; found == Some(wanted));
-    Ok(())
+    assert!(rt; found == Some(Some(wanted)));
 }
 
 /// Topic 1 begins at its last number, so the first commit there is refused, and the last too.
 #[test]
-fn a_topic_without_a_number_refuses_a_commit(rt: HostRuntime) -> Result<(), Fail> {
-    let opening = Opening::new(rt.alloc(), &[0, u64::MAX], 4, false)?;
-    let found = with_broker(&rt, rt.alloc(), opening, FullTopic)?;
+fn a_topic_without_a_number_refuses_a_commit(rt: HostRuntime) {
+    let found = found_by(&rt, rt.alloc(), &[0, u64::MAX], 4, FullTopic);
     let wanted = Found {
         filled: (0, CommitFault::ClockFull),
         crossed: Crossed {
@@ -125,8 +112,7 @@ fn a_topic_without_a_number_refuses_a_commit(rt: HostRuntime) -> Result<(), Fail
         released: [Some(1), Some(0)],
         again: Some(Err(CommitFault::ClockFull)),
     };
-    assert!(rt; found == Some(wanted));
-    Ok(())
+    assert!(rt; found == Some(Some(wanted)));
 }
 
 /// A commit that is refused at a topic that isn't there, by a gate with a floor, and the next by the same gate, to topic 0
@@ -176,28 +162,20 @@ impl<R: Wait> Job<R> for RefusedGate {
         self,
         rt: &R,
         alloc: Global,
-        opening: Opening,
-        workers: Blank,
-        tickets: Blank,
-    ) -> Result<Option<After>, NoMemory>
-        requires workers { (workers.name ≡ W.name) × (workers.parts ≡ W.parts) × (W.parts ≡ W.all) × (W.all ≡ 257) }
-        requires tickets { (tickets.name ≡ T.name) × (tickets.parts ≡ T.parts) × (T.parts ≡ T.all) × (T.all ≡ 1024) }
-    {
-        let broker = opening.begin::<R, W, T>(alloc, workers, tickets)?;
-        Ok(refused_gate(rt, alloc, &broker))
+        broker: Broker<R, W, T>,
+    ) -> Option<After> {
+        refused_gate(rt, alloc, &broker)
     }
 }
 
 /// The refused one's number stays used, and its ticket, (11, 0): the next one's is (12, 0).
 #[test]
-fn a_refused_commit_leaves_its_gates_floor(rt: HostRuntime) -> Result<(), Fail> {
-    let opening = Opening::new(rt.alloc(), &[0], 4, false)?;
+fn a_refused_commit_leaves_its_gates_floor(rt: HostRuntime) {
     let wanted = After {
         fault: CommitFault::Twice,
         gate: (4, 7, stamp(10, 0)),
         next: Some(stamp(12, 0)),
     };
-    let found = with_broker(&rt, rt.alloc(), opening, RefusedGate)?;
-    assert!(rt; found == Some(wanted));
-    Ok(())
+    let found = found_by(&rt, rt.alloc(), &[0], 4, RefusedGate);
+    assert!(rt; found == Some(Some(wanted)));
 }

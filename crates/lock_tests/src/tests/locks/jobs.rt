@@ -11,22 +11,12 @@ use std::sync::Wait;
 use std::sync::ledger::Blank;
 
 /// What a test does with a broker, whatever ledgers count its tickets.
-pub(super) trait Job<R: Wait> {
+pub(super) trait Job<R: Wait>: Drop {
     /// What it finds.
     type Answer;
 
-    /// Does it with a broker that begins so, where there is memory for that. The ledgers are those of the workers' tickets and
-    /// of the topics'.
-    fn run<W: Side, T: Side>(
-        self,
-        rt: &R,
-        alloc: Global,
-        opening: Opening,
-        workers: Blank,
-        tickets: Blank,
-    ) -> Result<Self::Answer, NoMemory>
-        requires workers { (workers.name ≡ W.name) × (workers.parts ≡ W.parts) × (W.parts ≡ W.all) × (W.all ≡ 257) }
-        requires tickets { (tickets.name ≡ T.name) × (tickets.parts ≡ T.parts) × (T.parts ≡ T.all) × (T.all ≡ 1024) };
+    /// Does it with this broker.
+    fn run<W: Side, T: Side>(self, rt: &R, alloc: Global, broker: Broker<R, W, T>) -> Self::Answer;
 }
 
 /// What a broker begins with: its topics, how many places its queues have, and whether it keeps a trace.
@@ -103,7 +93,27 @@ where
     with_ledgers::<R, J, Brand, Brand>(rt, alloc, opening, job, Blank::new(257), Blank::new(1_024))
 }
 
-/// The same with these ledgers.
+/// What the job finds at a broker whose topics have these clocks, whose queues have so many places, and that keeps no trace; none
+/// where there was no memory for the broker.
+pub(super) fn found_by<R, J>(
+    rt: &R,
+    alloc: Global,
+    clocks: &[u64],
+    capacity: usize,
+    job: J,
+) -> Option<J::Answer>
+where
+    R: Wait,
+    J: Job<R>,
+    requires { (1 ≤ capacity) × (capacity ≤ 4096) }
+{
+    match Opening::new(alloc, clocks, capacity, false) {
+        Ok(opening) => with_broker(rt, alloc, opening, job).ok(),
+        Err(NoMemory) => None,
+    }
+}
+
+/// Does the job with a broker that begins so, with these ledgers.
 fn with_ledgers<R, J, W, T>(
     rt: &R,
     alloc: Global,
@@ -120,5 +130,6 @@ where
     requires workers { (workers.name ≡ W.name) × (workers.parts ≡ W.parts) × (W.parts ≡ W.all) × (W.all ≡ 257) }
     requires tickets { (tickets.name ≡ T.name) × (tickets.parts ≡ T.parts) × (T.parts ≡ T.all) × (T.all ≡ 1024) }
 {
-    job.run::<W, T>(rt, alloc, opening, workers, tickets)
+    let broker = opening.begin::<R, W, T>(alloc, workers, tickets)?;
+    Ok(job.run::<W, T>(rt, alloc, broker))
 }

@@ -2,7 +2,7 @@
 //! One that is refused changes nothing, but that a commit's first topic has given a number, and that a head's topic has
 //! turned.
 
-ghost use Rattle.std.specs.Prelude.{◌≡◌, IfSome};
+ghost use Rattle.std.specs.Prelude.{IfSome};
 ghost use Rattle.broker_locks.specs.Commits.{IsUntouched};
 
 use super::flights::{Quiet, stamp, txn_to};
@@ -15,7 +15,6 @@ use mcast_txn::{NoMemory, Stamp, Topic};
 use sender_gate::{ClaimFault, Flying, Gate};
 use std::alloc::Global;
 use std::sync::Wait;
-use std::sync::ledger::Blank;
 use trace_audit::{AddFault, Trace};
 
 /// Does the job with a broker of two topics that keeps a trace, the first or the second time.
@@ -219,15 +218,9 @@ impl<R: Wait> Job<R> for Connection {
         self,
         rt: &R,
         alloc: Global,
-        opening: Opening,
-        workers: Blank,
-        tickets: Blank,
-    ) -> Result<Option<Found>, NoMemory>
-        requires workers { (workers.name ≡ W.name) × (workers.parts ≡ W.parts) × (W.parts ≡ W.all) × (W.all ≡ 257) }
-        requires tickets { (tickets.name ≡ T.name) × (tickets.parts ≡ T.parts) × (T.parts ≡ T.all) × (T.all ≡ 1024) }
-    {
-        let broker = opening.begin::<R, W, T>(alloc, workers, tickets)?;
-        Ok(serve(rt, alloc, &broker))
+        broker: Broker<R, W, T>,
+    ) -> Option<Found> {
+        serve(rt, alloc, &broker)
     }
 }
 
@@ -301,15 +294,9 @@ impl<R: Wait> Job<R> for FirstCommit {
         self,
         rt: &R,
         alloc: Global,
-        opening: Opening,
-        workers: Blank,
-        tickets: Blank,
-    ) -> Result<Option<(Stamp, u64, u64)>, NoMemory>
-        requires workers { (workers.name ≡ W.name) × (workers.parts ≡ W.parts) × (W.parts ≡ W.all) × (W.all ≡ 257) }
-        requires tickets { (tickets.name ≡ T.name) × (tickets.parts ≡ T.parts) × (T.parts ≡ T.all) × (T.all ≡ 1024) }
-    {
-        let broker = opening.begin::<R, W, T>(alloc, workers, tickets)?;
-        Ok(first_commit(rt, alloc, &broker))
+        broker: Broker<R, W, T>,
+    ) -> Option<(Stamp, u64, u64)> {
+        first_commit(rt, alloc, &broker)
     }
 }
 
@@ -374,15 +361,9 @@ impl<R: Wait> Job<R> for Traced {
         self,
         rt: &R,
         alloc: Global,
-        opening: Opening,
-        workers: Blank,
-        tickets: Blank,
-    ) -> Result<Option<Result<Trace, AddFault>>, NoMemory>
-        requires workers { (workers.name ≡ W.name) × (workers.parts ≡ W.parts) × (W.parts ≡ W.all) × (W.all ≡ 257) }
-        requires tickets { (tickets.name ≡ T.name) × (tickets.parts ≡ T.parts) × (T.parts ≡ T.all) × (T.all ≡ 1024) }
-    {
-        let broker = opening.begin::<R, W, T>(alloc, workers, tickets)?;
-        Ok(leave_trace(rt, alloc, broker))
+        broker: Broker<R, W, T>,
+    ) -> Option<Result<Trace, AddFault>> {
+        leave_trace(rt, alloc, broker)
     }
 }
 

@@ -1,15 +1,12 @@
 //! Room by octets: rows of calls about parts of so many octets, each with its answer.
 
-ghost use Rattle.std.specs.Prelude.{◌≡◌, ◌≤◌};
-
 use super::flights::{Quiet, begun};
-use super::jobs::{Job, Opening, with_broker};
+use super::jobs::{Job, found_by};
 use broker_locks::{Broker, NoRoom, PartOctets, Reserved, Side, Subscribed, Worker};
 use mcast_txn::{NoMemory, Sender, Topic};
 use sender_gate::Gate;
 use std::alloc::Global;
 use std::sync::Wait;
-use std::sync::ledger::Blank;
 
 /// How many octets 16 KiB, 272 KiB, an octet more, and 512 KiB have.
 const KIBI_16: u64 = 16_384;
@@ -253,19 +250,13 @@ impl<'a, R: Wait> Job<R> for Rows<'a> {
         self,
         rt: &R,
         alloc: Global,
-        opening: Opening,
-        workers: Blank,
-        tickets: Blank,
-    ) -> Result<Option<usize>, NoMemory>
-        requires workers { (workers.name ≡ W.name) × (workers.parts ≡ W.parts) × (W.parts ≡ W.all) × (W.all ≡ 257) }
-        requires tickets { (tickets.name ≡ T.name) × (tickets.parts ≡ T.parts) × (T.parts ≡ T.all) × (T.all ≡ 1024) }
-    {
-        let broker = opening.begin::<R, W, T>(alloc, workers, tickets)?;
+        broker: Broker<R, W, T>,
+    ) -> Option<usize> {
         let Ok(mut worker) = broker.join(rt) else {
-            return Ok(Some(0));
+            return Some(0);
         };
         let Ok((begun, true)) = broker.subscribe_waited_for(rt, Topic(0)) else {
-            return Ok(Some(0));
+            return Some(0);
         };
         let mut done = Done {
             begun,
@@ -280,16 +271,13 @@ impl<'a, R: Wait> Job<R> for Rows<'a> {
         } = done;
         drop(begun);
         broker.release_room(rt, room);
-        Ok(found)
+        found
     }
 }
 
 /// Whether these calls at a broker whose queues have 64 places answer what is wanted.
 fn answers<R: Wait>(rt: &R, alloc: Global, rows: &[(Call, Answer)]) -> bool {
-    match Opening::new(alloc, &[0], 64, false) {
-        Ok(opening) => matches!(with_broker(rt, alloc, opening, Rows { rows }), Ok(None)),
-        Err(NoMemory) => false,
-    }
+    found_by(rt, alloc, &[0], 64, Rows { rows }) == Some(None)
 }
 
 /// Parts that a sixty-fourth of 17 MiB is enough for are counted alone: 64 of them.

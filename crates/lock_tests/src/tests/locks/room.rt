@@ -1,9 +1,9 @@
 //! Room that is reserved at a broker's topics, and who is waited for there: rows of calls, each with its answer.
 
-ghost use Rattle.std.specs.Prelude.{◌≡◌, ◌≤◌};
+ghost use Rattle.std.specs.Prelude.{◌≤◌};
 
 use super::flights::{Quiet, begun};
-use super::jobs::{Job, Opening, with_broker};
+use super::jobs::{Job, found_by};
 use broker_locks::{Broker, NoRoom, PartOctets, Reserved, Side, Subscribed, Worker};
 use mcast_group::{SubState, Turned};
 use mcast_txn::{NoMemory, Sender, Stamp, Topic};
@@ -11,7 +11,6 @@ use sender_gate::Gate;
 use std::alloc::Global;
 use std::mem;
 use std::sync::Wait;
-use std::sync::ledger::Blank;
 use std::test::Fail;
 
 /// How many octets each part has: so few that it asks for one place.
@@ -398,16 +397,10 @@ impl<'a, R: Wait> Job<R> for Rows<'a> {
         self,
         rt: &R,
         alloc: Global,
-        opening: Opening,
-        workers: Blank,
-        tickets: Blank,
-    ) -> Result<Option<usize>, NoMemory>
-        requires workers { (workers.name ≡ W.name) × (workers.parts ≡ W.parts) × (W.parts ≡ W.all) × (W.all ≡ 257) }
-        requires tickets { (tickets.name ≡ T.name) × (tickets.parts ≡ T.parts) × (T.parts ≡ T.all) × (T.all ≡ 1024) }
-    {
-        let broker = opening.begin::<R, W, T>(alloc, workers, tickets)?;
+        broker: Broker<R, W, T>,
+    ) -> Option<usize> {
         let Ok(mut worker) = broker.join(rt) else {
-            return Ok(Some(0));
+            return Some(0);
         };
         let mut done = Done {
             subs: Vec::new(alloc),
@@ -425,28 +418,15 @@ impl<'a, R: Wait> Job<R> for Rows<'a> {
         drop(subs);
         given_back(rt, &broker, left);
         given_back(rt, &broker, right);
-        Ok(found)
+        found
     }
-}
-
-/// The index of the first of these calls at a broker whose queues have so many places that answers another thing.
-fn first_other_at<R: Wait>(
-    rt: &R,
-    alloc: Global,
-    capacity: usize,
-    rows: &[(Call<'_>, Answer)],
-) -> Result<Option<usize>, NoMemory>
-    requires { (1 ≤ capacity) × (capacity ≤ 4096) }
-{
-    let opening = Opening::new(alloc, &[0, 0], capacity, false)?;
-    with_broker(rt, alloc, opening, Rows { rows })
 }
 
 /// Whether the calls answer so, at a broker whose queues have so many places.
 fn answers<R: Wait>(rt: &R, alloc: Global, capacity: usize, rows: &[(Call<'_>, Answer)]) -> bool
     requires { (1 ≤ capacity) × (capacity ≤ 4096) }
 {
-    matches!(first_other_at(rt, alloc, capacity, rows), Ok(None))
+    found_by(rt, alloc, &[0, 0], capacity, Rows { rows }) == Some(None)
 }
 
 /// The last item of one that lags.
@@ -853,37 +833,24 @@ fn long_run<R: Wait, W: Side, T: Side>(
 impl<R: Wait> Job<R> for LongRun {
     type Answer = Option<Ran>;
 
-    fn run<W: Side, T: Side>(
-        self,
-        rt: &R,
-        alloc: Global,
-        opening: Opening,
-        workers: Blank,
-        tickets: Blank,
-    ) -> Result<Option<Ran>, NoMemory>
-        requires workers { (workers.name ≡ W.name) × (workers.parts ≡ W.parts) × (W.parts ≡ W.all) × (W.all ≡ 257) }
-        requires tickets { (tickets.name ≡ T.name) × (tickets.parts ≡ T.parts) × (T.parts ≡ T.all) × (T.all ≡ 1024) }
-    {
-        let broker = opening.begin::<R, W, T>(alloc, workers, tickets)?;
+    fn run<W: Side, T: Side>(self, rt: &R, alloc: Global, broker: Broker<R, W, T>) -> Option<Ran> {
         let Ok(mut worker) = broker.join(rt) else {
-            return Ok(None);
+            return None;
         };
-        Ok(long_run(rt, alloc, &broker, &mut worker))
+        long_run(rt, alloc, &broker, &mut worker)
     }
 }
 
 /// At capacity 4: four are committed at once, and then one for each that is taken, so that the first is 500 and 2 more. Who
 /// is waited for doesn't lag; who isn't does.
 #[test]
-fn who_is_waited_for_never_lags(rt: HostRuntime) -> Result<(), Fail> {
-    let opening = Opening::new(rt.alloc(), &[0], 4, false)?;
-    let found = with_broker(&rt, rt.alloc(), opening, LongRun)?;
+fn who_is_waited_for_never_lags(rt: HostRuntime) {
+    let found = found_by(&rt, rt.alloc(), &[0], 4, LongRun);
     let wanted = Ran {
         committed: 502,
         taken: 498,
         is_open: true,
         is_other_open: false,
     };
-    assert!(rt; found == Some(wanted));
-    Ok(())
+    assert!(rt; found == Some(Some(wanted)));
 }

@@ -1,8 +1,6 @@
 //! What reservations answer when one growth is refused (`rt try --test --fail-alloc N`): the same call then succeeds, and one
 //! that is refused took no room.
 
-ghost use Rattle.std.specs.Prelude.{◌≡◌};
-
 use super::flights::{Quiet, begun};
 use super::jobs::{Job, Opening, with_broker};
 use broker_locks::{Broker, NoRoom, PartOctets, Reserved, Side, Subscribed, Worker};
@@ -11,7 +9,6 @@ use mcast_txn::{NoMemory, Sender, Topic};
 use sender_gate::Gate;
 use std::alloc::Global;
 use std::sync::Wait;
-use std::sync::ledger::Blank;
 
 /// Whether topic 0's subscription is waited for, the first or the second time.
 fn is_waited_at_last<R: Wait, W: Side, T: Side>(
@@ -193,18 +190,12 @@ impl<R: Wait> Job<R> for OnePlace {
         self,
         rt: &R,
         alloc: Global,
-        opening: Opening,
-        workers: Blank,
-        tickets: Blank,
-    ) -> Result<Option<Found>, NoMemory>
-        requires workers { (workers.name ≡ W.name) × (workers.parts ≡ W.parts) × (W.parts ≡ W.all) × (W.all ≡ 257) }
-        requires tickets { (tickets.name ≡ T.name) × (tickets.parts ≡ T.parts) × (T.parts ≡ T.all) × (T.all ≡ 1024) }
-    {
-        let broker = opening.begin::<R, W, T>(alloc, workers, tickets)?;
+        broker: Broker<R, W, T>,
+    ) -> Option<Found> {
         let Ok(mut worker) = broker.join(rt) else {
-            return Ok(None);
+            return None;
         };
-        Ok(one_place(rt, alloc, &broker, &mut worker))
+        one_place(rt, alloc, &broker, &mut worker)
     }
 }
 

@@ -1,16 +1,12 @@
 //! Senders of a running broker that outlive a connection, by their client-id.
 
-ghost use Rattle.std.specs.Prelude.{◌≡◌};
-
 use super::flights::{Quiet, begun, stamp};
-use super::jobs::{Job, Opening, with_broker};
+use super::jobs::{Job, found_by};
 use broker_locks::{Broker, Side, Subscribed};
-use mcast_txn::{NoMemory, Stamp, Topic};
+use mcast_txn::{Stamp, Topic};
 use sender_gate::Gate;
 use std::alloc::Global;
 use std::sync::Wait;
-use std::sync::ledger::Blank;
-use std::test::Fail;
 
 /// Two connections claim one client-id. The first commits to topics 0 and 1 and gives the gate back. Then the second gets
 /// it, and commits to topic 0.
@@ -123,24 +119,17 @@ impl<R: Wait> Job<R> for TwoConnections {
         self,
         rt: &R,
         alloc: Global,
-        opening: Opening,
-        workers: Blank,
-        tickets: Blank,
-    ) -> Result<Option<Found>, NoMemory>
-        requires workers { (workers.name ≡ W.name) × (workers.parts ≡ W.parts) × (W.parts ≡ W.all) × (W.all ≡ 257) }
-        requires tickets { (tickets.name ≡ T.name) × (tickets.parts ≡ T.parts) × (T.parts ≡ T.all) × (T.all ≡ 1024) }
-    {
-        let broker = opening.begin::<R, W, T>(alloc, workers, tickets)?;
-        Ok(two_connections(rt, alloc, &broker))
+        broker: Broker<R, W, T>,
+    ) -> Option<Found> {
+        two_connections(rt, alloc, &broker)
     }
 }
 
 /// Sender 0 is that of the claim without a client-id. Topic 1's clock begins at 9, so the first stamp is (10, 1). It is the
 /// second commit's floor, so topic 0 gives 11 then.
 #[test]
-fn a_client_id_is_claimed_by_two_connections(rt: HostRuntime) -> Result<(), Fail> {
-    let opening = Opening::new(rt.alloc(), &[0, 9], 4, false)?;
-    let found = with_broker(&rt, rt.alloc(), opening, TwoConnections)?;
+fn a_client_id_is_claimed_by_two_connections(rt: HostRuntime) {
+    let found = found_by(&rt, rt.alloc(), &[0, 9], 4, TwoConnections);
     let wanted = Found {
         refused: Some(77),
         first: stamp(10, 1),
@@ -150,6 +139,5 @@ fn a_client_id_is_claimed_by_two_connections(rt: HostRuntime) -> Result<(), Fail
         },
         items: [Some((1, 1, stamp(10, 1))), Some((1, 2, stamp(11, 0))), None],
     };
-    assert!(rt; found == Some(wanted));
-    Ok(())
+    assert!(rt; found == Some(Some(wanted)));
 }

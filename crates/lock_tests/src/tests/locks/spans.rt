@@ -1,18 +1,15 @@
 //! Where a broker's subscriptions begin and end, at topics whose clocks don't begin at 0.
 
-ghost use Rattle.std.specs.Prelude.{◌≡◌};
-
 use super::flights::{Quiet, begun, stamp};
 use super::jobs::{Job, Opening, with_broker};
 use super::topics::{Left, left};
 use super::tracing::has_text;
 use broker_locks::{Broker, Side, Subscribed, Worker};
 use mcast_group::{Cause, SubState};
-use mcast_txn::{NoMemory, Sender, Stamp, Topic};
+use mcast_txn::{Sender, Stamp, Topic};
 use sender_gate::Gate;
 use std::alloc::Global;
 use std::sync::Wait;
-use std::sync::ledger::Blank;
 use trace_audit::Trace;
 
 /// The gate's next commit: the gate, and the stamp.
@@ -182,15 +179,9 @@ impl<R: Wait> Job<R> for TwoSpans {
         self,
         rt: &R,
         alloc: Global,
-        opening: Opening,
-        workers: Blank,
-        tickets: Blank,
-    ) -> Result<Option<(Found, Trace)>, NoMemory>
-        requires workers { (workers.name ≡ W.name) × (workers.parts ≡ W.parts) × (W.parts ≡ W.all) × (W.all ≡ 257) }
-        requires tickets { (tickets.name ≡ T.name) × (tickets.parts ≡ T.parts) × (T.parts ≡ T.all) × (T.all ≡ 1024) }
-    {
-        let broker = opening.begin::<R, W, T>(alloc, workers, tickets)?;
-        Ok(two_spans_traced(rt, alloc, broker))
+        broker: Broker<R, W, T>,
+    ) -> Option<(Found, Trace)> {
+        two_spans_traced(rt, alloc, broker)
     }
 }
 

@@ -1,15 +1,12 @@
 //! Calls of a broker, none of which goes on where one finds no memory: `bench/refuse` refuses each growth in turn, and sees
 //! that the test then fails each time. So a call that finds no memory, and answers as if it had, doesn't pass.
 
-ghost use Rattle.std.specs.Prelude.{◌≡◌, ◌≤◌};
-
 use super::flights::next_stamp;
 use super::jobs::{Job, Opening, with_broker};
 use broker_locks::{Broker, Side, Worker};
-use mcast_txn::{NoMemory, Topic};
+use mcast_txn::Topic;
 use std::alloc::Global;
 use std::sync::Wait;
-use std::sync::ledger::Blank;
 
 /// A client claims a sender, subscribes at topic 0, and commits to it; its head turns that.
 #[derive(Clone, Copy, Drop)]
@@ -44,19 +41,8 @@ fn released<R: Wait, W: Side, T: Side>(
 impl<R: Wait> Job<R> for Turn {
     type Answer = Option<u64>;
 
-    fn run<W: Side, T: Side>(
-        self,
-        rt: &R,
-        alloc: Global,
-        opening: Opening,
-        workers: Blank,
-        tickets: Blank,
-    ) -> Result<Option<u64>, NoMemory>
-        requires workers { (workers.name ≡ W.name) × (workers.parts ≡ W.parts) × (W.parts ≡ W.all) × (W.all ≡ 257) }
-        requires tickets { (tickets.name ≡ T.name) × (tickets.parts ≡ T.parts) × (T.parts ≡ T.all) × (T.all ≡ 1024) }
-    {
-        let broker = opening.begin::<R, W, T>(alloc, workers, tickets)?;
-        Ok(released(rt, alloc, &broker))
+    fn run<W: Side, T: Side>(self, rt: &R, alloc: Global, broker: Broker<R, W, T>) -> Option<u64> {
+        released(rt, alloc, &broker)
     }
 }
 

@@ -1,17 +1,13 @@
 //! That each call of a broker is made at the topic that it names, and what a refused commit leaves there.
 
-ghost use Rattle.std.specs.Prelude.{◌≡◌};
-
 use super::broker::{commit_as, heads, taken};
 use super::flights::{Quiet, stamp};
-use super::jobs::{Job, Opening, with_broker};
+use super::jobs::{Job, found_by};
 use broker_locks::{Broker, CommitFault, Side, Subscribed};
 use mcast_group::{Cause, SubState};
-use mcast_txn::{NoMemory, Stamp, Topic};
+use mcast_txn::{Stamp, Topic};
 use std::alloc::Global;
 use std::sync::Wait;
-use std::sync::ledger::Blank;
-use std::test::Fail;
 
 /// What an unsubscribe answers: the end of the span and its cause, or the number of its fault.
 pub(super) type Left = Result<(Stamp, Cause), u32>;
@@ -122,22 +118,15 @@ impl<R: Wait> Job<R> for AtTheirTopics {
         self,
         rt: &R,
         alloc: Global,
-        opening: Opening,
-        workers: Blank,
-        tickets: Blank,
-    ) -> Result<Option<Found>, NoMemory>
-        requires workers { (workers.name ≡ W.name) × (workers.parts ≡ W.parts) × (W.parts ≡ W.all) × (W.all ≡ 257) }
-        requires tickets { (tickets.name ≡ T.name) × (tickets.parts ≡ T.parts) × (T.parts ≡ T.all) × (T.all ≡ 1024) }
-    {
-        let broker = opening.begin::<R, W, T>(alloc, workers, tickets)?;
-        Ok(at_their_topics(rt, alloc, &broker))
+        broker: Broker<R, W, T>,
+    ) -> Option<Found> {
+        at_their_topics(rt, alloc, &broker)
     }
 }
 
 #[test]
-fn calls_are_made_at_their_topics(rt: HostRuntime) -> Result<(), Fail> {
-    let opening = Opening::new(rt.alloc(), &[0, 0], 1, false)?;
-    let found = with_broker(&rt, rt.alloc(), opening, AtTheirTopics)?;
+fn calls_are_made_at_their_topics(rt: HostRuntime) {
+    let found = found_by(&rt, rt.alloc(), &[0, 0], 1, AtTheirTopics);
     let lagged = Some(SubState::Lag(stamp(1, 0)));
     let item = Some((0, stamp(1, 0)));
     let wanted = Found {
@@ -151,8 +140,7 @@ fn calls_are_made_at_their_topics(rt: HostRuntime) -> Result<(), Fail> {
             Ok((Stamp::ZERO, Cause::Asked)),
         ],
     };
-    assert!(rt; found == Some(wanted));
-    Ok(())
+    assert!(rt; found == Some(Some(wanted)));
 }
 
 /// A commit to topics 0 and 1,024, of which there is no 1,024, and then one to topic 0, by another sender: what both
@@ -180,23 +168,15 @@ impl<R: Wait> Job<R> for AfterARefusal {
         self,
         rt: &R,
         alloc: Global,
-        opening: Opening,
-        workers: Blank,
-        tickets: Blank,
-    ) -> Result<([Option<Result<Stamp, CommitFault>>; 2], [Option<u64>; 2]), NoMemory>
-        requires workers { (workers.name ≡ W.name) × (workers.parts ≡ W.parts) × (W.parts ≡ W.all) × (W.all ≡ 257) }
-        requires tickets { (tickets.name ≡ T.name) × (tickets.parts ≡ T.parts) × (T.parts ≡ T.all) × (T.all ≡ 1024) }
-    {
-        let broker = opening.begin::<R, W, T>(alloc, workers, tickets)?;
-        Ok(after_a_refusal(rt, alloc, &broker))
+        broker: Broker<R, W, T>,
+    ) -> ([Option<Result<Stamp, CommitFault>>; 2], [Option<u64>; 2]) {
+        after_a_refusal(rt, alloc, &broker)
     }
 }
 
 #[test]
-fn a_refused_commit_leaves_nothing_pending(rt: HostRuntime) -> Result<(), Fail> {
-    let opening = Opening::new(rt.alloc(), &[0, 0], 1, false)?;
-    let (answers, released) = with_broker(&rt, rt.alloc(), opening, AfterARefusal)?;
-    assert!(rt; answers == [Some(Err(CommitFault::Twice)), Some(Ok(stamp(2, 0)))]);
-    assert!(rt; released == [Some(1), Some(0)]);
-    Ok(())
+fn a_refused_commit_leaves_nothing_pending(rt: HostRuntime) {
+    let found = found_by(&rt, rt.alloc(), &[0, 0], 1, AfterARefusal);
+    let answers = [Some(Err(CommitFault::Twice)), Some(Ok(stamp(2, 0)))];
+    assert!(rt; found == Some((answers, [Some(1), Some(0)])));
 }

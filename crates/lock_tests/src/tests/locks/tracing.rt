@@ -1,15 +1,12 @@
 //! Traces that a place or a broker keeps, and what an audit says of them.
 
-ghost use Rattle.std.specs.Prelude.{◌≡◌};
-
 use super::broker::{commit_overtaken, heads};
 use super::jobs::{Job, Opening, with_broker};
 use super::places::{Answer, begin, decided, refused_by, turned};
 use broker_locks::{Broker, Place, Side};
-use mcast_txn::{NoMemory, Topic};
+use mcast_txn::Topic;
 use std::alloc::Global;
 use std::sync::Wait;
-use std::sync::ledger::Blank;
 use trace_audit::{Trace, audit};
 
 /// Whether the trace's text is this.
@@ -67,15 +64,9 @@ impl<R: Wait> Job<R> for Crossing {
         self,
         rt: &R,
         alloc: Global,
-        opening: Opening,
-        workers: Blank,
-        tickets: Blank,
-    ) -> Result<Option<Trace>, NoMemory>
-        requires workers { (workers.name ≡ W.name) × (workers.parts ≡ W.parts) × (W.parts ≡ W.all) × (W.all ≡ 257) }
-        requires tickets { (tickets.name ≡ T.name) × (tickets.parts ≡ T.parts) × (T.parts ≡ T.all) × (T.all ≡ 1024) }
-    {
-        let broker = opening.begin::<R, W, T>(alloc, workers, tickets)?;
-        Ok(trace_of(rt, alloc, broker, self.subscribed))
+        broker: Broker<R, W, T>,
+    ) -> Option<Trace> {
+        trace_of(rt, alloc, broker, self.subscribed)
     }
 }
 

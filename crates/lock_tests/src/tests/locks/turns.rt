@@ -1,17 +1,13 @@
 //! What a commit and a turn of a running broker tell beside their answers.
 
-ghost use Rattle.std.specs.Prelude.{◌≡◌};
-
 use super::flights::{Quiet, begun, stamp};
-use super::jobs::{Job, Opening, with_broker};
+use super::jobs::{Job, found_by};
 use broker_locks::{Broker, Side, Worker};
 use mcast_group::Turned;
-use mcast_txn::{NoMemory, Sender, Stamp, Topic};
+use mcast_txn::{Sender, Stamp, Topic};
 use sender_gate::Gate;
 use std::alloc::Global;
 use std::sync::Wait;
-use std::sync::ledger::Blank;
-use std::test::Fail;
 
 /// The stamp of the sender's first transaction, to topic 0, which this worker commits.
 fn stamp_by<R: Wait, W: Side, T: Side>(
@@ -66,20 +62,14 @@ impl<R: Wait> Job<R> for Three {
         self,
         rt: &R,
         alloc: Global,
-        opening: Opening,
-        workers: Blank,
-        tickets: Blank,
-    ) -> Result<[Option<(Stamp, Turned)>; 3], NoMemory>
-        requires workers { (workers.name ≡ W.name) × (workers.parts ≡ W.parts) × (W.parts ≡ W.all) × (W.all ≡ 257) }
-        requires tickets { (tickets.name ≡ T.name) × (tickets.parts ≡ T.parts) × (T.parts ≡ T.all) × (T.all ≡ 1024) }
-    {
-        let broker = opening.begin::<R, W, T>(alloc, workers, tickets)?;
+        broker: Broker<R, W, T>,
+    ) -> [Option<(Stamp, Turned)>; 3] {
         let _begun = broker.subscribe(rt, Topic(0)).ok();
-        Ok([
+        [
             committed(rt, alloc, &broker, 0),
             committed(rt, alloc, &broker, 1),
             committed(rt, alloc, &broker, 2),
-        ])
+        ]
     }
 }
 
@@ -94,9 +84,7 @@ fn told(n: u64, lagged: bool) -> Option<(Stamp, Turned)> {
 
 /// The second row finds the queue full, and so the subscription lags; it lags once.
 #[test]
-fn a_turn_says_that_a_subscription_lagged(rt: HostRuntime) -> Result<(), Fail> {
-    let opening = Opening::new(rt.alloc(), &[0], 1, false)?;
-    let found = with_broker(&rt, rt.alloc(), opening, Three)?;
-    assert!(rt; found == [told(1, false), told(2, true), told(3, false)]);
-    Ok(())
+fn a_turn_says_that_a_subscription_lagged(rt: HostRuntime) {
+    let found = found_by(&rt, rt.alloc(), &[0], 1, Three);
+    assert!(rt; found == Some([told(1, false), told(2, true), told(3, false)]));
 }

@@ -4,13 +4,11 @@ ghost use Rattle.std.specs.Prelude.{◌≡◌};
 
 use super::broker::commit_by;
 use super::flights::Quiet;
-use super::jobs::{Job, Opening, with_broker};
+use super::jobs::{Job, found_by};
 use broker_locks::{Broker, CommitFault, Shares, Side, Tally, Worker};
-use mcast_txn::{NoMemory, Topic};
+use mcast_txn::Topic;
 use std::alloc::Global;
 use std::sync::Wait;
-use std::sync::ledger::Blank;
-use std::test::Fail;
 
 /// The first worker commits to topics 0 and 1, the second to topic 0, and the head of that turns. Whether they answer so.
 fn are_committed<R: Wait, W: Side, T: Side>(
@@ -117,15 +115,9 @@ impl<R: Wait> Job<R> for TwoWorkers {
         self,
         rt: &R,
         alloc: Global,
-        opening: Opening,
-        workers: Blank,
-        tickets: Blank,
-    ) -> Result<Option<Tally>, NoMemory>
-        requires workers { (workers.name ≡ W.name) × (workers.parts ≡ W.parts) × (W.parts ≡ W.all) × (W.all ≡ 257) }
-        requires tickets { (tickets.name ≡ T.name) × (tickets.parts ≡ T.parts) × (T.parts ≡ T.all) × (T.all ≡ 1024) }
-    {
-        let broker = opening.begin::<R, W, T>(alloc, workers, tickets)?;
-        Ok(tally_of(rt, alloc, broker, self.more))
+        broker: Broker<R, W, T>,
+    ) -> Option<Tally> {
+        tally_of(rt, alloc, broker, self.more)
     }
 }
 
@@ -153,13 +145,11 @@ const TALLIES: &[(bool, Tally)] = &[
 ];
 
 #[test]
-fn a_tally_takes_all_workers_shares(rt: HostRuntime) -> Result<(), Fail> {
+fn a_tally_takes_all_workers_shares(rt: HostRuntime) {
     for &(more, wanted) in TALLIES {
-        let opening = Opening::new(rt.alloc(), &[0, 0], 4, false)?;
-        let tally = with_broker(&rt, rt.alloc(), opening, TwoWorkers { more })?;
-        assert!(rt; tally == Some(wanted));
+        let tally = found_by(&rt, rt.alloc(), &[0, 0], 4, TwoWorkers { more });
+        assert!(rt; tally == Some(Some(wanted)));
     }
-    Ok(())
 }
 
 /// How many workers join before one is refused, and by which number that one is and the next.
@@ -192,23 +182,15 @@ impl<R: Wait> Job<R> for AllJoin {
         self,
         rt: &R,
         alloc: Global,
-        opening: Opening,
-        workers: Blank,
-        tickets: Blank,
-    ) -> Result<Option<(u64, u32, u32)>, NoMemory>
-        requires workers { (workers.name ≡ W.name) × (workers.parts ≡ W.parts) × (W.parts ≡ W.all) × (W.all ≡ 257) }
-        requires tickets { (tickets.name ≡ T.name) × (tickets.parts ≡ T.parts) × (T.parts ≡ T.all) × (T.all ≡ 1024) }
-    {
-        let broker = opening.begin::<R, W, T>(alloc, workers, tickets)?;
-        Ok(all_join(rt, &broker))
+        broker: Broker<R, W, T>,
+    ) -> Option<(u64, u32, u32)> {
+        all_join(rt, &broker)
     }
 }
 
 /// A worker that left makes no room for another.
 #[test]
-fn no_more_than_256_workers_join(rt: HostRuntime) -> Result<(), Fail> {
-    let opening = Opening::new(rt.alloc(), &[0], 4, false)?;
-    let joined = with_broker(&rt, rt.alloc(), opening, AllJoin)?;
-    assert!(rt; joined == Some((256, 100, 100)));
-    Ok(())
+fn no_more_than_256_workers_join(rt: HostRuntime) {
+    let joined = found_by(&rt, rt.alloc(), &[0], 4, AllJoin);
+    assert!(rt; joined == Some(Some((256, 100, 100))));
 }

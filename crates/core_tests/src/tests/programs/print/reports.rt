@@ -4,7 +4,6 @@ use super::runs::{LAGGED, LEADING, NOTHING, Run, after};
 use broker_server::{print_outcome, print_report};
 use delivery::Net;
 use std::alloc::Global;
-use std::test::Fail;
 use stomp_frame::{NoMemory, Octets};
 
 /// The lines of the outcomes that were kept.
@@ -33,10 +32,9 @@ fn has_report(alloc: Global, run: &Run) -> Result<bool, NoMemory> {
 }
 
 #[test]
-fn runs_have_their_lines(rt: HostRuntime) -> Result<(), Fail> {
+fn runs_have_their_lines(rt: HostRuntime) {
     for run in [NOTHING, LEADING, LAGGED] {
         assert!(rt; has_outcomes(rt.alloc(), run) == Ok(true));
         assert!(rt; has_report(rt.alloc(), run) == Ok(true));
     }
-    Ok(())
 }
