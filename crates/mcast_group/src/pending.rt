@@ -1,8 +1,8 @@
 //! Parts that are pending at a topic.
 
 ghost use Rattle.std.specs.Prelude.{◌≡◌, Some, None, IfOk, IfSome};
-ghost use Rattle.std.specs.Arc.{arc_value};
 ghost use Rattle.std.specs.Option.{is_some};
+ghost use Rattle.mcast_txn.specs.Ids.{id_lt};
 ghost use Rattle.mcast_txn.specs.Part.{data_of};
 ghost use Rattle.mcast_group.specs.Noted.{IsSightOf};
 ghost use Rattle.mcast_group.specs.Inner.Keys.{keyed_of};
@@ -13,15 +13,16 @@ use crate::keys::Keyed;
 use crate::learnt::Learnt;
 use crate::row::Row;
 use mcast_txn::{Flight, NoMemory, Part, Seen, Stamp, TopicSet, TxnId, Verdict};
+use std::alloc::Global;
 use std::marker::Model;
-use std::sync::Arc;
 
 /// A part that is pending: the number of its ticket, and its stamp once that is learnt, with the note by which the cell
 /// of its flight told it.
 pub(crate) struct PendingPart {
-    part: Arc<Part>,
-    /// The part's topics, shared once more, so that a release takes no memory.
-    topics: Arc<TopicSet>,
+    id: TxnId,
+    part: Part,
+    /// The part's topics once more, so that a release takes no memory.
+    topics: TopicSet,
     number: u64,
     learnt: Learnt,
 }
@@ -30,6 +31,7 @@ impl Drop for PendingPart {
     /// Written out, so that letting a part go is one call for the prover wherever it happens.
     fn drop(self) {
         let PendingPart {
+            id: _,
             part,
             topics,
             number: _,
@@ -43,27 +45,28 @@ impl Drop for PendingPart {
 
 impl Model for PendingPart {
     ghost use Rattle.std.specs.Prelude.{◌≡◌};
-    ghost use Rattle.std.specs.Arc.{arc_value};
-    ghost use Rattle.mcast_txn.specs.Part.{data_of, flight_of_part};
+        ghost use Rattle.mcast_txn.specs.Part.{data_of, flight_of_part};
     ghost use Rattle.mcast_group.specs.Machine.{Pending};
     ghost use Rattle.mcast_group.specs.Inner.Learnt.{IsPart};
 
     ghost Value = { Pending };
 
-    ghost view = { λ p. record { part = data_of (arc_value p.part); number = p.number; learnt = p.learnt.stamp } };
+    ghost view = { λ p. record { part = data_of p.part; number = p.number; learnt = p.learnt.stamp } };
 
-    ghost invariant = { λ p. IsPart (flight_of_part (arc_value p.part)) (arc_value p.topics)
-        (data_of (arc_value p.part)).topics p.learnt.seen };
+    ghost invariant = { λ p. IsPart (flight_of_part p.part) p.topics
+        (data_of p.part).topics p.learnt.seen × (p.id ≡ (data_of p.part).id) };
 }
 
 impl PendingPart {
     /// A part that hasn't learnt its stamp.
-    pub(crate) fn new(part: Arc<Part>, number: u64) -> Result<PendingPart, NoMemory>
+    #[inline(always)]
+    pub(crate) fn new(alloc: Global, part: Part, number: u64) -> Result<PendingPart, NoMemory>
         ensures { IfOk result
-            (λ pending. pending ≡ record { part = data_of (arc_value part); number = number; learnt = None }) }
+            (λ pending. pending ≡ record { part = data_of part; number = number; learnt = None }) }
     {
-        let topics = part.topics.clone()?;
+        let topics = part.topics().copied(alloc)?;
         Ok(PendingPart {
+            id: part.id(),
             part,
             topics,
             number,
@@ -75,7 +78,14 @@ impl PendingPart {
     pub(crate) fn id(&self) -> TxnId
         ensures { result ≡ self.now.part.id }
     {
-        self.part.id()
+        self.id
+    }
+
+    /// Whether its id is below this one.
+    pub(crate) fn is_before(&self, id: TxnId) -> bool
+        ensures { result ≡ id_lt self.now.part.id id }
+    {
+        self.id < id
     }
 
     /// The part.
@@ -86,10 +96,11 @@ impl PendingPart {
     }
 
     /// The part, shared once more.
-    pub(crate) fn share(&self) -> Result<Arc<Part>, NoMemory>
-        ensures { IfOk result (λ part. data_of (arc_value part) ≡ self.now.part) }
+    #[inline(always)]
+    pub(crate) fn share(&self) -> Result<Part, NoMemory>
+        ensures { IfOk result (λ part. data_of part ≡ self.now.part) }
     {
-        Ok(self.part.clone()?)
+        self.part.share()
     }
 
     /// Its ticket as a stamp.
@@ -98,7 +109,7 @@ impl PendingPart {
     {
         Stamp {
             n: self.number,
-            topic: self.part.topic,
+            topic: self.part.topic(),
         }
     }
 
@@ -130,7 +141,7 @@ impl PendingPart {
     pub(crate) fn learn(&mut self, stamp: Stamp)
         ensures { self.new ≡ record self.old { learnt = Some stamp } }
     {
-        let seen = seen_at(&self.part.flight, stamp);
+        let seen = seen_at(self.part.flight(), stamp);
         self.learnt = Learnt::of(stamp, seen);
     }
 
@@ -142,13 +153,14 @@ impl PendingPart {
     {
         let stamp = self.key();
         let PendingPart {
+            id,
             part,
             topics,
             number: _,
             learnt,
         } = self;
         let row = Row {
-            id: part.id(),
+            id,
             stamp,
             topics,
         };
@@ -159,7 +171,7 @@ impl PendingPart {
     pub(crate) fn is_foreign(&self, verdict: &Verdict) -> bool
         ensures { result ≡ is_foreign verdict.now self.now }
     {
-        verdict.id() != self.part.id() || !has_row(verdict.rows(), self.ticket_stamp())
+        verdict.id() != self.id || !has_row(verdict.rows(), self.ticket_stamp())
     }
 
     /// Whether it has learnt another stamp.
@@ -178,7 +190,7 @@ impl PendingPart {
     {
         Keyed {
             key: self.key(),
-            id: self.part.id(),
+            id: self.id,
         }
     }
 }

@@ -16,7 +16,7 @@ use std::marker::Model;
 #[derive(Drop)]
 pub struct Verdict {
     id: TxnId,
-    rows: SmallVec<Stamp, 1>,
+    rows: SmallVec<Stamp, 2>,
     stamp: Stamp,
 }
 
@@ -44,7 +44,7 @@ impl Verdict {
     }
 
     /// What these rows decide.
-    pub(crate) fn of(id: TxnId, rows: SmallVec<Stamp, 1>) -> Verdict
+    pub(crate) fn of(id: TxnId, rows: SmallVec<Stamp, 2>) -> Verdict
         requires { RisesBy (λ row. row.topic.0) rows.items }
         ensures { result ≡ record { id = id; rows = rows.items } }
     {

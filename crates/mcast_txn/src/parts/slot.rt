@@ -32,7 +32,7 @@ impl<T> MadeWith<Global> for Slot<T> {
 pub(crate) fn free_slots<T: Drop>(
     alloc: Global,
     topics: &[Topic],
-) -> Result<SmallVec<Slot<T>, 1>, NoMemory>
+) -> Result<SmallVec<Slot<T>, 2>, NoMemory>
     ensures { IfOk result (λ slots. slots.items ≡ map free_slot topics.now) }
 {
     let mut slots = SmallVec::with_capacity(alloc, topics.len())?;
