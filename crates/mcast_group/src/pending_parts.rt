@@ -100,11 +100,22 @@ impl PendingParts {
     }
 
     /// The index of the transaction's part, or else the one at which it would come.
+    #[inline(always)]
     pub(crate) fn search(&self, id: TxnId) -> Result<usize, usize>
         ensures found { IfOk result (λ i. position (λ p. same_id p.part.id id) self.now ≡ Some i) }
         ensures absent { OnErr result (position (λ p. same_id p.part.id id) self.now ≡ None) }
         ensures index { IfErr result (IsIndexPast (λ p. id_lt p.part.id id) self.now) }
     {
+        match self.parts.back() {
+            None => return Err(0),
+            Some(last) if last.is_before(id) => return Err(self.parts.len()),
+            Some(_) => {}
+        }
+        self.searched(id)
+    }
+
+    /// The same, by halving.
+    fn searched(&self, id: TxnId) -> Result<usize, usize> {
         let index = self.index_for(id);
         let Some(there) = self.parts.get(index) else {
             return Err(index);
@@ -116,9 +127,20 @@ impl PendingParts {
     }
 
     /// The index of the transaction's part.
+    #[inline(always)]
     pub(crate) fn index_of(&self, id: TxnId) -> Option<usize>
         ensures { result ≡ position (λ p. same_id p.part.id id) self.now }
     {
+        if let Some(first) = self.parts.front()
+            && first.id() == id
+        {
+            return Some(0);
+        }
+        if let Some(last) = self.parts.back()
+            && last.id() == id
+        {
+            return Some(self.parts.len() - 1);
+        }
         self.search(id).ok()
     }
 

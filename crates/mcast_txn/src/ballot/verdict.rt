@@ -10,6 +10,7 @@ use crate::stamp::Stamp;
 use smallvec::SmallVec;
 use std::alloc::Global;
 use std::marker::Model;
+use stomp_frame::NoMemory;
 
 /// What the tickets of a transaction decide: each of its topics with the number that it gave, and the greatest of
 /// these as its stamp. In contracts it is the transaction and these rows.
@@ -32,24 +33,45 @@ impl Model for Verdict {
 }
 
 impl Verdict {
-    /// Room for a verdict.
-    pub(crate) fn blank(alloc: Global, id: TxnId) -> Verdict
-        ensures { result ≡ record { id = id; rows = [] } }
-    {
-        Verdict {
-            id,
-            rows: SmallVec::new(alloc),
-            stamp: Stamp::ZERO,
+    /// A verdict on these topics that no number is put into yet.
+    #[inline(always)]
+    pub(crate) fn unset(alloc: Global, id: TxnId, topics: &[Topic]) -> Result<Verdict, NoMemory> {
+        let mut rows = SmallVec::with_capacity(alloc, topics.len())?;
+        for &topic in topics {
+            rows.push(Stamp { n: 0, topic })?;
         }
+        Ok(Verdict {
+            id,
+            rows,
+            stamp: Stamp::ZERO,
+        })
     }
 
-    /// What these rows decide.
-    pub(crate) fn of(id: TxnId, rows: SmallVec<Stamp, 2>) -> Verdict
-        requires { RisesBy (λ row. row.topic.0) rows.items }
-        ensures { result ≡ record { id = id; rows = rows.items } }
-    {
-        let stamp = greatest(&rows);
-        Verdict { id, rows, stamp }
+    /// Its topic at this index gave this number.
+    #[inline(always)]
+    pub(crate) fn put(&mut self, index: usize, n: u64) {
+        let topic = self.rows[index].topic;
+        let row = Stamp { n, topic };
+        self.rows[index] = row;
+        self.stamp = self.stamp.later(row);
+    }
+
+    /// The index of a topic's row.
+    #[inline(always)]
+    pub(crate) fn index_of(&self, topic: Topic) -> Option<usize> {
+        self.rows
+            .binary_search_by_key(&topic.0, |row| row.topic.0)
+            .ok()
+    }
+
+    /// Its rows.
+    pub(crate) fn into_rows(self) -> SmallVec<Stamp, 2> {
+        let Verdict {
+            id: _,
+            rows,
+            stamp: _,
+        } = self;
+        rows
     }
 
     /// The transaction.
@@ -86,14 +108,3 @@ impl Verdict {
     }
 }
 
-/// The greatest of some stamps, or zero where there is none.
-#[tactic(auto, using(crate::proofs::StampLemmas::greatest_push))]
-fn greatest(stamps: &[Stamp]) -> Stamp
-    ensures { result ≡ greatest stamps.now }
-{
-    let mut latest = Stamp::ZERO;
-    for &stamp in stamps {
-        latest = latest.later(stamp);
-    }
-    latest
-}

@@ -28,20 +28,6 @@ impl<T> MadeWith<Global> for Slot<T> {
     }
 }
 
-/// A free slot for each topic.
-pub(crate) fn free_slots<T: Drop>(
-    alloc: Global,
-    topics: &[Topic],
-) -> Result<SmallVec<Slot<T>, 2>, NoMemory>
-    ensures { IfOk result (λ slots. slots.items ≡ map free_slot topics.now) }
-{
-    let mut slots = SmallVec::with_capacity(alloc, topics.len())?;
-    for &topic in topics {
-        slots.push(Slot { topic, held: None })?;
-    }
-    Ok(slots)
-}
-
 /// Where a topic's slot is.
 pub(crate) fn index_of<T>(slots: &[Slot<T>], topic: Topic) -> Option<usize>
     requires { RisesBy (λ slot. slot.topic.0) slots.now }
