@@ -125,7 +125,7 @@ proctype Sender(byte me) {
   mtype:parker was = Empty;
   do
   :: made < COMMITS ->
-     /* commit.rt propose_all: by rising topic, each told to unturned.rt before, and then proposed behind its lock,
+     /* commit.rt propose_all: by rising topic, each told to topic_set.rt before, and then proposed behind its lock,
         locked_topic.rt propose; the second topic may refuse */
      owes = true; flight = me * COMMITS + made;
      PROPOSE(0);

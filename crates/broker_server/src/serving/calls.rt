@@ -5,7 +5,7 @@ ghost use Rattle.std.specs.Option.{is_some};
 ghost use Rattle.mcast_txn.specs.Transaction.{topics_of};
 ghost use Rattle.broker_server.specs.BrokerRows.{AsksInOrder, Unsubscribes};
 ghost use Rattle.broker_server.specs.Lines.{IsRoomAt};
-ghost use Rattle.broker_server.specs.UnturnedTopics.{none_unturned};
+ghost use Rattle.broker_server.specs.TopicSets.{AreNone, empty_set};
 
 use crate::conversation::{BrokerCalls, ConversationFault};
 use crate::serving::activity::Activity;
@@ -22,7 +22,7 @@ use crate::serving::seated_sub::SeatedSub;
 use crate::serving::shortened::Shortened;
 use crate::serving::span::Span;
 use crate::serving::stay::Stay;
-use crate::serving::unturned::Unturned;
+use crate::serving::topic_set::TopicSet;
 use crate::serving::wait_news::WaitNews;
 use crate::serving::waiting::{Stop, Waiting};
 use crate::spelled::Spelled;
@@ -75,7 +75,7 @@ pub(crate) struct Calls<'a, R: Wait + Log + Clock, W: Side, T: Side> {
     meter: Arc<Meter>,
     /// What its light transactions count as.
     light: LightCharge,
-    unturned: Unturned,
+    unturned: TopicSet,
     /// How many transactions were committed, or refused, since their topics were turned or the heads told.
     commits: u64,
     /// That is done at once when they are so many: half of what a queue holds, and one at least.
@@ -118,7 +118,7 @@ impl<'a, R: Wait + Log + Clock, W: Side, T: Side> Calls<'a, R, W, T> {
         worker: Worker<W>,
     ) -> Calls<'a, R, W, T>
         ensures worker { result.worker ≡ worker }
-        ensures unturned { result.unturned ≡ none_unturned }
+        ensures unturned { result.unturned ≡ empty_set }
         ensures commits { result.commits ≡ 0 }
         ensures subs { (result.subs ≡ 0) × (result.begun ≡ 0) }
         ensures wait { result.waiting.wait ≡ record { counted_at = None; news = None } }
@@ -131,7 +131,7 @@ impl<'a, R: Wait + Log + Clock, W: Side, T: Side> Calls<'a, R, W, T> {
             bell,
             meter,
             light: LightCharge::new(),
-            unturned: Unturned::new(alloc),
+            unturned: TopicSet::new(),
             commits: 0,
             most: hub.running.half(),
             heard: 0,
@@ -360,10 +360,10 @@ impl<'a, R: Wait + Log + Clock, W: Side, T: Side> Calls<'a, R, W, T> {
 
     /// Turns the topics of what was committed, or refused, since that was done.
     pub(crate) fn turn_now(&mut self)
-        ensures { self.new ≡ record self.old { unturned = none_unturned; commits = 0; heard = 0 } }
+        ensures turned { AreNone self.new.unturned }
+        ensures same { self.new ≡ record self.old { unturned = self.new.unturned; commits = 0; heard = 0 } }
     {
-        self.hub.turn_those(self.rt, &self.unturned);
-        self.unturned.clear();
+        self.hub.turn_those(self.rt, &mut self.unturned);
         self.commits = 0;
         self.heard = 0;
     }
@@ -372,14 +372,14 @@ impl<'a, R: Wait + Log + Clock, W: Side, T: Side> Calls<'a, R, W, T> {
     /// connection that never takes has committed more than one transaction. A head would have to be woken for one, and
     /// who takes, too, has to have what it sent itself.
     pub(crate) fn turn_topics(&mut self)
-        ensures { self.new ≡ record self.old { unturned = none_unturned; commits = 0; heard = 0 } }
+        ensures turned { AreNone self.new.unturned }
+        ensures same { self.new ≡ record self.old { unturned = self.new.unturned; commits = 0; heard = 0 } }
     {
         if self.subs > 0 || self.commits <= 1 {
-            self.hub.turn_those(self.rt, &self.unturned);
+            self.hub.turn_those(self.rt, &mut self.unturned);
         } else {
-            self.hub.tell_heads(self.rt, &self.unturned);
+            self.hub.tell_heads(self.rt, &mut self.unturned);
         }
-        self.unturned.clear();
         self.commits = 0;
         self.heard = 0;
     }
@@ -393,10 +393,10 @@ impl<'a, R: Wait + Log + Clock, W: Side, T: Side> Calls<'a, R, W, T> {
 
     /// Turns their topics. Who sleeps isn't told: the seat is put into this list, for whom this thread then stands in.
     pub(crate) fn turn_for(&mut self, asleep: &mut Vec<Arc<Seat>>)
-        ensures { self.new ≡ record self.old { unturned = none_unturned; commits = 0; heard = 0 } }
+        ensures turned { AreNone self.new.unturned }
+        ensures same { self.new ≡ record self.old { unturned = self.new.unturned; commits = 0; heard = 0 } }
     {
-        self.hub.turn_for(self.rt, &self.unturned, asleep);
-        self.unturned.clear();
+        self.hub.turn_for(self.rt, &mut self.unturned, asleep);
         self.commits = 0;
         self.heard = 0;
     }
@@ -721,7 +721,7 @@ impl<'a, R: Wait + Log + Clock, W: Side, T: Side> Calls<'a, R, W, T> {
     /// A transaction was committed, or refused. The topics are turned once these are half as many as a queue holds.
     fn count_commit(&mut self)
         ensures few { (self.new.commits ≡ 0) ⊎ (self.new.commits < self.new.most) }
-        ensures turned { self.new.commits ≡ 0 → self.new.unturned ≡ none_unturned }
+        ensures turned { self.new.commits ≡ 0 → AreNone self.new.unturned }
         ensures most { self.new.most ≡ self.old.most }
     {
         self.commits = self.commits.saturating_add(1);

@@ -4,6 +4,7 @@ ghost use Rattle.std.specs.Prelude.{◌≡◌, ◌≤◌, ◌++◌, length, take
 ghost use Rattle.std.specs.Option.{option_map};
 ghost use Rattle.mcast_txn.specs.Transaction.{topics_of};
 ghost use Rattle.broker_server.specs.Lines.{IsRoomFrom};
+ghost use Rattle.broker_server.specs.TopicSets.{AreNone};
 
 use crate::serving::bell::Bell;
 use crate::serving::figures::Figures;
@@ -12,8 +13,8 @@ use crate::serving::room_made::RoomMade;
 use crate::serving::running::Running;
 use crate::serving::seat::Seat;
 use crate::serving::topic_seats::TopicSeats;
+use crate::serving::topic_set::TopicSet;
 use crate::serving::totals::Totals;
-use crate::serving::unturned::Unturned;
 use crate::serving::waiters::Waiters;
 use crate::serving::why_left::WhyLeft;
 use broker_locks::{NoRoom, PartOctets, Reserved, Side};
@@ -92,30 +93,40 @@ impl<R: Wait, W: Side, T: Side> Hub<R, W, T> {
         self.heads.as_slice()
     }
 
-    /// Tells the heads of these topics. What they are to be turned for was done before.
-    pub(crate) fn tell_heads(&self, rt: &R, unturned: &Unturned) {
-        for topic in unturned.topics() {
-            self.set_due(rt, topic.0 as usize);
+    /// Takes these topics out, and tells the heads of them. What they are to be turned for was done before.
+    pub(crate) fn tell_heads(&self, rt: &R, unturned: &mut TopicSet)
+        ensures { AreNone unturned.new }
+    {
+        for _ in rt.forever() {
+            match unturned.take() {
+                Some(topic) => self.set_due(rt, topic.0 as usize),
+                None => return,
+            }
         }
-        if unturned.may_be_any() {
-            self.set_all_due(rt);
-        }
+        unreachable!()
     }
 
-    /// Turns these topics, in place of their heads. One that is due stays so.
-    pub(crate) fn turn_those(&self, rt: &R, unturned: &Unturned) {
-        for topic in unturned.topics() {
-            self.turn_now(rt, topic.0 as usize);
+    /// Takes these topics out, and turns them, in place of their heads. One that is due stays so.
+    pub(crate) fn turn_those(&self, rt: &R, unturned: &mut TopicSet)
+        ensures { AreNone unturned.new }
+    {
+        for _ in rt.forever() {
+            match unturned.take() {
+                Some(topic) => self.turn_now(rt, topic.0 as usize),
+                None => return,
+            }
         }
-        if unturned.may_be_any() {
-            self.set_all_due(rt);
-        }
+        unreachable!()
     }
 
     /// Whether these topics have few seats, each and together, and the threads of all of these sleep.
-    pub(crate) fn few_sleep(&self, rt: &R, unturned: &Unturned) -> bool {
+    pub(crate) fn few_sleep(&self, rt: &R, unturned: &TopicSet) -> bool {
+        let mut rest = unturned.copy();
         let mut asleep = 0usize;
-        for topic in unturned.topics() {
+        for _ in rt.forever() {
+            let Some(topic) = rest.take() else {
+                return true;
+            };
             let Some(seats) = self.topics.get(topic.0 as usize) else {
                 return false;
             };
@@ -127,26 +138,22 @@ impl<R: Wait, W: Side, T: Side> Hub<R, W, T> {
                 return false;
             }
         }
-        true
+        unreachable!()
     }
 
     /// As `turn_those`, but who sleeps isn't told: the seat is put into this list.
-    pub(crate) fn turn_for(&self, rt: &R, unturned: &Unturned, asleep: &mut Vec<Arc<Seat>>) {
-        for topic in unturned.topics() {
+    pub(crate) fn turn_for(&self, rt: &R, unturned: &mut TopicSet, asleep: &mut Vec<Arc<Seat>>)
+        ensures { AreNone unturned.new }
+    {
+        for _ in rt.forever() {
+            let Some(topic) = unturned.take() else {
+                return;
+            };
             if let Some(seats) = self.turned(rt, topic.0 as usize) {
                 seats.ring_awake(rt, asleep);
             }
         }
-        if unturned.may_be_any() {
-            self.set_all_due(rt);
-        }
-    }
-
-    /// Tells the heads of all topics.
-    fn set_all_due(&self, rt: &R) {
-        for at in 0..self.topics.len() {
-            self.set_due(rt, at);
-        }
+        unreachable!()
     }
 
     /// The topic of this index is due: its head is told, unless it was told and hasn't turned the topic since.
