@@ -1,7 +1,7 @@
 //! Calls of a broker, none of which goes on where one finds no memory: `bench/refuse` refuses each growth in turn, and sees
 //! that the test then fails each time. So a call that finds no memory, and answers as if it had, doesn't pass.
 
-ghost use Rattle.std.specs.Prelude.{◌≡◌, ◌≤◌};
+ghost use Rattle.std.specs.Prelude.{◌≡◌};
 
 use super::flights::next_stamp;
 use super::jobs::{Job, Opening, with_broker};
