@@ -37,7 +37,7 @@ fails_reader : (version : Bool) (why : ConversationFault) (receipt : Option (Lis
 fails_reader version why receipt old new (inl e) = ap (λ (s : ConversationState). s.reader) e
 fails_reader version why receipt old new (inr e) = ap (λ (s : ConversationState). s.reader) e
 
-performs_reader : (action : Action) (old : ConversationState) (asked : List BrokerRow) (result : Done) (new : ConversationState) → Performs action old asked result new → new.reader ≡ old.reader
+pub performs_reader : (action : Action) (old : ConversationState) (asked : List BrokerRow) (result : Done) (new : ConversationState) → Performs action old asked result new → new.reader ≡ old.reader
 performs_reader (actions.Connected client) old asked result new (inl (gate, a, r, e)) = ap (λ (s : ConversationState). s.reader) e
 performs_reader (actions.Connected client) old asked result new (inr (why, a, r, e)) = ap (λ (s : ConversationState). s.reader) e
 performs_reader actions.Nothing old asked result new (a, r, e) = ap (λ (s : ConversationState). s.reader) e
@@ -55,14 +55,14 @@ answers_reader frames old asked new (inl (a, e)) = ap (λ (s : ConversationState
 answers_reader frames old asked new (inr (inl (any, a, none_yet, fails))) = fails_reader (tells_version None fault.NoReply) fault.NoReply None old new fails
 answers_reader frames old asked new (inr (inr (any, a, left, e))) = ap (λ (s : ConversationState). s.reader) e
 
-concludes_reader : (done : Done) (frames : List RawFrame) (receipt : Option (List ℕ)) (old : ConversationState) (asked : List BrokerRow) (new : ConversationState) → Concludes done frames receipt old asked new → new.reader ≡ old.reader
+pub concludes_reader : (done : Done) (frames : List RawFrame) (receipt : Option (List ℕ)) (old : ConversationState) (asked : List BrokerRow) (new : ConversationState) → Concludes done frames receipt old asked new → new.reader ≡ old.reader
 concludes_reader (Ok u) frames receipt old asked new answers = answers_reader frames old asked new answers
 concludes_reader (Err why) frames receipt old asked new (a, fails) = fails_reader (tells_version None why) why receipt old new fails
 
 does_reader : (step : Step) (old : ConversationState) (asked : List BrokerRow) (new : ConversationState) → Does step old asked new → new.reader ≡ old.reader
 does_reader step old asked new a = concludes_reader a.result _ step.receipt a.between a.rest new a.concludes ∙ performs_reader step.action old a.first a.result a.between a.performs
 
-acts_reader : (step : Step) (old : ConversationState) (asked : List BrokerRow) (new : ConversationState) → Acts step old asked new → new.reader ≡ old.reader
+pub acts_reader : (step : Step) (old : ConversationState) (asked : List BrokerRow) (new : ConversationState) → Acts step old asked new → new.reader ≡ old.reader
 acts_reader step old asked new (inl does) = does_reader step old asked new does
 acts_reader step old asked new (inr (sends, is, a, e)) = ap (λ (s : ConversationState). s.reader) e
 

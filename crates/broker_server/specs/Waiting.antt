@@ -1,13 +1,17 @@
 -- What a connection does whose transactions wait for room, beside one whose transactions find it at once.
-use Rattle.std.specs.Prelude.{◌≡◌, ◌⊎◌, ℕ, Bool, true, false, not, List, [], ◌∷◌, ◌++◌, filter, map, Option, Some, None}
+use Rattle.std.specs.Prelude.{◌≡◌, ◌≢◌, ◌⊎◌, ℕ, Bool, true, false, not, List, [], ◌∷◌, ◌++◌, filter, map, Option, Some, None, IsSome, Ok}
 use Rattle.std.specs.List.{list_any}
 use Rattle.mcast_txn.specs.declared.draft.sent_message.SentMessage.{SentMessage}
+use Rattle.stomp_frame.specs.Reader.{Unread, unread_of, with_piece}
 use Rattle.stomp_session.specs.declared.action.Action.TheVariants as actions
+use Rattle.delivery.specs.Core.Steps.{reader_limits}
+use Rattle.broker_server.specs.declared.conversation.conversation_fault.ConversationFault.TheVariants as fault
+use Rattle.broker_server.specs.declared.conversation.held.Held.{Held}
 use Rattle.broker_server.specs.declared.conversation.held.Held.TheVariants.{Waits, Owes}
 use Rattle.broker_server.specs.BrokerRows.{BrokerRow, AsksRoom}
-use Rattle.broker_server.specs.Conversations.{ConversationState, Done, OpenSubState, Performs}
+use Rattle.broker_server.specs.Conversations.{ConversationState, Done, EndsByError, OpenSubState, Performs, closing_rows}
 use Rattle.broker_server.specs.Delivering.{DeliversRound}
-use Rattle.broker_server.specs.Hearing.{GoesOn, Hears}
+use Rattle.broker_server.specs.Hearing.{GoesOn, Hears, HearsOrKeeps}
 
 -- ---- what happens to it
 
@@ -22,14 +26,14 @@ pub data Round : Type 0 where
   -- some of what waits was written
   Wrote : Round
 
--- It went through these rounds, in order. Nothing was read while something was held or an item was half out, and
--- it didn't leave by what was delivered. So a `SEND` that finds no room at first is heard, its queues are taken,
--- and it goes on.
+-- It went through these rounds, in order, and didn't leave by what was delivered. A piece may come at any
+-- time: while something is held, or an item is half out, it is put to the stream, and nothing is taken. So a
+-- `SEND` that finds no room at first is heard, an UNSUBSCRIBE comes behind it, its queues are taken, and it
+-- goes on.
 abbrev pub GoesThrough : List Round → ConversationState → ConversationState → Type 0
 GoesThrough [] old new = new ≡ old
 GoesThrough (Heard piece asked ∷ rounds) old new =
-    (old.held ≡ None) × (old.half ≡ false) × (between : ConversationState) × Hears piece old asked between
-    × GoesThrough rounds between new
+    (between : ConversationState) × HearsOrKeeps piece old asked between × GoesThrough rounds between new
 GoesThrough (WentOn asked ∷ rounds) old new =
     (between : ConversationState) × GoesOn old asked between × GoesThrough rounds between new
 GoesThrough (Delivered asked ∷ rounds) old new =
@@ -91,28 +95,92 @@ but_items c = record c {
   flags = 0;
 }
 
+-- a connection but for that, and for what it hasn't read
+abbrev pub but_unread : ConversationState → ConversationState
+but_unread c = record (but_items c) { reader = unread_of reader_limits }
+
+-- ---- what is kept
+
+-- a reader that was fed these pieces
+abbrev pub fed : List (List ℕ) → Unread → Unread
+fed [] r = r
+fed (piece ∷ more) r = fed more (with_piece r piece)
+
+-- A connection that keeps these pieces: they are in its stream, in order, and nothing of them was taken. So
+-- one that keeps `UNSUBSC` and `RIBE` has `UNSUBSCRIBE` behind what was unread.
+abbrev pub keeping : List (List ℕ) → ConversationState → ConversationState
+keeping kept c = record c { reader = fed kept c.reader }
+
+-- What one holds, beside another that heard all but the kept pieces: the transaction that waits in the other,
+-- too; or its answer, since it was committed by these calls, as an item was half out, and one is then so; or,
+-- where none waits in the other, but the pieces, which came while an item was half out. So where a COMMIT
+-- with the receipt `r` waits in the other, it waits in this one, or its flight is out, and this one owes `r`.
+abbrev pub HasDone
+    : List (List ℕ) → ConversationState → List BrokerRow → Held → ConversationState → Type 0
+HasDone kept other asked what new =
+    ((other.held ≡ Some what) × (asked ≡ []) × (new ≡ other))
+    ⊎ ((sends : List SentMessage) × (receipt : Option (List ℕ)) × (done : Done)
+    × (other.held ≡ Some (Waits sends receipt)) × (what ≡ Owes done receipt)
+    × Performs (actions.Commit sends) (record other { held = None }) asked done new)
+    ⊎ ((other.held ≡ None) × (kept ≢ []) × (what ≡ Owes (Ok tt) None) × (asked ≡ []) × (new ≡ other))
+
+-- It holds that yet, and has done no more, and it keeps the pieces. So where a `SEND` waits in both, and an
+-- UNSUBSCRIBE is kept behind it, nothing was asked for that, and the subscription is open in both.
+abbrev pub HoldsYet
+    : List (List ℕ) → ConversationState → List BrokerRow → ConversationState → Type 0
+HoldsYet kept other asked one =
+    (one.exit ≡ None) × (what : Held) × (new : ConversationState) × HasDone kept other asked what new
+    × (but_items one ≡ but_items (keeping kept (record new { held = Some what })))
+
+-- It held something, and there was no memory for one of the kept pieces: it left by that, and what it held is
+-- dropped, as those are. So a `SEND` that waits in both is never committed; and where this one owes a
+-- RECEIPT, that is never written.
+abbrev pub LeavesHolding
+    : List (List ℕ) → ConversationState → List BrokerRow → ConversationState → Type 0
+LeavesHolding kept other asked one =
+    (kept ≢ []) × (rows : List BrokerRow) × (before last : ConversationState)
+    × HoldsYet kept other rows before × (asked ≡ rows ++ closing_rows before)
+    × EndsByError fault.NoMemory None before last × (but_unread one ≡ but_unread last)
+
 -- ---- laws
 
--- One connection is as another, but for what is delivered; or the other owes the answer to a transaction that
--- waits yet in this one, and did this for it.
-abbrev pub IsAsOrBefore : ConversationState → List BrokerRow → ConversationState → Type 0
-IsAsOrBefore one asked other =
-    ((asked ≡ []) × (but_items one ≡ but_items other))
-    ⊎ ((sends : List SentMessage) × (receipt : Option (List ℕ)) × (one.held ≡ Some (Waits sends receipt))
-    × (done : Done) × (between : ConversationState)
-    × Performs (actions.Commit sends) (record one { held = None }) asked done between
-    × (but_items (record between { held = Some (Owes done receipt) }) ≡ but_items other))
+-- One is as another, but for what is delivered. Where both have left, what isn't read never is, and may
+-- differ: so where a DISCONNECT was kept, and a piece behind it, this one has that piece in its stream, and
+-- the other dropped it.
+abbrev pub IsAs : ConversationState → ConversationState → Type 0
+IsAs one other =
+    (but_items one ≡ but_items other) ⊎ (IsSome other.exit × (but_unread one ≡ but_unread other))
 
--- Whatever a connection goes through, another that hears the same pieces, one after the other, asks the same
--- of the broker for them, in the same order, but for room, and is then as that one, but for what is delivered.
--- So where a `SEND` waits, and an UNSUBSCRIBE came behind it, the flight is committed first, and once, however
--- often it went on and was delivered to; and where the `SEND` waits still, nothing was asked for the
--- UNSUBSCRIBE. Where that one owes an answer, since an item is half out, its transaction waits in the other yet.
+-- How one stands beside another that heard all but the kept pieces, with what it asked beyond that: none is
+-- kept, nothing is held, and it is as the other; or it holds something yet; or it left holding it.
+abbrev pub StandsBeside
+    : List (List ℕ) → ConversationState → List BrokerRow → ConversationState → Type 0
+StandsBeside kept other asked one =
+    ((kept ≡ []) × (asked ≡ []) × (other.held ≡ None) × IsAs one other)
+    ⊎ HoldsYet kept other asked one
+    ⊎ LeavesHolding kept other asked one
+
+-- These pieces came to a connection, at whatever times, and it asked this for their frames: as another asks
+-- that hears them one after the other, in the same order, but for room, and it is then as that one. Where it
+-- holds something yet, the other has heard all but the kept pieces: nothing was asked for those, and they are
+-- in the stream, each once. So one that asks for an UNSUBSCRIBE before the `SEND` that waits in front of it
+-- keeps no order, nor does one that drops a kept piece, or hears it twice (`taken_before`, `dropped_piece`,
+-- `heard_twice`).
+abbrev pub KeepsOrder
+    : List (List ℕ) → List BrokerRow → ConversationState → ConversationState → Type 0
+KeepsOrder came rows old new =
+    (heard kept : List (List ℕ)) × (came ≡ heard ++ kept)
+    × (asked last : List BrokerRow) × (other : ConversationState) × HearsEach heard old asked other
+    × StandsBeside kept other last new × (but_room (asked ++ last) ≡ but_room rows)
+
+-- Whatever a connection goes through, it keeps the order. Since that is so after any rounds, what was kept is
+-- done as the other does it, once this one goes on and holds nothing any more (`all_heard`). So where a
+-- `SEND` waits, and an UNSUBSCRIBE comes behind it, with it or in later pieces, the flight is committed
+-- first, and once, however often it went on and was delivered to.
 abbrev pub WaitsInOrder : Type 0
 WaitsInOrder =
     (rounds : List Round) (old new : ConversationState) → old.held ≡ None → GoesThrough rounds old new
-    → (asked last : List BrokerRow) × (other : ConversationState) × HearsEach (pieces rounds) old asked other
-    × IsAsOrBefore other last new × (but_room (asked ++ last) ≡ but_room (asked_for_frames rounds))
+    → KeepsOrder (pieces rounds) (asked_for_frames rounds) old new
 
 -- That other one found room each time that it asked, where no transaction waits in the end.
 abbrev pub FindsRoomAtOnce : Type 0

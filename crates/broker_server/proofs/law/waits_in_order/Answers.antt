@@ -1,4 +1,5 @@
-use Rattle.broker_server.proofs.WaitingLemmas.{finds_room_at_once, waits_in_order}
+use Rattle.broker_server.proofs.FoundLemmas.{finds_room_at_once}
+use Rattle.broker_server.proofs.WaitingLemmas.{waits_in_order}
 use Rattle.broker_server.proofs.law.waits_in_order.Goals as goal
 
 pub returns : goal.returns
