@@ -35,8 +35,9 @@ byte items[TOPICS];
 /* The line in which a connection stands: 1 and the topic. */
 byte stands[COMERS];
 
-/* line.rt is_awaited and is_first, room.rt reserve: it finds room where nobody stands, or as the first. */
-#define FINDS(t) (part[t] == 0 && items[t] == 0 && (len(line[t]) == 0 || line[t] ? [eval(me)]))
+/* line.rt is_closed and is_first, room.rt reserve: it finds room where nobody stands, or as the first, or where it owes turns
+   and overtakes them. */
+#define FINDS(t) (part[t] == 0 && items[t] == 0 && (len(line[t]) == 0 || owes > 0 || line[t] ? [eval(me)]))
 #define HAS_ITEM ((items[0] | items[1]) & BIT(me))
 
 /* waiting.rt leaves: the next one is the first */

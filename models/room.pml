@@ -29,6 +29,9 @@
 #ifndef HALF                     /* who takes tells of so many */
 #define HALF 1
 #endif
+#ifndef OVERTAKING               /* so many overtake each first of a line, at most */
+#define OVERTAKING 1
+#endif
 #ifndef WIRE                     /* items that may wait to be written */
 #define WIRE 1
 #endif
@@ -174,8 +177,8 @@ bool reads[CONNS] = true;        /* the client: the system takes what is written
 mtype:frame frame[CONNS] = Nothing;
 
 /* A topic: its lock, the parts that are pending there, those of them whose verdict isn't set, the room that is
-   reserved; its seats' lock; its line: the lock, the mark, who stands there; how many have a place to keep room there,
-   and the second line, for those. */
+   reserved; its seats' lock; its line: the lock, the mark, who stands there, how many may have overtaken the first; how many
+   have a place to keep room there, and the second line, for those. */
 bool topic[TOPICS];
 byte pending[TOPICS];
 byte undecided[TOPICS];
@@ -184,6 +187,8 @@ bool seats[TOPICS];
 bool locked[TOPICS];
 byte mark[TOPICS];
 chan line[TOPICS] = [SENDERS] of { byte };
+byte overtaking[TOPICS];
+byte overtaken[TOPICS];          /* how many did: for the property alone */
 byte keepers[TOPICS];
 chan second[TOPICS] = [SENDERS] of { byte };
 #ifdef HEADS
@@ -275,7 +280,7 @@ inline line_ring(at, what) {
 /* line.rt leave: the next one is rung. Its bell is a step with the mark: nobody else sees it before. */
 inline line_leave(at, c) {
   d_step { !locked[at] ->
-    line[at] ?? eval(c); stands[c] = 0;
+    line[at] ?? eval(c); stands[c] = 0; overtaking[at] = 0; overtaken[at] = 0;
     if
     :: len(line[at]) == 0 -> mark[at] = Nobody
     :: else ->
@@ -289,7 +294,7 @@ inline line_leave(at, c) {
 inline line_join(at, c) {
   d_step { !locked[at] ->
     some = len(line[at]) == 0; line[at] ! c; stands[c] = 1 + at;
-    if :: some -> mark[at] = Anything :: else fi }
+    if :: some -> overtaking[at] = 0; overtaken[at] = 0; mark[at] = Anything :: else fi }
 }
 /* keepers.rt take_or_join: whether there was a place, and nobody waited for one */
 inline take_or_join(at, c) {
@@ -315,7 +320,9 @@ inline give_place_back(at, c) {
 #endif
   }
 }
-/* Who finds room came where nobody stood in the line, or is its first. */
+/* Who finds room came where nobody stood in the line, or is its first; or owed turns, and so many such at most overtake a
+   first, and one of each other connection that might already when that became the first. */
+#define OVERTOOK(at) d_step { if :: len(line[at]) > 0 -> overtaken[at]++; assert(overtaken[at] < OVERTAKING + SENDERS) :: else fi }
 #ifdef FAIR
 #define CAME_FIRST(at, c) skip
 #else
@@ -781,6 +788,14 @@ inline give_places_back(c) {
       assert(e <= MOST); e = 0 } \
     u = 0; w = 0
 
+/* Who owes turns may overtake those who wait, as it comes: line.rt is_closed. */
+#define MAY_OVERTAKE (!tries && commits > 0)
+#ifdef M_OVERTAKES_ALWAYS
+#define LETS_OVERTAKE(at) true
+#else
+#define LETS_OVERTAKE(at) d_step { overtaking[at] < OVERTAKING -> overtaking[at]++ }
+#endif
+
 /* A connection: its thread. */
 proctype Connection(byte c; byte asks) {
   SCRATCH;
@@ -981,7 +996,17 @@ on:                                                              /* the next top
      :: why > 0 -> why = 0
      fi
 #else
-  :: t < TOPICS && (lacks || mark[t] != Nobody)
+  :: t < TOPICS && !lacks && mark[t] != Nobody && MAY_OVERTAKE ->
+     if                                                          /* line.rt lets_overtake */
+     :: LETS_OVERTAKE(t) ->
+        reserve_at(t, c, 0);
+        if
+        :: why == 0 -> OVERTOOK(t); goto on
+        :: why > 0 -> why = 0
+        fi
+     :: overtaking[t] >= OVERTAKING
+     fi
+  :: t < TOPICS && (lacks || mark[t] != Nobody && !MAY_OVERTAKE)
 #endif
   fi;
   if                                                             /* calls.rt room_at */

@@ -596,15 +596,25 @@ impl<'a, R: Wait + Log + Clock, W: Side, T: Side> Calls<'a, R, W, T> {
         self.room_as_first(txn)
     }
 
-    /// Room at the topics of this transaction. Where there is none, and it owes no turns, it waits. Out of memory for the
-    /// reservation it is room at none of them: a commit that lacks memory, too, says so, and waits for nothing.
+    /// Whether it may overtake who waits for room: where it owes turns, and fewer than it does at once. It would else turn what
+    /// it owes, and wait, for each of its transactions.
+    fn may_overtake(&self) -> bool
+        ensures { result ≡ true → 0 < self.now.commits }
+    {
+        self.commits > 0 && self.commits < AT_ONCE
+    }
+
+    /// Room at the topics of this transaction, before those who wait there, where it may overtake them. Where there is none,
+    /// and it owes no turns, it waits. Out of memory for the reservation it is room at none of them: a commit that lacks
+    /// memory, too, says so, and waits for nothing.
     #[tactic(auto, using(crate::proofs::LineLemmas::first_of))]
     #[inline(always)]
     fn room_at(&mut self, txn: &Txn) -> Option<Reserved>
         ensures { IfSome result (λ room. (room ≡ topics_of txn.now) ⊎ (room ≡ [])) }
     {
         let mut room = self.hub.running.broker.no_room();
-        match self.hub.reserve(self.rt, txn, &mut room) {
+        let may_overtake = self.may_overtake();
+        match self.hub.reserve(self.rt, txn, may_overtake, &mut room) {
             Ok(()) => Some(room),
             Err(NoRoom::Full { topic: _, sub: _ }) if self.commits == 0 => self.tries(txn, room),
             Err(NoRoom::Full { topic: _, sub: _ }) => {

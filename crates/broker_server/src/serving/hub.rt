@@ -214,16 +214,32 @@ impl<R: Wait, W: Side, T: Side> Hub<R, W, T> {
         }
     }
 
-    /// Room at each topic of this transaction, where nobody waits for it: at all of them, or at the first of them.
+    /// Whether who comes for room at this topic, and may overtake those who wait, or not, has to stand in the line there.
+    #[inline(always)]
+    fn is_closed(&self, topic: Topic, may_overtake: bool) -> bool {
+        match self.topics.get(topic.0 as usize) {
+            Some(seats) => seats.line().is_closed(may_overtake),
+            None => false,
+        }
+    }
+
+    /// Room at each topic of this transaction, where nobody waits for it, or who does may be overtaken: at all of them, or at
+    /// the first of them.
     #[tactic(auto, using(crate::proofs::LineLemmas::put_none, crate::proofs::LineLemmas::put_next, crate::proofs::LineLemmas::put_at, crate::proofs::LineLemmas::put_all))]
     #[inline(always)]
-    pub(crate) fn reserve(&self, rt: &R, txn: &Txn, room: &mut Reserved) -> Result<(), NoRoom>
+    pub(crate) fn reserve(
+        &self,
+        rt: &R,
+        txn: &Txn,
+        may_overtake: bool,
+        room: &mut Reserved,
+    ) -> Result<(), NoRoom>
         ensures all { OnOk result (room.new ≡ room.old ++ topics_of txn.now) }
         ensures first { OnErr result (IsRoomFrom room.old (topics_of txn.now) room.new) }
     {
         let topics = txn.topics().as_slice();
         for topic in topics {
-            if self.is_awaited(*topic) {
+            if self.is_closed(*topic, may_overtake) {
                 return Err(NoRoom::Full {
                     topic: *topic,
                     sub: None,

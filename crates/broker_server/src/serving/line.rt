@@ -7,6 +7,9 @@ use crate::serving::waiters::Waiters;
 use std::sync::atomic::{AtomicU64, Ordering};
 use std::sync::{Mutex, Wait};
 
+/// So many transactions overtake the first of a line at most (our choice): as many as a queue holds.
+const MOST_OVERTAKING: u64 = 64;
+
 /// Those who wait for room at a topic, in the order in which they came; and for what the first waits. What room there is
 /// is the first's. Who waits writes its mark and then asks for room again; who makes room has made it before it reads the
 /// mark: so either the one that waits finds it, or it is rung. That needs all these steps in one order: each is SeqCst,
@@ -15,6 +18,8 @@ use std::sync::{Mutex, Wait};
 pub(crate) struct Line {
     /// The code of the mark, which is written under the lock, or by the first.
     mark: AtomicU64,
+    /// How many may have overtaken the first since it is that.
+    overtaking: AtomicU64,
     queue: Mutex<Queue>,
 }
 
@@ -23,6 +28,7 @@ impl Line {
     pub(crate) fn new() -> Line {
         Line {
             mark: AtomicU64::new(NOBODY),
+            overtaking: AtomicU64::new(0),
             queue: Mutex::new(Queue::new()),
         }
     }
@@ -41,6 +47,19 @@ impl Line {
     #[inline(always)]
     pub(crate) fn is_awaited(&self) -> bool {
         self.mark.load(Ordering::SeqCst) != NOBODY
+    }
+
+    /// Whether who comes, and may overtake those who wait, or not, has to stand in the line: where somebody waits there. Each
+    /// first is overtaken by so many at most.
+    #[inline(always)]
+    pub(crate) fn is_closed(&self, may_overtake: bool) -> bool {
+        self.is_awaited() && !(may_overtake && self.lets_overtake())
+    }
+
+    /// Whether one more may overtake the first.
+    #[inline(never)]
+    fn lets_overtake(&self) -> bool {
+        self.overtaking.fetch_add(1, Ordering::SeqCst) < MOST_OVERTAKING
     }
 
     /// Room may have been made so: rings the first, if it may be what that waits for. Once it was rung it will look, and
@@ -79,6 +98,7 @@ impl Line {
         let mut queue = self.queue.lock(rt);
         waiters.join(rt, &mut queue, desk);
         if queue.is_first(desk) {
+            self.overtaking.store(0, Ordering::SeqCst);
             self.set_mark(Mark::Anything);
         }
     }
@@ -94,6 +114,7 @@ impl Line {
         let was_first = queue.is_first(desk);
         waiters.leave(rt, &mut queue, desk);
         if was_first {
+            self.overtaking.store(0, Ordering::SeqCst);
             self.ring_first(rt, waiters, &queue);
         }
     }
