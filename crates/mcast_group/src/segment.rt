@@ -85,7 +85,7 @@ impl Segment {
         ensures row { self.old ≡ result ∷ [] }
         ensures none { self.new ≡ [] }
     {
-        self.rows.pop_front().unwrap()
+        self.rows.pop_back().unwrap()
     }
 
     /// Its rows, which aren't moved.
