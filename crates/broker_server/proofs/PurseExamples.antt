@@ -119,8 +119,9 @@ not_counted = refl
 pub price_is_known : price_at (after_falling_behind (after_catching_up (taking 10000) (at 105)) (at 200)) (at 200) ≡ Sixtieth
 price_is_known = refl
 
--- one that was behind for less than a tenth costs nothing then, and so does one that kept up
-pub soon_caught_up : price_at (after_falling_behind (after_catching_up (after_falling_behind newcomer (at 100)) (record { 0 = 10099999999 })) (at 200)) (at 200) ≡ Free
+-- one that was behind for less than a tenth costs a sixtieth then, as long as buffers may have caught up for it; one
+-- that kept up costs nothing
+pub soon_caught_up : price_at (after_falling_behind (after_catching_up (after_falling_behind newcomer (at 100)) (record { 0 = 10099999999 })) (at 200)) (at 200) ≡ Sixtieth
 soon_caught_up = refl
 
 pub kept_up : price_at (after_falling_behind (after_keeping_up newcomer) (at 200)) (at 200) ≡ Free

@@ -142,11 +142,16 @@ fast_tenth pace = if is_proven pace then fast else twice_a_tenth fast
 abbrev pub slow_tenth : Pace → ℕ
 slow_tenth pace = if nat_le most_buffered pace.ever then slow else twice_a_tenth slow
 
--- the price after so long a time of being behind: in the first tenth the one that is known, else by what
--- was taken since it is behind, over a second at most
+-- the price in the first tenth of being behind: the one that is known, but a sixtieth at least where the system's
+-- buffers may have caught up for it
+abbrev pub first_price : Pace → Price
+first_price pace = if is_proven pace then Free else dearer pace.known Sixtieth
+
+-- the price after so long a time of being behind: in the first tenth that one, else by what was taken since it
+-- is behind, over a second at most
 abbrev pub price_behind : Pace → Moment → ℕ → Price
 price_behind pace now time =
-    if nat_lt time tenth then pace.known else
+    if nat_lt time tenth then first_price pace else
     pace_price (is_taking pace.tenths.tenths now (min time second) fast (fast_tenth pace))
     (is_taking pace.tenths.tenths now (min time second) slow (slow_tenth pace))
 

@@ -8,6 +8,7 @@ ghost use Rattle.broker_server.specs.Purses.{
   after_keeping_up,
   after_octets,
   fast_tenth,
+  first_price,
   has_rate,
   is_taking,
   is_proven,
@@ -46,7 +47,7 @@ pub(crate) struct Pace {
     /// How many octets were taken since then.
     taken: u64,
     tenths: Tenths,
-    /// The price in the first tenth of a second of being behind: what it was when it was behind last.
+    /// What it cost when it was behind last, of which the price in the first tenth of a second of being behind is made.
     known: Price,
     /// Whether it was passed over since it is behind, and isn't waited for at any topic until it catches up.
     given_up: bool,
@@ -242,6 +243,18 @@ impl Pace {
         }
     }
 
+    /// What waiting for it costs in the first tenth of a second of being behind: as it was behind last, but a sixtieth at
+    /// least where the system's buffers may have caught up for it.
+    fn first_price(&self) -> Price
+        ensures { result ≡ first_price self.now }
+    {
+        if self.is_proven() {
+            Price::Free
+        } else {
+            self.known.dearer(Price::Sixtieth)
+        }
+    }
+
     /// What waiting for it costs at this moment.
     pub(crate) fn price(&self, now: Moment) -> Price
         ensures { result ≡ price_at self.now now }
@@ -251,7 +264,7 @@ impl Pace {
         };
         let time = now.since(since);
         if time.0 < TENTH {
-            return self.known;
+            return self.first_price();
         }
         let time = Span(time.0.min(SECOND));
         let is_fast = self.is_taking(now, time, FAST, self.fast_tenth());
