@@ -596,7 +596,7 @@ impl<'a, R: Wait + Log + Clock, W: Side, T: Side> Calls<'a, R, W, T> {
         self.room_as_first(txn)
     }
 
-    /// Whether it may overtake who waits for room: where it owes turns, and fewer than it does at once. It would else turn what
+    /// Whether it may overtake those who wait for room: it owes turns, and fewer than it does at once. Else it would turn what
     /// it owes, and wait, for each of its transactions.
     fn may_overtake(&self) -> bool
         ensures { result ≡ true → 0 < self.now.commits }

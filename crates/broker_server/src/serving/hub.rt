@@ -214,7 +214,7 @@ impl<R: Wait, W: Side, T: Side> Hub<R, W, T> {
         }
     }
 
-    /// Whether who comes for room at this topic, and may overtake those who wait, or not, has to stand in the line there.
+    /// Whether who comes for room at this topic has to stand in the line there, where it may overtake or may not.
     #[inline(always)]
     fn is_closed(&self, topic: Topic, may_overtake: bool) -> bool {
         match self.topics.get(topic.0 as usize) {

@@ -49,8 +49,8 @@ impl Line {
         self.mark.load(Ordering::SeqCst) != NOBODY
     }
 
-    /// Whether who comes, and may overtake those who wait, or not, has to stand in the line: where somebody waits there. Each
-    /// first is overtaken by so many at most.
+    /// Whether who comes for room has to stand in the line: somebody waits there, and it may not overtake, or so many
+    /// have overtaken the first already.
     #[inline(always)]
     pub(crate) fn is_closed(&self, may_overtake: bool) -> bool {
         self.is_awaited() && !(may_overtake && self.lets_overtake())
