@@ -304,7 +304,11 @@ inline talk_close(c, why) {
   }
   e = 0
 }
+#ifdef M_LOOKS_AT_ALL
+#define LOOKS_AT(c, s) (held[s] && TAKER(s) == c)
+#else
 #define LOOKS_AT(c, s) (held[s] && TAKER(s) == c && (known[c] & FLAG(s)))
+#endif
 /* taking.rt drain_flagged, of each queue in turn: takes until none is there, asks for a lag where it took as many as
    the queue holds, and stops where the wire is full; one whose flag isn't set is passed by */
 inline talk_drain(c, any) {

@@ -321,12 +321,16 @@ inline give_place_back(at, c) {
   }
 }
 /* Who finds room came where nobody stood in the line, or is its first; or owed turns, and so many such at most overtake a
-   first, and one of each other connection that might already when that became the first. */
-#define OVERTOOK(at) d_step { if :: len(line[at]) > 0 -> overtaken[at]++; assert(overtaken[at] < OVERTAKING + SENDERS) :: else fi }
+   first, and one of each other connection that was just asking when that became the first. */
 #ifdef FAIR
 #define CAME_FIRST(at, c) skip
 #else
-#define CAME_FIRST(at, c) assert(!late && (len(line[at]) == 0 || stands[c] != 1 + at || line[at] ? [eval(c)]))
+#define CAME_FIRST(at, c) \
+  assert(!late && (len(line[at]) == 0 || stands[c] != 1 + at || line[at] ? [eval(c)])); \
+  if \
+  :: len(line[at]) > 0 && stands[c] != 1 + at -> overtaken[at]++; assert(overtaken[at] < OVERTAKING + SENDERS) \
+  :: else \
+  fi
 #endif
 /* broker.rt reserve_at, room.rt reserve behind the topic's lock: 0, or for what it waits. Who is waited for is looked at
    from this one on. So many places have to be free as the part asks for; one of them is reserved. */
@@ -1001,7 +1005,7 @@ on:                                                              /* the next top
      :: LETS_OVERTAKE(t) ->
         reserve_at(t, c, 0);
         if
-        :: why == 0 -> OVERTOOK(t); goto on
+        :: why == 0 -> goto on
         :: why > 0 -> why = 0
         fi
      :: overtaking[t] >= OVERTAKING
