@@ -2,6 +2,7 @@
 pub mod Carried
 pub mod Decided
 pub mod DraftSends
+pub mod RowIndex
 pub mod Sealed
 pub mod SealedSends
 pub mod Shares

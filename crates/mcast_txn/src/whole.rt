@@ -1,10 +1,11 @@
 //! A transaction in one block.
 
-ghost use Rattle.std.specs.Prelude.{◌≡◌, ◌<◌, length};
+ghost use Rattle.std.specs.Prelude.{◌≡◌, ◌<◌, ◌≤◌, length};
 ghost use Rattle.std.specs.Arc.{arc_value};
+ghost use Rattle.mcast_txn.specs.Draft.{max_sends};
 ghost use Rattle.mcast_txn.specs.Flight.{flight_id};
-ghost use Rattle.mcast_txn.specs.Inner.Sealed.{IsSealed};
-ghost use Rattle.mcast_txn.specs.Inner.SealedSends.{all_sends};
+ghost use Rattle.mcast_txn.specs.Inner.Sealed.{AreSealed, IsSealed};
+ghost use Rattle.mcast_txn.specs.Whole.{sends_of};
 ghost use Rattle.mcast_txn.specs.TopicSet.{IsTopicSet};
 ghost use Rattle.mcast_txn.specs.Transaction.{topics_of};
 
@@ -43,11 +44,10 @@ impl Model for Whole {
     ghost use Rattle.mcast_txn.specs.Whole.{WholeState};
     ghost use Rattle.mcast_txn.specs.Inner.Carried.{flight_carried};
     ghost use Rattle.mcast_txn.specs.Inner.Sealed.{IsSealed};
-    ghost use Rattle.mcast_txn.specs.Inner.SealedSends.{all_sends};
 
     ghost Value = { WholeState };
 
-    ghost view = { λ w. record { flight = flight_carried w.flight; sends = all_sends w.sends } };
+    ghost view = { λ w. record { flight = flight_carried w.flight; stored = w.sends } };
 
     ghost invariant = { λ w. IsSealed w.sends w.topics };
 }
@@ -57,7 +57,7 @@ impl Whole {
     #[inline(always)]
     pub(crate) fn new(alloc: Global, sends: SealedSends, topics: TopicSet) -> Whole
         requires { IsSealed sends topics }
-        ensures { result.sends ≡ all_sends sends }
+        ensures { result.stored ≡ sends }
     {
         Whole {
             flight: Carried::Own(Flight::unnamed(alloc)),
@@ -68,7 +68,7 @@ impl Whole {
 
     /// Its SENDs.
     pub(crate) fn into_sends(self) -> SealedSends
-        ensures { all_sends result ≡ self.sends }
+        ensures { result ≡ self.stored }
     {
         let Whole {
             flight,
@@ -92,7 +92,7 @@ impl Whole {
 
     /// Its topics.
     pub(crate) fn topics(&self) -> &TopicSet
-        ensures value { result.now ≡ topics_of self.now.sends }
+        ensures value { result.now ≡ topics_of (sends_of self.now) }
         ensures rising { IsTopicSet result.now }
     {
         &self.topics
@@ -100,8 +100,10 @@ impl Whole {
 
     /// Its SENDs.
     pub(crate) fn sends(&self) -> &SealedSends
-        ensures are { all_sends result.now ≡ self.now.sends }
-        ensures some { 0 < length self.now.sends }
+        ensures are { result.now ≡ self.now.stored }
+        ensures sealed { AreSealed result.now }
+        ensures some { 0 < length (sends_of self.now) }
+        ensures few { length (sends_of self.now) ≤ max_sends }
     {
         &self.sends
     }
@@ -110,7 +112,7 @@ impl Whole {
     #[inline(always)]
     pub(crate) fn name(&mut self, alloc: Global, id: TxnId)
         ensures id { flight_id self.new.flight ≡ id }
-        ensures sends { self.new.sends ≡ self.old.sends }
+        ensures sends { self.new.stored ≡ self.old.stored }
     {
         match &mut self.flight {
             Carried::Own(flight) => flight.id = id,
@@ -121,7 +123,7 @@ impl Whole {
     /// It is sent in another flight.
     pub(crate) fn put_flight(&mut self, flight: Arc<Flight>)
         ensures flight { self.new.flight ≡ arc_value flight }
-        ensures sends { self.new.sends ≡ self.old.sends }
+        ensures sends { self.new.stored ≡ self.old.stored }
     {
         self.flight = Carried::Other(flight);
     }
@@ -129,7 +131,7 @@ impl Whole {
     /// It is counted so, where it is in its own flight.
     #[inline(always)]
     pub(crate) fn put_charge(&mut self, charge: Arc<Charge>)
-        ensures { self.new.sends ≡ self.old.sends }
+        ensures { self.new.stored ≡ self.old.stored }
     {
         if let Carried::Own(flight) = &mut self.flight {
             flight.charge = Some(charge);

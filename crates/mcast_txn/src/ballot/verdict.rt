@@ -1,7 +1,9 @@
 //! What the tickets of a transaction decide.
 
-ghost use Rattle.std.specs.Prelude.{◌≡◌, [], List};
+ghost use Rattle.std.specs.Prelude.{◌≡◌, ◌≤◌, List, map, IfNone, IfOk, IfSome, HoldsAt, slice_set};
 ghost use Rattle.mcast_txn.specs.Ballot.{row_at};
+ghost use Rattle.mcast_txn.specs.Inner.RowIndex.{IsRowOf, HasNoRow};
+ghost use Rattle.mcast_txn.specs.Inner.TicketSlots.{unset_row};
 ghost use Rattle.mcast_txn.specs.Stamp.{greatest};
 ghost use Rattle.mcast_txn.specs.Lists.{RisesBy};
 
@@ -33,39 +35,51 @@ impl Model for Verdict {
 }
 
 impl Verdict {
-    /// A verdict on these topics that no number is put into yet.
+    /// What is decided where none of these topics has given its number: each has 0 until it is put.
     #[inline(always)]
-    pub(crate) fn unset(alloc: Global, id: TxnId, topics: &[Topic]) -> Result<Verdict, NoMemory> {
+    #[tactic(auto, using(crate::proofs::StampLemmas::greatest_push))]
+    pub(crate) fn unset(alloc: Global, id: TxnId, topics: &[Topic]) -> Result<Verdict, NoMemory>
+        requires { RisesBy (λ t. t.0) topics.now }
+        ensures { IfOk result
+            (λ verdict. verdict ≡ record { id = id; rows = map unset_row topics.now }) }
+    {
         let mut rows = SmallVec::with_capacity(alloc, topics.len())?;
+        let mut stamp = Stamp::ZERO;
         for &topic in topics {
-            rows.push(Stamp { n: 0, topic })?;
+            let row = Stamp { n: 0, topic };
+            rows.push_reserved(row);
+            stamp = stamp.later(row);
         }
-        Ok(Verdict {
-            id,
-            rows,
-            stamp: Stamp::ZERO,
-        })
+        Ok(Verdict { id, rows, stamp })
     }
 
-    /// Its topic at this index gave this number.
+    /// Puts the row of a topic in place of the one that is there, whose number is at most its own.
     #[inline(always)]
-    pub(crate) fn put(&mut self, index: usize, n: u64) {
-        let topic = self.rows[index].topic;
-        let row = Stamp { n, topic };
+    pub(crate) fn put(&mut self, index: usize, row: Stamp)
+        requires of_topic { IsRowOf row.topic self.old.rows index }
+        requires raised { HoldsAt (λ old. old.n ≤ row.n) self.old.rows index }
+        ensures { self.new ≡ record self.old { rows = slice_set self.old.rows index row } }
+    {
         self.rows[index] = row;
         self.stamp = self.stamp.later(row);
     }
 
-    /// The index of a topic's row.
+    /// The index of the topic's row.
     #[inline(always)]
-    pub(crate) fn index_of(&self, topic: Topic) -> Option<usize> {
+    pub(crate) fn index_of(&self, topic: Topic) -> Option<usize>
+        ensures found { IfSome result (IsRowOf topic self.now.rows) }
+        ensures absent { IfNone result (HasNoRow topic self.now.rows) }
+        ensures rising { RisesBy (λ row. row.topic.0) self.now.rows }
+    {
         self.rows
             .binary_search_by_key(&topic.0, |row| row.topic.0)
             .ok()
     }
 
     /// Its rows.
-    pub(crate) fn into_rows(self) -> SmallVec<Stamp, 2> {
+    pub(crate) fn into_rows(self) -> SmallVec<Stamp, 2>
+        ensures { result.items ≡ self.rows }
+    {
         let Verdict {
             id: _,
             rows,
@@ -94,10 +108,8 @@ impl Verdict {
     pub fn row(&self, topic: Topic) -> Option<u64>
         ensures { result ≡ row_at topic self.now.rows }
     {
-        match self.rows.binary_search_by_key(&topic.0, |row| row.topic.0) {
-            Ok(index) => Some(self.rows[index].n),
-            Err(_) => None,
-        }
+        let index = self.index_of(topic)?;
+        Some(self.rows[index].n)
     }
 
     /// The transaction's stamp: the greatest of its rows.
@@ -107,4 +119,3 @@ impl Verdict {
         self.stamp
     }
 }
-

@@ -49,11 +49,12 @@ impl SealedSends {
     #[inline(always)]
     pub(crate) fn nth_to(&self, topic: Topic, at: usize) -> (usize, &SentMessage)
         requires { at < length (part_of topic (all_sends self.now)) }
-        ensures { slice_get (part_of topic (all_sends self.now)) at ≡ Some (record {
+        ensures is { slice_get (part_of topic (all_sends self.now)) at ≡ Some (record {
           index = result.0;
           headers = result.1.now.headers;
           body = result.1.now.body;
         }) }
+        ensures within { result.0 < length (all_sends self.now) }
     {
         match self {
             SealedSends::One(send) => (0, send),
@@ -95,11 +96,12 @@ fn count_among(sends: &[SentMessage], topic: Topic) -> usize
 /// That which is at index `at` of those of these SENDs that go to this topic, with its index among all.
 fn nth_among(sends: &[SentMessage], topic: Topic, at: usize) -> (usize, &SentMessage)
     requires { at < length (part_of topic sends.now) }
-    ensures { slice_get (part_of topic sends.now) at ≡ Some (record {
+    ensures is { slice_get (part_of topic sends.now) at ≡ Some (record {
       index = result.0;
       headers = result.1.now.headers;
       body = result.1.now.body;
     }) }
+    ensures within { result.0 < length sends.now }
 {
     let mut left = at;
     for index in 0..sends.len() {

@@ -39,10 +39,11 @@ impl Model for Txn {
     ghost use Rattle.std.specs.Prelude.{List};
     ghost use Rattle.std.specs.Arc.{arc_value};
     ghost use Rattle.mcast_txn.specs.declared.draft.sent_message.SentMessage.{SentMessage};
+    ghost use Rattle.mcast_txn.specs.Whole.{sends_of};
 
     ghost Value = { List SentMessage };
 
-    ghost view = { λ t. (arc_value t.whole).sends };
+    ghost view = { λ t. sends_of (arc_value t.whole) };
 }
 
 impl Txn {

@@ -4,6 +4,7 @@ ghost use Rattle.std.specs.Prelude.{◌≡◌, ◌<◌, length, IfOk, IfSome, sl
 ghost use Rattle.std.specs.Arc.{arc_value};
 ghost use Rattle.mcast_txn.specs.Flight.{flight_id};
 ghost use Rattle.mcast_txn.specs.Part.{data_of, flight_of_part, part_at};
+ghost use Rattle.mcast_txn.specs.Whole.{sends_of};
 
 use crate::draft::TopicSet;
 use crate::flight::Flight;
@@ -34,7 +35,7 @@ impl Part {
     pub(crate) fn at(whole: &Arc<Whole>, topic: Topic) -> Result<Part, NoMemory>
         ensures own { IfOk result (λ part. flight_of_part part ≡ (arc_value whole.now).flight) }
         ensures data { IfOk result (λ part. data_of part
-            ≡ part_at (flight_id (arc_value whole.now).flight) (arc_value whole.now).sends topic) }
+            ≡ part_at (flight_id (arc_value whole.now).flight) (sends_of (arc_value whole.now)) topic) }
     {
         Ok(Part {
             topic,

@@ -1,15 +1,12 @@
 //! Lists by topics.
 
-ghost use Rattle.std.specs.Prelude.{◌≡◌, ◌≢◌, IfOk, IfNone, IfSome, map};
-ghost use Rattle.mcast_txn.specs.declared.id.Topic.{Topic};
-ghost use Rattle.mcast_txn.specs.Inner.SlotIndex.{IsIndexOf, HasNone, free_slot};
+ghost use Rattle.std.specs.Prelude.{IfNone, IfSome};
+ghost use Rattle.mcast_txn.specs.Inner.SlotIndex.{IsIndexOf, HasNone};
 ghost use Rattle.mcast_txn.specs.Lists.{RisesBy};
 
 use crate::id::Topic;
-use smallvec::SmallVec;
 use std::alloc::Global;
 use std::default::MadeWith;
-use stomp_frame::NoMemory;
 
 /// A topic, and the value stored for it, if any.
 #[derive(Drop)]
