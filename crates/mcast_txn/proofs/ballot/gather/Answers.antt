@@ -1,12 +1,17 @@
-use Rattle.std.proofs.Common.{arith}
+use Rattle.std.proofs.Common.{false, arith}
 use Rattle.mcast_txn.proofs.TicketLemmas.{gathers_none, gathers_more, gathers_same, gathers_all}
+use Rattle.mcast_txn.proofs.ballot.gather.Goals.{then-is_given, else-is_given}
 use Rattle.mcast_txn.proofs.ballot.gather.Goals as goal
 
 pub loop-index-init : goal.loop-index-init
 loop-index-init c = gathers_none c.args.rows.now c.args.given.now
 
 pub loop-index-preserved : goal.loop-index-preserved
-loop-index-preserved c = ?
+loop-index-preserved c =
+    elim c.if-is_given.branch [
+      then-is_given w ↦ ?
+      | else-is_given w ↦ ?
+    ]
 
 pub returns : goal.returns
-returns c = ?
+returns c = gathers_all c.args.rows.now c.loop-index.rows c.args.given.now c.loop-index.many c.loop-index.index c.requires c.loop-index.invariant (omega arith)
