@@ -154,21 +154,21 @@ module _ (rows now : List Stamp) (given : List Bool) (known : length given ≡ l
       ∙ (ap (λ front. front ++ row_of (ticket_slot (get_or (zip rows given) i (d, b)))) (sym gathers.front) ∙ ap (λ (row : Stamp × Bool). take many now ++ row_of (ticket_slot row)) pair)
 
   -- a number was given: its row goes to the others
-  pub gathers_more : (x : Stamp) (b : Bool) → x ≡ get_or now i x → get_or given i b ≡ true → Gathers rows (set now many x) given (many + 1) (i + 1)
-  gathers_more x b read yes =
-    let row : x ≡ get_or rows i x = read ∙ same_row x in
-    let pair : (get_or rows i x, get_or given i b) ≡ (x, true) = rw (← row, yes) refl in
+  pub gathers_more : (d : Stamp) (b : Bool) → get_or given i b ≡ true → Gathers rows (set now many (get_or now i d)) given (many + 1) (i + 1)
+  gathers_more d b full =
+    let x = get_or now i d in
+    let pair : (get_or rows i d, get_or given i b) ≡ (x, true) = rw (same_row d, full) refl in
     record {
-    front = take_more_set now many x (omega (arith, gathers.behind, gathers.long, known)) ∙ sym (rows_more x b ∙ ap (λ (row : Stamp × Bool). take many now ++ row_of (ticket_slot row)) pair);
-    rest = drop-set-lt (i + 1) now many x (omega (arith, gathers.behind)) ∙ rest_more;
-    behind = omega (arith, gathers.behind);
-    long = length-set now many x ∙ gathers.long;
-  }
+      front = take_more_set now many x (omega (arith, gathers.behind, gathers.long, known)) ∙ sym (rows_more d b ∙ ap (λ (row : Stamp × Bool). take many now ++ row_of (ticket_slot row)) pair);
+      rest = drop-set-lt (i + 1) now many x (omega (arith, gathers.behind)) ∙ rest_more;
+      behind = omega (arith, gathers.behind);
+      long = length-set now many x ∙ gathers.long;
+    }
 
   -- none was given: its row stays behind
   pub gathers_same : (b : Bool) → get_or given i b ≡ false → Gathers rows now given many (i + 1)
-  gathers_same b no =
-    let none : take many now ++ row_of (ticket_slot (get_or rows i zero_stamp, get_or given i b)) ≡ take many now = rw no (append-nil (take many now)) in
+  gathers_same b free =
+    let none : take many now ++ row_of (ticket_slot (get_or rows i zero_stamp, get_or given i b)) ≡ take many now = rw free (append-nil (take many now)) in
     record {
     front = sym (rows_more zero_stamp b ∙ none);
     rest = rest_more;

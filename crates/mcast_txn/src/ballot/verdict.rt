@@ -37,7 +37,6 @@ impl Model for Verdict {
 impl Verdict {
     /// What is decided where none of these topics has given its number: each has 0 until it is put.
     #[inline(always)]
-    #[tactic(auto, using(crate::proofs::StampLemmas::greatest_push))]
     pub(crate) fn unset(alloc: Global, id: TxnId, topics: &[Topic]) -> Result<Verdict, NoMemory>
         requires { RisesBy (λ t. t.0) topics.now }
         ensures { IfOk result
