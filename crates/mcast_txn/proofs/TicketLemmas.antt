@@ -156,25 +156,25 @@ module _ (rows now : List Stamp) (given : List Bool) (known : length given ≡ l
   -- a number was given: its row goes to the others
   pub gathers_more : (d : Stamp) (b : Bool) → get_or given i b ≡ true → Gathers rows (set now many (get_or now i d)) given (many + 1) (i + 1)
   gathers_more d b full =
-    let x = get_or now i d in
-    let pair : (get_or rows i d, get_or given i b) ≡ (x, true) = rw (same_row d, full) refl in
-    record {
-      front = take_more_set now many x (omega (arith, gathers.behind, gathers.long, known)) ∙ sym (rows_more d b ∙ ap (λ (row : Stamp × Bool). take many now ++ row_of (ticket_slot row)) pair);
-      rest = drop-set-lt (i + 1) now many x (omega (arith, gathers.behind)) ∙ rest_more;
-      behind = omega (arith, gathers.behind);
-      long = length-set now many x ∙ gathers.long;
-    }
+      let x = get_or now i d in
+      let pair : ◌≡◌ {A = Stamp × Bool} (get_or rows i d, get_or given i b) (x, true) = rw (same_row d, full) refl in
+      record {
+        front = take_more_set now many x (omega (arith, gathers.behind, gathers.long, known)) ∙ sym (rows_more d b ∙ ap (λ (row : Stamp × Bool). take many now ++ row_of (ticket_slot row)) pair);
+        rest = drop-set-lt (i + 1) now many x (omega (arith, gathers.behind)) ∙ rest_more;
+        behind = omega (arith, gathers.behind);
+        long = length-set now many x ∙ gathers.long;
+      }
 
   -- none was given: its row stays behind
   pub gathers_same : (b : Bool) → get_or given i b ≡ false → Gathers rows now given many (i + 1)
   gathers_same b free =
-    let none : take many now ++ row_of (ticket_slot (get_or rows i zero_stamp, get_or given i b)) ≡ take many now = rw free (append-nil (take many now)) in
-    record {
-    front = sym (rows_more zero_stamp b ∙ none);
-    rest = rest_more;
-    behind = omega (arith, gathers.behind);
-    long = gathers.long;
-  }
+      let none : take many now ++ row_of (ticket_slot (get_or rows i zero_stamp, get_or given i b)) ≡ take many now = rw free (append-nil (take many now)) in
+      record {
+        front = sym (rows_more zero_stamp b ∙ none);
+        rest = rest_more;
+        behind = omega (arith, gathers.behind);
+        long = gathers.long;
+      }
 
 -- nothing was looked at
 pub gathers_none : (rows : List Stamp) (given : List Bool) → Gathers rows rows given 0 0

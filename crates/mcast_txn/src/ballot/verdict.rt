@@ -1,6 +1,6 @@
 //! What the tickets of a transaction decide.
 
-ghost use Rattle.std.specs.Prelude.{◌≡◌, ◌≤◌, List, map, IfNone, IfOk, IfSome, HoldsAt, slice_set};
+ghost use Rattle.std.specs.Prelude.{◌≡◌, ◌≤◌, map, IfNone, IfOk, IfSome, HoldsAt, slice_set};
 ghost use Rattle.mcast_txn.specs.Ballot.{row_at};
 ghost use Rattle.mcast_txn.specs.Inner.RowIndex.{IsRowOf, HasNoRow};
 ghost use Rattle.mcast_txn.specs.Inner.TicketSlots.{unset_row};

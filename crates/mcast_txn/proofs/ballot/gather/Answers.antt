@@ -10,7 +10,7 @@ loop-index-init c = gathers_none c.args.rows.now c.args.given.now
 pub loop-index-preserved : goal.loop-index-preserved
 loop-index-preserved c =
     elim c.if-is_given.branch [
-      then-is_given w ↦
+      | then-is_given w ↦
           rw (w.rows-is, w.many-is) (gathers_more c.args.rows.now c.loop-index.rows c.args.given.now c.requires c.loop-index.many c.loop-index.index c.loop-index.invariant c.loop-index-test.true zero_stamp false w.if-is_given.true)
       | else-is_given w ↦
           rw (w.rows-is, w.many-is) (gathers_same c.args.rows.now c.loop-index.rows c.args.given.now c.requires c.loop-index.many c.loop-index.index c.loop-index.invariant c.loop-index-test.true false w.if-is_given.false)

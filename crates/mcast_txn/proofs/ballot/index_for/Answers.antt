@@ -1,6 +1,5 @@
 use Rattle.std.proofs.Common.{◌≡◌, true, false}
 use Rattle.mcast_txn.specs.Ids.{same_id}
-use Rattle.mcast_txn.specs.declared.stamp.Stamp.{Stamp}
 use Rattle.mcast_txn.specs.Stamp.{zero_stamp}
 use Rattle.mcast_txn.proofs.TicketLemmas.{was_true, answer_not_named, answer_twice, answer_ok}
 use Rattle.mcast_txn.proofs.ballot.index_for.Goals as goal

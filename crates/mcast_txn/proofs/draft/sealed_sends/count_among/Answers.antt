@@ -8,7 +8,7 @@ loop-send-preserved c =
     let i = c.loop-send.send-index in
     let s = c.send-item.result in
     elim c.if-send-topic.branch [
-      then-send-topic w ↦
+      | then-send-topic w ↦
           let more = part_more c.args.topic c.args.sends.now i s c.loop-send-test.true c.send-item.is w.if-send-topic.true in
           record { counted = omega (arith, more, c.loop-send.invariant.counted, w.count-is); few = omega (arith, c.loop-send.invariant.few, w.count-is) }
       | else-send-topic w ↦

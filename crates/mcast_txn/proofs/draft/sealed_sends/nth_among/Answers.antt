@@ -12,7 +12,7 @@ loop-index-preserved c =
     let i = c.loop-index.index in
     let s = c.index-sends-index.result in
     elim c.if-send-topic.branch [
-      then-send-topic+else-left-eq0 w ↦
+      | then-send-topic+else-left-eq0 w ↦
           let more = part_more c.args.topic c.args.sends.now i s c.loop-index-test.true c.index-sends-index.is w.if-send-topic.true in
           omega (arith, more, c.loop-index.invariant, w.left-is, w.if-left-eq0.false)
       | else-send-topic w ↦
