@@ -105,7 +105,7 @@ impl Proposal {
     /// The part, shared once more.
     #[inline(always)]
     pub(crate) fn share(&self) -> Result<Part, NoMemory>
-        ensures data { IfOk result (λ part. data_of part ≡ self.now.part) }
+        ensures part { IfOk result (λ part. data_of part ≡ self.now.part) }
         ensures cell { IfOk result (λ part. cell_of (flight_of_part part) ≡ self.now.cell) }
     {
         self.part.share()

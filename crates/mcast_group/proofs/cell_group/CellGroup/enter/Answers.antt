@@ -40,7 +40,7 @@ invariant_of-self-2 g c =
     let put = c.put.ensures ∙ ap (insert_waiting _) c.make_room.ensures.waiting in
     let many = ap (λ (ws : List Waiting). length ws) put ∙ insert_length _ _ s.waiting.items in
     let notes = ap (λ ns. length ns) c.make_room.ensures.notes in
-    let room = c.in-Ok.ensures.noted in
+    let room = c.in-Ok-make_room.ensures.noted in
     record {
       sound = c.sound-2.ensures;
       ids = ap ids put
