@@ -133,11 +133,17 @@ impl<Q: Outlet + Drop> CellGroup<Q> {
         ensures err { OnErr result (self.new ≡ self.old) }
     {
         let index = self.group.place_for(floor, proposal.part())?;
+        let Ok(part) = proposal.share() else {
+            return Err(ProposeFault::NoMemory);
+        };
         let Ok(()) = make_room(&mut self.waiting, &mut self.notes) else {
             return Err(ProposeFault::NoMemory);
         };
         self.group.sound();
-        let waiting = WaitingPart { id: proposal.id() };
+        let waiting = WaitingPart {
+            id: proposal.id(),
+            part,
+        };
         let ticket = self.group.enter_allowed(floor, index, proposal, counter)?;
         put(&mut self.waiting, waiting);
         self.group.sound();

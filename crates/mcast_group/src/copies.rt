@@ -8,7 +8,6 @@ ghost use Rattle.mcast_txn.specs.Transaction.{TopicPart};
 ghost use Rattle.mcast_group.specs.Inner.Copies.{AreOf, HaveCopies};
 ghost use Rattle.mcast_group.specs.Machine.{Pending};
 
-use crate::pending::PendingPart;
 use crate::pending_parts::PendingParts;
 use mcast_txn::{NoMemory, Part};
 use std::alloc::Global;
@@ -68,11 +67,22 @@ impl Copies {
         }
     }
 
+    /// None, which take no memory.
+    #[inline(always)]
+    pub(crate) fn none(alloc: Global) -> Copies
+        ensures { result ≡ [] }
+    {
+        Copies {
+            first: None,
+            others: Vec::new(alloc),
+        }
+    }
+
     /// `many` copies of a part.
     #[inline(always)]
-    pub(crate) fn of(alloc: Global, part: &PendingPart, many: usize) -> Result<Copies, NoMemory>
+    pub(crate) fn of(alloc: Global, part: &Part, many: usize) -> Result<Copies, NoMemory>
         ensures many { IfOk result (λ copies. length copies ≡ many) }
-        ensures of { IfOk result (λ copies. AreOf part.now.part copies) }
+        ensures of { IfOk result (λ copies. AreOf (data_of part.now) copies) }
     {
         let mut copies = Copies {
             first: None,
@@ -98,8 +108,8 @@ impl Copies {
 
     /// One copy more.
     #[inline(always)]
-    pub(crate) fn add(&mut self, part: &PendingPart) -> Result<(), NoMemory>
-        ensures ok { OnOk result (self.new ≡ self.old ++ part.now.part ∷ []) }
+    pub(crate) fn add(&mut self, part: &Part) -> Result<(), NoMemory>
+        ensures ok { OnOk result (self.new ≡ self.old ++ data_of part.now ∷ []) }
         ensures err { OnErr result (self.new ≡ self.old) }
     {
         let copy = part.share()?;
@@ -125,7 +135,7 @@ pub(crate) fn add_to_each(
         → HaveCopies n pending.now (map (take n) copies.new.items) }
 {
     for i in 0..pending.len() {
-        copies[i].add(pending.at(i))?;
+        copies[i].add(pending.at(i).part())?;
     }
     Ok(())
 }

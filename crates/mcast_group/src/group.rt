@@ -28,8 +28,8 @@ use crate::fault::{CancelFault, LearnFault, NoSub, ProposeFault, SubFault};
 use crate::law::has_one_row_each;
 use crate::log::Log;
 use crate::log_rows::LogRows;
-use crate::pending_parts::PendingParts;
 use crate::pending::PendingPart;
+use crate::pending_parts::PendingParts;
 use crate::proposal::Proposal;
 use crate::row::Row;
 use crate::state::SubState;
@@ -37,7 +37,7 @@ use crate::subscription::Subscription;
 use crate::subscriptions::Subscriptions;
 use crate::ticket_counter::{TicketCounter, Uncounted};
 use crate::verdicts::Verdicts;
-use mcast_txn::{NoMemory, Part, Released, Seen, Stamp, Ticket, Topic, TxnId, Verdict};
+use mcast_txn::{NoMemory, Part, Released, Stamp, Ticket, Topic, TxnId, Verdict};
 use std::alloc::Global;
 use std::collections::VecDeque;
 use std::marker::Model;
@@ -204,7 +204,7 @@ impl<Q: Outlet + Drop> Group<Q> {
         self.subscriptions
             .give_all(needs, self.frontier, &part, &mut copies);
         cut_copies(&mut self.copies, had, self.subscriptions.open_len());
-        let (row, departed) = part.depart();
+        let (row, departed) = part.depart(self.alloc);
         self.rows.push(row);
         self.frontier = departed.stamp();
         Some(departed)
@@ -274,10 +274,10 @@ impl<Q: Outlet + Drop> Group<Q> {
         ensures err { OnErr result (self.new ≡ self.old) }
     {
         let index = self.place_for(floor, &part)?;
-        let Ok(prepared) = Proposal::new(self.alloc, part) else {
+        let Ok(proposal) = Proposal::new(self.alloc, part) else {
             return Err(ProposeFault::NoMemory);
         };
-        self.enter_allowed(floor, index, prepared, &mut Uncounted)
+        self.enter_allowed(floor, index, proposal, &mut Uncounted)
     }
 
     /// Enters a part that the topic doesn't refuse, at the index where it comes, once the counter has counted its
@@ -286,26 +286,26 @@ impl<Q: Outlet + Drop> Group<Q> {
         &mut self,
         floor: Stamp,
         index: usize,
-        prepared: Proposal,
+        proposal: Proposal,
         counter: &mut C,
     ) -> Result<Ticket, ProposeFault>
-        requires own { prepared.part.topic ≡ self.old.topic.topic }
-        requires allowed { propose_fault floor prepared.part self.old.topic ≡ None }
-        requires at { IsIndexPast (λ p. id_lt p.part.id prepared.part.id) self.old.topic.pending index }
+        requires own { proposal.part.topic ≡ self.old.topic.topic }
+        requires allowed { propose_fault floor proposal.part self.old.topic ≡ None }
+        requires at { IsIndexPast (λ p. id_lt p.part.id proposal.part.id) self.old.topic.pending index }
         ensures ticket { IfOk result (λ ticket. ticket ≡ record {
-          id = prepared.part.id;
+          id = proposal.part.id;
           topic = self.old.topic.topic;
           n = next_number floor self.old.topic;
         }) }
         ensures ok { OnOk result (self.new
-            ≡ record self.old { topic = after_propose floor prepared.part self.old.topic }) }
+            ≡ record self.old { topic = after_propose floor proposal.part self.old.topic }) }
         ensures counted { OnOk result (C.counted counter.old counter.new) }
         ensures fault { IfErr result (IsRefusedBy C.refused None counter.old counter.new) }
         ensures err { OnErr result (self.new ≡ self.old) }
     {
-        let id = prepared.id();
+        let id = proposal.id();
         let n = self.clock.max(floor.n) + 1;
-        self.put_in(index, prepared, n, counter)?;
+        self.put_in(index, proposal, n, counter)?;
         Ok(Ticket {
             id,
             topic: self.topic,
@@ -365,21 +365,21 @@ impl<Q: Outlet + Drop> Group<Q> {
     fn put_in<C: TicketCounter>(
         &mut self,
         index: usize,
-        prepared: Proposal,
+        proposal: Proposal,
         n: u64,
         counter: &mut C,
     ) -> Result<(), ProposeFault>
-        requires own { prepared.part.topic ≡ self.old.topic.topic }
+        requires own { proposal.part.topic ≡ self.old.topic.topic }
         requires may { (floor : Stamp) × (n ≡ next_number floor self.old.topic)
-            × (propose_fault floor prepared.part self.old.topic ≡ None) }
-        requires at { IsIndexPast (λ p. id_lt p.part.id prepared.part.id) self.old.topic.pending index }
+            × (propose_fault floor proposal.part self.old.topic ≡ None) }
+        requires at { IsIndexPast (λ p. id_lt p.part.id proposal.part.id) self.old.topic.pending index }
         ensures ok { OnOk result (self.new
-            ≡ record self.old { topic = after_enter n prepared.part self.old.topic }) }
+            ≡ record self.old { topic = after_enter n proposal.part self.old.topic }) }
         ensures counted { OnOk result (C.counted counter.old counter.new) }
         ensures fault { IfErr result (IsRefusedBy C.refused None counter.old counter.new) }
         ensures err { OnErr result (self.new ≡ self.old) }
     {
-        let (part, made) = prepared.into_numbered(self.alloc, n, self.subscriptions.open_len())?;
+        let (part, made) = proposal.into_numbered(self.alloc, n, self.subscriptions.open_len())?;
         self.rows.reserve(self.pending.len() + 1)?;
         self.subscriptions.reserve_each(self.pending.len() + 1)?;
         put(
@@ -520,21 +520,6 @@ impl<Q: Outlet + Drop> Group<Q> {
     {
         self.pending.learn(index, stamp);
         self.clock = self.clock.max(stamp.n);
-    }
-
-    /// The transaction's part learns what the cell of its flight holds, where it holds a verdict that isn't refused: the
-    /// note by which it was read.
-    #[inline(always)]
-    pub(crate) fn learn_seen(&mut self, id: TxnId) -> Option<Seen> {
-        let index = self.pending.index_of(id)?;
-        let (verdict, seen) = self.pending.at(index).part().flight().see()?;
-        has_one_row_each(verdict);
-        if self.pending.learn_fault_at(index, verdict).is_some() {
-            return None;
-        }
-        let stamp = verdict.stamp();
-        self.store(id, index, stamp);
-        Some(seen)
     }
 
     /// Releases until nothing is due.

@@ -6,23 +6,24 @@ ghost use Rattle.mcast_txn.specs.Ids.{id_lt};
 ghost use Rattle.mcast_txn.specs.Part.{data_of};
 ghost use Rattle.mcast_group.specs.Noted.{IsSightOf};
 ghost use Rattle.mcast_group.specs.Inner.Keys.{keyed_of};
+ghost use Rattle.mcast_group.specs.Inner.RowTopics.{IsKeptFor};
 ghost use Rattle.mcast_group.specs.Machine.{has_row, is_foreign, key, has_learnt_other, row_of, ticket_stamp};
 
 use crate::departed::Departed;
 use crate::keys::Keyed;
 use crate::learnt::Learnt;
 use crate::row::Row;
-use mcast_txn::{Flight, NoMemory, Part, Seen, Stamp, TopicSet, TxnId, Verdict};
+use crate::row_topics::RowTopics;
+use mcast_txn::{Flight, Part, Seen, Stamp, TxnId, Verdict};
 use std::alloc::Global;
 use std::marker::Model;
 
 /// A part that is pending: the number of its ticket, and its stamp once that is learnt, with the note by which the cell
-/// of its flight told it.
+/// of its flight told it. Its id lies beside it, so that a search reads no transaction.
 pub(crate) struct PendingPart {
     id: TxnId,
     part: Part,
-    /// The part's topics once more, so that a release takes no memory.
-    topics: TopicSet,
+    topics: RowTopics,
     number: u64,
     learnt: Learnt,
 }
@@ -44,8 +45,7 @@ impl Drop for PendingPart {
 }
 
 impl Model for PendingPart {
-    ghost use Rattle.std.specs.Prelude.{◌≡◌};
-        ghost use Rattle.mcast_txn.specs.Part.{data_of, flight_of_part};
+    ghost use Rattle.mcast_txn.specs.Part.{data_of, flight_of_part};
     ghost use Rattle.mcast_group.specs.Machine.{Pending};
     ghost use Rattle.mcast_group.specs.Inner.Learnt.{IsPart};
 
@@ -53,25 +53,23 @@ impl Model for PendingPart {
 
     ghost view = { λ p. record { part = data_of p.part; number = p.number; learnt = p.learnt.stamp } };
 
-    ghost invariant = { λ p. IsPart (flight_of_part p.part) p.topics
-        (data_of p.part).topics p.learnt.seen × (p.id ≡ (data_of p.part).id) };
+    ghost invariant = { λ p. IsPart p.id (data_of p.part) (flight_of_part p.part) p.topics p.learnt.seen };
 }
 
 impl PendingPart {
-    /// A part that hasn't learnt its stamp.
+    /// A part that hasn't learnt its stamp, with what is kept of its topics.
     #[inline(always)]
-    pub(crate) fn new(alloc: Global, part: Part, number: u64) -> Result<PendingPart, NoMemory>
-        ensures { IfOk result
-            (λ pending. pending ≡ record { part = data_of part; number = number; learnt = None }) }
+    pub(crate) fn new(part: Part, topics: RowTopics, number: u64) -> PendingPart
+        requires { IsKeptFor (data_of part).topics topics }
+        ensures { result ≡ record { part = data_of part; number = number; learnt = None } }
     {
-        let topics = part.topics().copied(alloc)?;
-        Ok(PendingPart {
+        PendingPart {
             id: part.id(),
             part,
             topics,
             number,
             learnt: Learnt::nothing(),
-        })
+        }
     }
 
     /// The transaction.
@@ -93,14 +91,6 @@ impl PendingPart {
         ensures { data_of result.now ≡ self.now.part }
     {
         &self.part
-    }
-
-    /// The part, shared once more.
-    #[inline(always)]
-    pub(crate) fn share(&self) -> Result<Part, NoMemory>
-        ensures { IfOk result (λ part. data_of part ≡ self.now.part) }
-    {
-        self.part.share()
     }
 
     /// Its ticket as a stamp.
@@ -130,13 +120,6 @@ impl PendingPart {
         self.learnt.stamp().is_some()
     }
 
-    /// Its ticket has this number.
-    pub(crate) fn number_as(&mut self, number: u64)
-        ensures { self.new ≡ record self.old { number = number } }
-    {
-        self.number = number;
-    }
-
     /// Takes its stamp, and keeps a note of its flight's cell where that has the stamp.
     pub(crate) fn learn(&mut self, stamp: Stamp)
         ensures { self.new ≡ record self.old { learnt = Some stamp } }
@@ -145,8 +128,8 @@ impl PendingPart {
         self.learnt = Learnt::of(stamp, seen);
     }
 
-    /// Its row of the log, at its key, and itself with its note.
-    pub(crate) fn depart(self) -> (Row, Departed)
+    /// Its row of the log, at its key, and itself with its note: with no memory.
+    pub(crate) fn depart(self, alloc: Global) -> (Row, Departed)
         ensures row { result.0 ≡ row_of self }
         ensures part { result.1.part ≡ self.part }
         ensures stamp { result.1.stamp ≡ key self }
@@ -159,11 +142,8 @@ impl PendingPart {
             number: _,
             learnt,
         } = self;
-        let row = Row {
-            id,
-            stamp,
-            topics,
-        };
+        let topics = topics.into_topics(alloc, part.topics());
+        let row = Row { id, topics, stamp };
         (row, Departed::new(part, stamp, learnt.into_seen()))
     }
 

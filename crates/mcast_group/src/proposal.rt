@@ -7,14 +7,16 @@ ghost use Rattle.mcast_group.specs.Inner.Copies.{AreOf};
 
 use crate::copies::Copies;
 use crate::pending::PendingPart;
+use crate::row_topics::RowTopics;
 use mcast_txn::{NoMemory, Part, Topic, TxnId};
 use std::alloc::Global;
 use std::marker::Model;
 
-/// A part that is to be entered, as it will be among those that are pending, and a copy for each of so many
+/// A part that is to be entered, with what is kept of its topics for its row, and a copy for each of so many
 /// subscriptions. In contracts it is what the part says, and the name of its flight's cell.
 pub struct Proposal {
-    part: PendingPart,
+    part: Part,
+    topics: RowTopics,
     copies: Copies,
     many: usize,
 }
@@ -24,23 +26,27 @@ impl Drop for Proposal {
     fn drop(self) {
         let Proposal {
             part,
+            topics,
             copies,
             many: _,
         } = self;
         drop(part);
+        drop(topics);
         drop(copies);
     }
 }
 
 impl Model for Proposal {
+    ghost use Rattle.mcast_txn.specs.Flight.{cell_of};
+    ghost use Rattle.mcast_txn.specs.Part.{data_of, flight_of_part};
     ghost use Rattle.mcast_group.specs.CellGroup.{ProposalState};
     ghost use Rattle.mcast_group.specs.Inner.Copies.{IsPrepared};
 
     ghost Value = { ProposalState };
 
-    ghost view = { λ p. record { part = p.part.part; cell = 0 } };
+    ghost view = { λ p. record { part = data_of p.part; cell = cell_of (flight_of_part p.part) } };
 
-    ghost invariant = { λ p. IsPrepared p.part p.copies p.many };
+    ghost invariant = { λ p. IsPrepared (data_of p.part) p.topics p.copies p.many };
 }
 
 impl Proposal {
@@ -52,11 +58,11 @@ impl Proposal {
           cell = cell_of (flight_of_part part);
         }) }
     {
-        let part = PendingPart::new(alloc, part, 0)?;
-        let copies = Copies::of(alloc, &part, 0)?;
+        let topics = RowTopics::of(alloc, part.topics())?;
         Ok(Proposal {
             part,
-            copies,
+            topics,
+            copies: Copies::none(alloc),
             many: 0,
         })
     }
@@ -86,14 +92,23 @@ impl Proposal {
     pub fn topic(&self) -> Topic
         ensures { result ≡ self.now.part.topic }
     {
-        self.part().topic()
+        self.part.topic()
     }
 
     /// The part.
     pub fn part(&self) -> &Part
         ensures { data_of result.now ≡ self.now.part }
     {
-        self.part.part()
+        &self.part
+    }
+
+    /// The part, shared once more.
+    #[inline(always)]
+    pub(crate) fn share(&self) -> Result<Part, NoMemory>
+        ensures part { IfOk result (λ part. data_of part ≡ self.now.part) }
+        ensures cell { IfOk result (λ part. cell_of (flight_of_part part) ≡ self.now.cell) }
+    {
+        self.part.share()
     }
 
     /// The part with the number of its ticket, and a copy for each of so many subscriptions: with no memory where it
@@ -111,28 +126,28 @@ impl Proposal {
         ensures copies { IfOk result (λ made. AreOf self.part made.1) }
     {
         let Proposal {
-            mut part,
+            part,
+            topics,
             copies,
             many: had,
         } = self;
         let copies = enough(alloc, &part, copies, had, many)?;
-        part.number_as(number);
-        Ok((part, copies))
+        Ok((PendingPart::new(part, topics, number), copies))
     }
 }
 
 /// A copy for each of so many subscriptions: of these ones, where there are so many of them.
 fn enough(
     alloc: Global,
-    part: &PendingPart,
+    part: &Part,
     copies: Copies,
     had: usize,
     many: usize,
 ) -> Result<Copies, NoMemory>
-    requires of { AreOf part.now.part copies }
+    requires of { AreOf (data_of part.now) copies }
     requires had { had ≤ length copies }
     ensures many { IfOk result (λ made. length made ≡ many) }
-    ensures copies { IfOk result (λ made. AreOf part.now.part made) }
+    ensures copies { IfOk result (λ made. AreOf (data_of part.now) made) }
 {
     if had < many {
         return Copies::of(alloc, part, many);

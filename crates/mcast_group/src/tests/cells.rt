@@ -16,12 +16,7 @@ fn left(group: &mut Group<VecOutlet>) -> Option<(Stamp, bool)> {
 }
 
 /// Enters the part of a transaction to these topics, of which one more is returned.
-fn entered(
-    alloc: Global,
-    group: &mut Group<VecOutlet>,
-    seq: u64,
-    topics: &[u32],
-) -> Option<Part> {
+fn entered(alloc: Global, group: &mut Group<VecOutlet>, seq: u64, topics: &[u32]) -> Option<Part> {
     let part = part_of(alloc, id(seq), topics, group.topic())?;
     let kept = part.share().ok()?;
     group.propose(stamp(0, 0), part).ok()?;
