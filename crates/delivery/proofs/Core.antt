@@ -19,6 +19,7 @@ pub mod SteppedRows
 -- The delivery of every run.
 pub mod Said
 pub mod SenderPlaces
+pub mod ByReading
 pub mod ClaimsStand
 pub mod Speaking
 pub mod ByRun
@@ -27,6 +28,7 @@ pub mod Started
 pub mod NextItem
 pub mod SendsLeft
 pub mod AccountOfRun
+pub mod Actions
 pub mod SaidParts
 pub mod AtNext
 pub mod LagsAsTold

@@ -1,6 +1,7 @@
 -- The proofs of the laws, each in a file of its name, and worked rows.
 pub mod AcceptedIsDue
 pub mod BegunIsOwn
+pub mod ByMoves
 pub mod ClosedAsAnswered
 pub mod ClosedIsSilent
 pub mod EndsAreAnswered

@@ -1,37 +1,27 @@
 -- The account of a run's steps is what the machine answered to its moves, refusals and what was merely done aside.
-use Rattle.delivery.proofs.Words.Std.{◌≡◌, ℕ, ◌+◌, ◌<◌, ◌==◌, Bool, true, false, cond, not, ◌&&◌, ◌⊎◌, inl, inr, List, [], ◌∷◌, ◌++◌, length, Option, Some, None, refl, sym, ap, subst, ◌∙◌, true≢false, ltb-true, false≢true, not-false, slice_get, codes, is_some, option_map, option_map_or, option_or, option_to_list}
-use Rattle.delivery.proofs.Words.Topics.{Topic, TxnId, SentMessage, greatest, first_refusal, In, Item, ProposeFault, Pending, due_part}
-use Rattle.delivery.proofs.Words.Frames.{RawFrame, Action, Command, first_of, Unread, action_by, commit, Held, held_after, is_ended, transactions_left, sends_in, is_known, has_destination, field, topic_of, id_of, transaction_of, send_of}
-use Rattle.delivery.proofs.Words.Lemmas.{NoneHolds, some_same, none_some}
-use Rattle.delivery.proofs.Words.Machine.{due, Run, answers_of, final_world, Objection, refusal_of, accepted_at, World, Leftover, topic_at, connection_at, subscription_at, speaker, start, speaker_number, Move, Answer, world_after, answer_to, move_refusal, move_effect, move_answer, needs_open, needs_idle, undecided_at, find_leftover, oldest_live, or_out_of_memory, commit_answer, proposal_fault, propose_answer, cancel_answer, release_answer, take_answer, leave_answer, next_ticket, end_now, next_txn, run, answers_from, Commits, Subscribes, Unsubscribes, Disconnects, Errs, Lost, Leaves, Proposes, Decides, Withdraws, Cancels, Learns, Releases, Turns, Takes, Connects, AddsTopic}
-use Rattle.delivery.proofs.Words.Core.{TopicList, Event, Outcome, Refusal, ConnectionFault, CoreStep, Reading, frame_in, has_effect, accepted_of, names_after, number_by, account_of, account_of_step, last_of, sends_by, has_closed, replies_to, Core, core_of, moves, session_at, frame_move, topic_moves, is_faulted, is_out_of_memory, unread_at, outcome_of, move_outcome, unless, frame_no_memory, frame_fault, fault_outcomes, frame_outcome, reading_outcomes, cut_of, is_any, reply_outcomes, outcomes, IsCoreRun, accepted_outcomes, outcomes_without, wants_memory, claims_of, claimed_sender, sender_of}
+use Rattle.delivery.proofs.Words.All.{◌≡◌, ℕ, ◌+◌, ◌<◌, ◌==◌, Bool, true, false, cond, not, ◌&&◌, ◌⊎◌, inl, inr, List, [], ◌∷◌, ◌++◌, length, Option, Some, None, refl, sym, ap, subst, ◌∙◌, true≢false, ltb-true, false≢true, not-false, slice_get, codes, is_some, option_map_or, option_or, option_to_list, Topic, TxnId, SentMessage, greatest, first_refusal, In, Item, ProposeFault, Pending, due_part, RawFrame, Action, Command, first_of, Unread, action_by, commit, held_after, is_ended, transactions_left, sends_in, is_known, has_destination, field, transaction_of, send_of, NoneHolds, some_same, due, Run, answers_of, final_world, Objection, refusal_of, accepted_at, World, Leftover, topic_at, connection_at, subscription_at, speaker, start, speaker_number, Move, Answer, world_after, answer_to, move_refusal, move_effect, move_answer, needs_open, undecided_at, find_leftover, oldest_live, or_out_of_memory, commit_answer, proposal_fault, propose_answer, cancel_answer, release_answer, take_answer, leave_answer, next_ticket, end_now, next_txn, run, answers_from, Commits, Subscribes, Unsubscribes, Disconnects, Errs, Lost, Leaves, Proposes, Decides, Withdraws, Cancels, Learns, Releases, Turns, Takes, Connects, AddsTopic, TopicList, Event, Outcome, Refusal, CoreStep, Reading, frame_in, has_effect, accepted_of, names_after, number_by, account_of, account_of_step, last_of, sends_by, has_closed, replies_to, Core, core_of, moves, session_at, frame_move, topic_moves, is_faulted, is_out_of_memory, outcome_of, move_outcome, unless, cut_of, is_any, reply_outcomes, outcomes, IsCoreRun, claims_of, claimed_sender, sender_of}
 use Rattle.stomp_session.specs.declared.action.Action.TheVariants as actions
 use Rattle.stomp_frame.specs.declared.command.Command.TheVariants as commands
-use Rattle.delivery.proofs.Machine.Invariant.{sender_in}
-use Rattle.delivery.proofs.Machine.SenderSteps.{leftover_found, In-append_cases}
-use Rattle.delivery.proofs.Machine.Effects.{made_answer, made_world, refused_answer}
-use Rattle.delivery.proofs.Machine.InvariantIsKept.{checked, in_flight}
-use Rattle.delivery.proofs.Core.ByRun.{run_append, answers_append, longer}
+use Rattle.delivery.proofs.Words.Steps.{sender_in, leftover_found, In-append_cases, made_answer, made_world, refused_answer, checked, in_flight, run_append, answers_append, longer, has_speaker, flying_speaker, cancelling_speaker}
+use Rattle.delivery.proofs.Core.ByReading.{in_option, refusal_some, by_next}
 use Rattle.delivery.proofs.Core.Said.{said, txn_count_said, has_closed_said}
-use Rattle.delivery.proofs.Core.Speaking.{Spoken, id_at, open_in, run_spoken, start_spoken}
+use Rattle.delivery.proofs.Core.Speaking.{spoken, id_at, open_in}
 use Rattle.delivery.proofs.Core.Tests.{connection_there}
 use Rattle.delivery.proofs.Core.NextItem.{next_item_is, connection_is}
 use Rattle.delivery.proofs.Core.SendsLeft.{sends_are_left}
 use Rattle.delivery.proofs.Core.ClaimsStand.{claims_stand, claims_own}
-use Rattle.delivery.proofs.Machine.Speakers.{has_speaker, flying_speaker, cancelling_speaker}
+use Rattle.delivery.proofs.Core.Actions.{frame_fits}
 
 -- ---- the run of the machine that a run of the core is
 
 -- all moves of these steps
 abbrev pub all_moves : TopicList → ℕ → List CoreStep → List Move
 all_moves topics capacity [] = []
-all_moves topics capacity (step ∷ older) =
-    all_moves topics capacity older ++ moves (core_of topics capacity older) step.event step.reading step.outcome
+all_moves topics capacity (step ∷ older) = all_moves topics capacity older ++ moves (core_of topics capacity older) step.event step.reading step.outcome
 
 -- the run of the machine
 abbrev pub run_of : TopicList → ℕ → List CoreStep → Run
-run_of topics capacity steps =
-    record { capacity = capacity; log_limit = 65536; clocks = topics.clocks; events = all_moves topics capacity steps }
+run_of topics capacity steps = record { capacity = capacity; log_limit = 65536; clocks = topics.clocks; events = all_moves topics capacity steps }
 
 -- its world is the core's
 pub world_is : (topics : TopicList) (capacity : ℕ) (steps : List CoreStep) → (core_of topics capacity steps).world ≡ final_world (run_of topics capacity steps)
@@ -48,40 +38,15 @@ core_with names w steps = record { names = names; world = w; steps = steps }
 abbrev pub core_at : List (List ℕ) → Run → List CoreStep → Core
 core_at names r steps = core_with names (final_world r) steps
 
--- what a run keeps of connections and senders
-pub spoken : (r : Run) → Spoken (answers_of r) (final_world r)
-spoken r = run_spoken r.events [] (start r.capacity r.log_limit r.clocks) (start_spoken r.capacity r.log_limit r.clocks)
-
 -- ---- answers and outcomes
 
--- the outcome is a refusal
-pub record IsRefusal (o : Outcome) : Type 0 where
-  pub why : Refusal
-  pub is : Outcome.Refused why ≡ o
-
--- what is in the list of an option is what it has
-pub in_option : {X : Type 0} (x : X) (o : Option X) → In x (option_to_list o) → o ≡ Some x
-in_option x None i = absurd i
-in_option x (Some y) (inl e) = ap Some e
-in_option x (Some y) (inr i) = absurd i
-
--- an outcome of a refusal that is reported is that refusal
-pub refusal_some : (r : Option Refusal) (o : Outcome) → option_map Outcome.Refused r ≡ Some o → IsRefusal o
-refusal_some None o e = none_some o e
-refusal_some (Some why) o e = record { why = why; is = some_same _ o e }
-
 -- what comes of a move: it is refused, or it has its answer
-pub by_answer : (P : Outcome → Type 0) (w : World) (e : Move) (o : Outcome)
-    → ((why : Objection) (x : Refusal) → answer_to w e ≡ Answer.Refused why → P (Outcome.Refused x))
-    → (move_refusal w e ≡ None → answer_to w e ≡ move_answer w e → (z : Outcome) → outcome_of (move_answer w e) ≡ Some z → P z)
-    → outcome_of (answer_to w e) ≡ Some o → P o
-by_answer P w e o h g d = by_case (move_refusal w e) refl
-  where
-    by_case : (r : Option Objection) → move_refusal w e ≡ r → P o
-    by_case None n = g n (made_answer w e n) o (ap outcome_of (sym (made_answer w e n)) ∙ d)
-    by_case (Some why) n =
-        let a = refused_answer w e why n in let k = refusal_some (refusal_of why) o (ap outcome_of (sym a) ∙ d) in
-        subst P k.is (h why k.why a)
+pub by_answer : (P : Outcome → Type 0) (w : World) (e : Move) (o : Outcome) → ((why : Objection) (x : Refusal) → answer_to w e ≡ Answer.Refused why → P (Outcome.Refused x))
+    → (move_refusal w e ≡ None → answer_to w e ≡ move_answer w e → (z : Outcome) → outcome_of (move_answer w e) ≡ Some z → P z) → outcome_of (answer_to w e) ≡ Some o → P o
+by_answer P w e o h g d = (elim (move_refusal w e) as (λ (r : Option Objection). move_refusal w e ≡ r → P o) [
+  | None ↦ λ n. g n (made_answer w e n) o (ap outcome_of (sym (made_answer w e n)) ∙ d)
+  | Some why ↦ λ n. (let a = refused_answer w e why n in let k = refusal_some (refusal_of why) o (ap outcome_of (sym a) ∙ d) in subst P k.is (h why k.why a))
+]) refl
 
 -- the account says after these moves what the machine answered to them
 abbrev Says : List (List ℕ) → Run → List CoreStep → Event → Reading → Outcome → Type 0
@@ -122,20 +87,16 @@ lost_says names r older rd c o i =
     (λ n a z d. subst (Says names r older (Event.Lost c) rd) (some_same _ z d) (ap (λ b. said (b ∷ past)) (sym a)))
     (in_option o _ i)
 
-released_case : (names : List (List ℕ)) (r : Run) (older : List CoreStep) (rd : Reading) (t : Topic) (p : Option Pending) (z : Outcome)
-    → answer_to (final_world r) (Releases t) ≡ release_answer t p → outcome_of (release_answer t p) ≡ Some z → Says names r older (Event.Release t) rd z
-released_case names r older rd t None z a d =
-    subst (Says names r older (Event.Release t) rd) (some_same _ z d) (ap (λ b. said (b ∷ answers_of r)) (sym a))
-released_case names r older rd t (Some p) z a d =
-    subst (Says names r older (Event.Release t) rd) (some_same _ z d) (ap (λ b. said (b ∷ answers_of r)) (sym a))
-
 released_says : (names : List (List ℕ)) (r : Run) (older : List CoreStep) (rd : Reading) (t : Topic) (o : Outcome)
     → In o (move_outcome (core_at names r older) (Releases t)) → Says names r older (Event.Release t) rd o
 released_says names r older rd t o i =
     let w = final_world r in
     by_answer (Says names r older (Event.Release t) rd) w (Releases t) o
     (λ why x a. unsaid _ (answers_of r) why a)
-    (λ n a z d. released_case names r older rd t (due_part (topic_at w t)) z a d)
+    (λ n a z d. ((elim (due_part (topic_at w t)) as (λ (p : Option Pending). answer_to (final_world r) (Releases t) ≡ release_answer t p → outcome_of (release_answer t p) ≡ Some z → Says names r older (Event.Release t) rd z) [
+      | None ↦ λ a d. subst (Says names r older (Event.Release t) rd) (some_same _ z d) (ap (λ b. said (b ∷ answers_of r)) (sym a))
+      | Some p ↦ λ a d. subst (Says names r older (Event.Release t) rd) (some_same _ z d) (ap (λ b. said (b ∷ answers_of r)) (sym a))
+    ]) a d))
     (in_option o _ i)
 
 -- ---- transactions
@@ -179,15 +140,12 @@ pub same_memory : (w : World) (c : ℕ) (t : Topic) (m : Bool) (o : Outcome) (r 
     → outcome_of (elim r [ None ↦ propose_answer w c t (or_out_of_memory m f) | Some why ↦ Answer.Refused why ]) ≡ Some o
     → outcome_of (elim r [ None ↦ propose_answer w c t (or_out_of_memory (not (is_out_of_memory o)) f) | Some why ↦ Answer.Refused why ]) ≡ Some o
 same_memory w c t m o (Some why) f d = d
-same_memory w c t true o None None d =
-    subst (λ z. outcome_of (propose_answer w c t (or_out_of_memory (not (is_out_of_memory z)) None)) ≡ Some z) (some_same _ o d) refl
-same_memory w c t false o None None d =
-    subst (λ z. outcome_of (propose_answer w c t (or_out_of_memory (not (is_out_of_memory z)) None)) ≡ Some z) (some_same _ o d) refl
+same_memory w c t true o None None d = subst (λ z. outcome_of (propose_answer w c t (or_out_of_memory (not (is_out_of_memory z)) None)) ≡ Some z) (some_same _ o d) refl
+same_memory w c t false o None None d = subst (λ z. outcome_of (propose_answer w c t (or_out_of_memory (not (is_out_of_memory z)) None)) ≡ Some z) (some_same _ o d) refl
 same_memory w c t m o None (Some fault) d = d
 
 proposed_says : (names : List (List ℕ)) (r : Run) (older : List CoreStep) (whose : Own (final_world r) older) (rd : Reading) (c : ℕ) (t : Topic) (o : Outcome)
-    → In o (move_outcome (core_at names r older) (Proposes c t true) ++ move_outcome (core_at names r older) (Proposes c t false))
-    → Says names r older (Event.Propose c t) rd o
+    → In o (move_outcome (core_at names r older) (Proposes c t true) ++ move_outcome (core_at names r older) (Proposes c t false)) → Says names r older (Event.Propose c t) rd o
 proposed_says names r older whose rd c t o i = elim (In-append_cases o _ _ i) [
   | inl k ↦ by_memory true (in_option o _ k)
   | inr k ↦ by_memory false (in_option o _ k)
@@ -195,8 +153,7 @@ proposed_says names r older whose rd c t o i = elim (In-append_cases o _ _ i) [
   where
     by_memory : (m : Bool) → outcome_of (answer_to (final_world r) (Proposes c t m)) ≡ Some o → Says names r older (Event.Propose c t) rd o
     by_memory m d =
-        let w = final_world r in let past = answers_of r in let q = not (is_out_of_memory o) in
-        let fault = proposal_fault w c t q in
+        let w = final_world r in let past = answers_of r in let q = not (is_out_of_memory o) in let fault = proposal_fault w c t q in
         by_answer (λ z. z ≡ o → Says names r older (Event.Propose c t) rd z) w (Proposes c t q) o
         (λ why x a e. unsaid _ past why (ap (λ y. answer_to w (Proposes c t (not (is_out_of_memory y)))) e ∙ a))
         (λ n a z d e.
@@ -207,11 +164,9 @@ proposed_says names r older whose rd c t o i = elim (In-append_cases o _ _ i) [
 cancelled_case : (names : List (List ℕ)) (r : Run) (older : List CoreStep) (whose : Own (final_world r) older) (rd : Reading) (c : ℕ) (t : Topic) (o : Option Leftover) (z : Outcome)
     → c < length (final_world r).connections → find_leftover t (speaker (final_world r) c).leftovers ≡ o
     → answer_to (final_world r) (Cancels c t) ≡ cancel_answer t o → outcome_of (cancel_answer t o) ≡ Some z → Says names r older (Event.Cancel c t) rd z
-cancelled_case names r older whose rd c t None z l e a d =
-    subst (Says names r older (Event.Cancel c t) rd) (some_same _ z d) (ap (λ b. said (b ∷ answers_of r)) (sym a))
+cancelled_case names r older whose rd c t None z l e a d = subst (Says names r older (Event.Cancel c t) rd) (some_same _ z d) (ap (λ b. said (b ∷ answers_of r)) (sym a))
 cancelled_case names r older whose rd c t (Some k) z l e a d =
-    let w = final_world r in let past = answers_of r in let s = speaker_number w c in
-    let found = leftover_found t (sender_in w.senders s).leftovers k e in
+    let w = final_world r in let past = answers_of r in let s = speaker_number w c in let found = leftover_found t (sender_in w.senders s).leftovers k e in
     let id : k.id ≡ last_of c older (said past) =
     ((spoken r).speaking.left s k found.stands).0 ∙ last_is r older c whose (cancelling_speaker w c k found.stands) in
     subst (Says names r older (Event.Cancel c t) rd) (some_same _ z d)
@@ -245,16 +200,6 @@ replied k c e None o i = absurd i
 replied k c e (Some b) o (inl d) = record { base = b; is = refl; cut = inl d }
 replied k c e (Some b) o (inr i) = record { base = b; is = refl; cut = inr (guarded o (cut_of b) _ i) }
 
-left_case : (names : List (List ℕ)) (r : Run) (older : List CoreStep) (rd : Reading) (c : ℕ) (s : Option ℕ) (z : Outcome)
-    → answer_to (final_world r) (Leaves c) ≡ leave_answer (final_world r) c s → outcome_of (leave_answer (final_world r) c s) ≡ Some z
-    → Says names r older (Event.Leave c) rd z × Says names r older (Event.Leave c) rd (cut_of z)
-left_case names r older rd c None z a d =
-    subst (λ q. Says names r older (Event.Leave c) rd q × Says names r older (Event.Leave c) rd (cut_of q)) (some_same _ z d)
-    (ap (λ b. said (b ∷ answers_of r)) (sym a), ap (λ b. said (b ∷ answers_of r)) (sym a))
-left_case names r older rd c (Some s) z a d =
-    subst (λ q. Says names r older (Event.Leave c) rd q × Says names r older (Event.Leave c) rd (cut_of q)) (some_same _ z d)
-    (ap (λ b. said (b ∷ answers_of r)) (sym a), ap (λ b. said (b ∷ answers_of r)) (sym a))
-
 -- an outcome, cut or not
 pub either_cut : (P : Outcome → Type 0) (b o : Outcome) {Q : Type 0} → P b × P (cut_of b) → (b ≡ o) ⊎ ((cut_of b ≡ o) × Q) → P o
 either_cut P b o h (inl e) = subst P e h.0
@@ -263,18 +208,19 @@ either_cut P b o h (inr e) = subst P e.0 h.1
 left_says : (names : List (List ℕ)) (r : Run) (older : List CoreStep) (rd : Reading) (c : ℕ) (o : Outcome)
     → In o (reply_outcomes (core_at names r older) c (Event.Leave c) (move_outcome (core_at names r older) (Leaves c))) → Says names r older (Event.Leave c) rd o
 left_says names r older rd c o i =
-    let w = final_world r in let P = Says names r older (Event.Leave c) rd in
-    let h = replied (core_at names r older) c (Event.Leave c) _ o i in
+    let w = final_world r in let P = Says names r older (Event.Leave c) rd in let h = replied (core_at names r older) c (Event.Leave c) _ o i in
     either_cut P h.base o
     (by_answer (λ z. P z × P (cut_of z)) w (Leaves c) h.base
     (λ why x a. (unsaid _ (answers_of r) why a, unsaid _ (answers_of r) why a))
-    (λ n a z d. left_case names r older rd c (oldest_live c 0 w.subscriptions) z a d) h.is) h.cut
+    (λ n a z d. ((elim (oldest_live c 0 w.subscriptions) as (λ (s : Option ℕ). answer_to (final_world r) (Leaves c) ≡ leave_answer (final_world r) c s → outcome_of (leave_answer (final_world r) c s) ≡ Some z → Says names r older (Event.Leave c) rd z × Says names r older (Event.Leave c) rd (cut_of z)) [
+      | None ↦ λ a d. subst (λ q. Says names r older (Event.Leave c) rd q × Says names r older (Event.Leave c) rd (cut_of q)) (some_same _ z d) (ap (λ b. said (b ∷ answers_of r)) (sym a), ap (λ b. said (b ∷ answers_of r)) (sym a))
+      | Some s ↦ λ a d. subst (λ q. Says names r older (Event.Leave c) rd q × Says names r older (Event.Leave c) rd (cut_of q)) (some_same _ z d) (ap (λ b. said (b ∷ answers_of r)) (sym a), ap (λ b. said (b ∷ answers_of r)) (sym a))
+    ]) a d)) h.is) h.cut
 
 withdrawn_says : (names : List (List ℕ)) (r : Run) (older : List CoreStep) (whose : Own (final_world r) older) (rd : Reading) (c : ℕ) (o : Outcome)
     → In o (reply_outcomes (core_at names r older) c (Event.Withdraw c) (move_outcome (core_at names r older) (Withdraws c))) → Says names r older (Event.Withdraw c) rd o
 withdrawn_says names r older whose rd c o i =
-    let w = final_world r in let past = answers_of r in let P = Says names r older (Event.Withdraw c) rd in
-    let h = replied (core_at names r older) c (Event.Withdraw c) _ o i in
+    let w = final_world r in let past = answers_of r in let P = Says names r older (Event.Withdraw c) rd in let h = replied (core_at names r older) c (Event.Withdraw c) _ o i in
     either_cut P h.base o
     (by_answer (λ z. P z × P (cut_of z)) w (Withdraws c) h.base
     (λ why x a. (unsaid _ past why a, unsaid _ past why a))
@@ -299,21 +245,18 @@ not_closed true false e = refl
 not_closed true true e = absurd (false≢true e)
 not_closed false b e = absurd (false≢true e)
 
-open_case : (r : Run) (c : ℕ) → c < length (final_world r).connections → has_closed c (answers_of r) ≡ false → (b : Bool) → open_in (final_world r).connections c ≡ b
-    → open_in (final_world r).connections c ≡ true
-open_case r c l h true e = e
-open_case r c l h false e = absurd (true≢false (sym ((spoken r).speaking.shut c l e) ∙ h))
-
 -- a connection that wasn't closed is open
 still_open : (r : Run) (c : ℕ) → c < length (final_world r).connections → has_closed c (answers_of r) ≡ false → open_in (final_world r).connections c ≡ true
-still_open r c l h = open_case r c l h (open_in (final_world r).connections c) refl
+still_open r c l h = (elim (open_in (final_world r).connections c) as (λ (b : Bool). open_in (final_world r).connections c ≡ b → open_in (final_world r).connections c ≡ true) [
+  | true ↦ λ e. e
+  | false ↦ λ e. absurd (true≢false (sym ((spoken r).speaking.shut c l e) ∙ h))
+]) refl
 
 -- with its RECEIPT left out, a decision is also its connection's loss
 lost_after : (r : Run) (c : ℕ) → move_refusal (final_world r) (Decides c) ≡ None → has_closed c (answers_of r) ≡ false
     → answer_to (world_after (final_world r) (Decides c)) (Lost c) ≡ Answer.Leaving c
 lost_after r c n h =
-    let w = final_world r in let k = checked w (Decides c) n in let v = move_effect w (Decides c) in
-    let o = still_open r c (connection_there w c k.0) h in
+    let w = final_world r in let k = checked w (Decides c) n in let v = move_effect w (Decides c) in let o = still_open r c (connection_there w c k.0) h in
     ap (λ z. answer_to z (Lost c)) (made_world w (Decides c) n)
     ∙ made_answer v (Lost c)
     (ap (λ (z : Option Objection). option_or z None) (unpassed (needs_open v c) (k.0, (k.1.0, (ap not o, tt)))))
@@ -336,8 +279,7 @@ decided_says names r older whose rd c o acc i =
     id_is n = let k = checked w (Decides c) n in undecided_is r older c whose k.1.1.0
 
     uncut : move_refusal w (Decides c) ≡ None → answer_to w (Decides c) ≡ move_answer w (Decides c) → P (Outcome.Decided (greatest (undecided_at w c).given) false)
-    uncut n a =
-        ap (λ q. Answer.Decided q (greatest (undecided_at w c).given) ∷ said (answers_of r)) (sym (id_is n)) ∙ ap (λ b. said (b ∷ answers_of r)) (sym a)
+    uncut n a = ap (λ q. Answer.Decided q (greatest (undecided_at w c).given) ∷ said (answers_of r)) (sym (id_is n)) ∙ ap (λ b. said (b ∷ answers_of r)) (sym a)
 
     cut : move_refusal w (Decides c) ≡ None → answer_to w (Decides c) ≡ move_answer w (Decides c) → Due (Outcome.Decided (greatest (undecided_at w c).given) false)
         → P (Outcome.Decided (greatest (undecided_at w c).given) true)
@@ -381,46 +323,13 @@ taken_says names r older rd s o i = by_case (move_refusal (final_world r) (Takes
     by_case : (why : Option Objection) → move_refusal (final_world r) (Takes s) ≡ why
         → In o (unless why (move_outcome (core_at names r older) (Takes s) ++ Outcome.NoMemory ∷ [])) → P o
     by_case (Some why) n i =
-        let k = refusal_some (refusal_of why) o (in_option o _ i) in
-        subst P k.is (unsaid _ (answers_of r) why (refused_answer (final_world r) (Takes s) why n))
+        let k = refusal_some (refusal_of why) o (in_option o _ i) in subst P k.is (unsaid _ (answers_of r) why (refused_answer (final_world r) (Takes s) why n))
     by_case None n i = elim (In-append_cases o _ _ i) [
       | inl j ↦ by_answer P (final_world r) (Takes s) o (λ why x a. unsaid _ (answers_of r) why a)
           (λ m a z d. taken_case names r older rd s _ z (ltb-true s (length (final_world r).subscriptions) (not-false _ (checked (final_world r) (Takes s) n).0)) refl a d)
           (in_option o _ j)
       | inr j ↦ elim j [ inl e ↦ subst P e refl | inr k ↦ absurd k ]
     ]
-
--- ---- a frame
-
--- what an action is of a frame: a SUBSCRIBE's topic and an UNSUBSCRIBE's id are the frame's
-
-no_subscribe_sent : (s : Held) (f : RawFrame) (o : Option (List ℕ)) (id : List ℕ) (t : Topic) → option_map_or (λ transaction. actions.Nothing) o (commit (send_of s.names f ∷ [])) ≡ actions.Subscribe id t → Prim.⊥
-no_subscribe_sent s f None id t e = cc
-no_subscribe_sent s f (Some x) id t e = cc
-
-no_subscribe_committed : (sends : List SentMessage) (id : List ℕ) (t : Topic) → commit sends ≡ actions.Subscribe id t → Prim.⊥
-no_subscribe_committed [] id t e = cc
-no_subscribe_committed (x ∷ xs) id t e = cc
-
--- the topic of a SUBSCRIBE is that of its frame
-subscribed_topic : (command : Command) (s : Held) (f : RawFrame) (id : List ℕ) (t : Topic) → action_by command s f ≡ actions.Subscribe id t → topic_of s.names f ≡ t
-subscribed_topic commands.Send s f id t e = absurd (no_subscribe_sent s f (first_of (codes "transaction") f.headers) id t e)
-subscribed_topic commands.Commit s f id t e = absurd (no_subscribe_committed (sends_in (transaction_of f) s.transactions) id t e)
-subscribed_topic _ s f id t e = cc
-
-no_unsubscribe_sent : (s : Held) (f : RawFrame) (o : Option (List ℕ)) (id : List ℕ) → option_map_or (λ transaction. actions.Nothing) o (commit (send_of s.names f ∷ [])) ≡ actions.Unsubscribe id → Prim.⊥
-no_unsubscribe_sent s f None id e = cc
-no_unsubscribe_sent s f (Some x) id e = cc
-
-no_unsubscribe_committed : (sends : List SentMessage) (id : List ℕ) → commit sends ≡ actions.Unsubscribe id → Prim.⊥
-no_unsubscribe_committed [] id e = cc
-no_unsubscribe_committed (x ∷ xs) id e = cc
-
--- the id of an UNSUBSCRIBE is that of its frame
-unsubscribed_id : (command : Command) (s : Held) (f : RawFrame) (id : List ℕ) → action_by command s f ≡ actions.Unsubscribe id → id_of f ≡ id
-unsubscribed_id commands.Send s f id e = absurd (no_unsubscribe_sent s f (first_of (codes "transaction") f.headers) id e)
-unsubscribed_id commands.Commit s f id e = absurd (no_unsubscribe_committed (sends_in (transaction_of f) s.transactions) id e)
-unsubscribed_id _ s f id e = cc
 
 -- ---- the topic that a frame makes
 
@@ -458,8 +367,7 @@ SaysMove names r older c f o =
 says_both : (names : List (List ℕ)) (r : Run) (older : List CoreStep) (c : ℕ) (f : RawFrame) (left : Unread) (z : Outcome) → has_effect z ≡ true → is_faulted z ≡ false
     → SaysMove names r older c f z → Says names r older (Event.Next c) (Reading.Finds f left) z
 says_both names r older c f left z effect sound h =
-    let ts = topic_moves (names_after names older) f in
-    let ms = own_moves names r older c f (action_by f.command (session_at (core_at names r older) c) f) in
+    let ts = topic_moves (names_after names older) f in let ms = own_moves names r older c f (action_by f.command (session_at (core_at names r older) c) f) in
     let w = final_world r in let past = answers_of r in let s = start r.capacity r.log_limit r.clocks in
     let moves_are : cond (is_faulted z) (Errs c ∷ []) (cond (has_effect z) (ts ++ ms) []) ≡ ts ++ ms =
     ap (λ (b : Bool). cond b (Errs c ∷ []) (cond (has_effect z) (ts ++ ms) [])) sound ∙ ap (λ (b : Bool). cond b (ts ++ ms) []) effect in
@@ -470,24 +378,16 @@ says_both names r older c f left z effect sound h =
     ∙ (ap said (sym (answers_append ts ms w past))
     ∙ ap (λ (es : List Move). said (answers_from es w past)) (sym moves_are)))))
 
-topic_owns : (b : Bool) (w : World) (older : List CoreStep) → Own w older → Own (run (cond b (AddsTopic 0 ∷ []) []) w) older
-topic_owns true w older h = h
-topic_owns false w older h = h
-
 -- so it is once the frame's topic was made
 framed_owns : (names : List (List ℕ)) (r : Run) (older : List CoreStep) (f : RawFrame) → Own (final_world r) older → Own (final_world (for_frame names r older f)) older
 framed_owns names r older f h =
     subst (λ w. Own w older) (sym (framed_world names r older f))
-    (topic_owns (has_destination f.command && not (is_known (field (codes "destination") f) (names_after names older))) (final_world r) older h)
+    (elim (has_destination f.command && not (is_known (field (codes "destination") f) (names_after names older))) as (λ (b : Bool). Own (run (cond b (AddsTopic 0 ∷ []) []) (final_world r)) older) [ true ↦ h | false ↦ h ])
 
 -- the SENDs that an action commits
 abbrev committed_by : Action → List SentMessage
 committed_by (actions.Commit sends) = sends
 committed_by action = []
-
-committed : (sends : List SentMessage) → sends ≡ committed_by (commit sends)
-committed [] = refl
-committed (send ∷ sends) = refl
 
 -- whether there is any
 abbrev has_any : {A : Type 0} → List A → Bool
@@ -501,25 +401,20 @@ cons_none e = absurd (false≢true (ap has_any e))
 sends_committed : (command : Command) (names : List (List ℕ)) (accepted : List RawFrame) (f : RawFrame) (first : SentMessage) (others : List SentMessage)
     → action_by command (held_after names accepted) f ≡ actions.Commit (first ∷ others) → sends_by command names accepted f ≡ first ∷ others
 sends_committed commands.Commit names accepted f first others e =
-    sym (sends_are_left (transaction_of f) names accepted) ∙ by_case (is_ended accepted) e
-  where
-    by_case : (b : Bool) → commit (sends_in (transaction_of f) (cond b [] (transactions_left names accepted))) ≡ actions.Commit (first ∷ others)
-        → sends_in (transaction_of f) (transactions_left names accepted) ≡ first ∷ others
-    by_case true d = absurd (cons_none (ap committed_by d))
-    by_case false d = committed (sends_in (transaction_of f) (transactions_left names accepted)) ∙ ap committed_by d
-sends_committed commands.Send names accepted f first others e = by_case (first_of (codes "transaction") f.headers) e
-  where
-    by_case : (o : Option (List ℕ)) → option_map_or (λ transaction. actions.Nothing) o (commit (send_of names f ∷ [])) ≡ actions.Commit (first ∷ others)
-        → option_map_or (λ x. []) o (send_of names f ∷ []) ≡ first ∷ others
-    by_case None d = ap committed_by d
-    by_case (Some x) d = ap committed_by d
+    sym (sends_are_left (transaction_of f) names accepted) ∙ (elim (is_ended accepted) as (λ (b : Bool). commit (sends_in (transaction_of f) (cond b [] (transactions_left names accepted))) ≡ actions.Commit (first ∷ others) → sends_in (transaction_of f) (transactions_left names accepted) ≡ first ∷ others) [
+      | true ↦ λ d. absurd (cons_none (ap committed_by d))
+      | false ↦ λ d. (elim (sends_in (transaction_of f) (transactions_left names accepted)) as (λ (sends : List SentMessage). sends ≡ committed_by (commit sends)) [ [] ↦ refl | send ∷ sends ↦ refl ]) ∙ ap committed_by d
+    ]) e
+sends_committed commands.Send names accepted f first others e = (elim (first_of (codes "transaction") f.headers) as (λ (o : Option (List ℕ)). option_map_or (λ transaction. actions.Nothing) o (commit (send_of names f ∷ [])) ≡ actions.Commit (first ∷ others) → option_map_or (λ x. []) o (send_of names f ∷ []) ≡ first ∷ others) [
+  | None ↦ λ d. ap committed_by d
+  | Some x ↦ λ d. ap committed_by d
+]) e
 sends_committed command names accepted f first others e = ap committed_by e
 
 flown_case : (names : List (List ℕ)) (r : Run) (older : List CoreStep) (whose : Own (final_world r) older) (c : ℕ) (f : RawFrame) (left : Unread) (sends : List SentMessage) (z : Outcome)
     → (connection_at (final_world (for_frame names r older f)) c).sender ≡ Some (speaker_number (final_world (for_frame names r older f)) c) → action_by f.command (session_at (core_at names r older) c) f ≡ actions.Commit sends
     → answer_to (final_world (for_frame names r older f)) (Commits c sends) ≡ commit_answer (final_world (for_frame names r older f)) c sends
-    → outcome_of (commit_answer (final_world (for_frame names r older f)) c sends) ≡ Some z
-    → Says names r older (Event.Next c) (Reading.Finds f left) z
+    → outcome_of (commit_answer (final_world (for_frame names r older f)) c sends) ≡ Some z → Says names r older (Event.Next c) (Reading.Finds f left) z
 flown_case names r older whose c f left [] z l e a d =
     let q = for_frame names r older f in
     subst (Says names r older (Event.Next c) (Reading.Finds f left)) (some_same _ z d)
@@ -527,8 +422,7 @@ flown_case names r older whose c f left [] z l e a d =
     (ap (λ b. said (b ∷ answers_of q)) (sym a)
     ∙ ap (λ b. said (answers_from (own_moves names r older c f b) (final_world q) (answers_of q))) (sym e)))
 flown_case names r older whose c f left (first ∷ others) z l e a d =
-    let q = for_frame names r older f in
-    let past = answers_of q in let last = last_of c older (said past) in
+    let q = for_frame names r older f in let past = answers_of q in let last = last_of c older (said past) in
     subst (Says names r older (Event.Next c) (Reading.Finds f left)) (some_same _ z d)
     (says_both names r older c f left (Outcome.Flying (next_txn (final_world q) c (first ∷ others)).id) refl refl
     (ap (λ ss. Answer.Begun (record { id = record last { seq = last.seq + 1 }; sends = ss }) ∷ said past)
@@ -556,24 +450,22 @@ accepted_says names r older whose c f left o actions.Nothing e (inl d) =
     (says_both names r older c f left Outcome.Done refl refl (ap (λ b. said (answers_from (own_moves names r older c f b) (final_world q) (answers_of q))) (sym e)))
 accepted_says names r older whose c f left o actions.Nothing e (inr i) = absurd i
 accepted_says names r older whose c f left o (actions.Subscribe id t) e i =
-    let q = for_frame names r older f in
-    let w = final_world q in let past = answers_of q in let P = Says names r older (Event.Next c) (Reading.Finds f left) in
+    let q = for_frame names r older f in let w = final_world q in let past = answers_of q in let P = Says names r older (Event.Next c) (Reading.Finds f left) in
     by_answer P w (Subscribes c t) o (λ why x a. refl)
     (λ n a z d. subst P (some_same _ z d)
     (says_both names r older c f left (Outcome.Subscribed (length w.subscriptions) (topic_at w t).frontier) refl refl
     (ap (λ u. Answer.Subscribed (length w.subscriptions) c u (topic_at w t).frontier ∷ said past)
-    (subscribed_topic f.command (session_at (core_at names r older) c) f id t e)
+    (frame_fits f.command (session_at (core_at names r older) c) f e).2
     ∙ (ap (λ b. said (b ∷ past)) (sym a)
     ∙ ap (λ b. said (answers_from (own_moves names r older c f b) w past)) (sym e)))))
     (in_option o _ i)
 accepted_says names r older whose c f left o (actions.Unsubscribe id) e i =
-    let q = for_frame names r older f in
-    let w = final_world q in let past = answers_of q in let P = Says names r older (Event.Next c) (Reading.Finds f left) in
+    let q = for_frame names r older f in let w = final_world q in let past = answers_of q in let P = Says names r older (Event.Next c) (Reading.Finds f left) in
     let s = number_by c id older in
     by_answer P w (Unsubscribes c s) o (λ why x a. refl)
     (λ n a z d. subst P (some_same _ z d)
     (says_both names r older c f left (Outcome.Unsubscribed s (end_now w s)) refl refl
-    (ap (λ b. Answer.Unsubscribed (number_by c b older) (end_now w s) ∷ said past) (unsubscribed_id f.command (session_at (core_at names r older) c) f id e)
+    (ap (λ b. Answer.Unsubscribed (number_by c b older) (end_now w s) ∷ said past) (frame_fits f.command (session_at (core_at names r older) c) f e).1
     ∙ (ap (λ b. said (b ∷ past)) (sym a)
     ∙ ap (λ b. said (answers_from (own_moves names r older c f b) w past)) (sym e)))))
     (in_option o _ i)
@@ -583,8 +475,7 @@ accepted_says names r older whose c f left o (actions.Commit sends) e i =
     (λ n a z d. flown_case names r older whose c f left sends z (has_speaker w c (not-false _ (checked w (Commits c sends) n).1.1.1.0)) e a d)
     (in_option o _ i)
 accepted_says names r older whose c f left o actions.Disconnect e i =
-    let q = for_frame names r older f in
-    let w = final_world q in let past = answers_of q in let P = Says names r older (Event.Next c) (Reading.Finds f left) in
+    let q = for_frame names r older f in let w = final_world q in let past = answers_of q in let P = Says names r older (Event.Next c) (Reading.Finds f left) in
     by_answer P w (Disconnects c) o (λ why x a. refl)
     (λ n a z d. subst P (some_same _ z d)
     (says_both names r older c f left Outcome.Leaving refl refl
@@ -594,66 +485,18 @@ accepted_says names r older whose c f left o actions.Disconnect e i =
 
 -- ---- a Next
 
--- what an ERROR adds, whatever was read
-fault_account : (names : List (List ℕ)) (older : List CoreStep) (past : List Answer) (c : ℕ) (read : Option RawFrame) (fault : ConnectionFault) (cut : Bool)
-    → account_of_step names older past (Event.Next c) read (Outcome.Faulted fault cut) ≡ Answer.Error c ∷ []
-fault_account names older past c None fault cut = refl
-fault_account names older past c (Some f) fault cut = refl
-
-refused_account : (names : List (List ℕ)) (older : List CoreStep) (past : List Answer) (c : ℕ) (read : Option RawFrame) (why : Refusal)
-    → account_of_step names older past (Event.Next c) read (Outcome.Refused why) ≡ []
-refused_account names older past c None why = refl
-refused_account names older past c (Some f) why = refl
-
--- an outcome for want of memory is its fault's
-pub was_wanted : (wanted : Bool) (fault : ConnectionFault) (o : Outcome) → In o (outcomes_without wanted fault) → In o (fault_outcomes fault)
-was_wanted true fault o i = i
-was_wanted false fault o i = absurd i
-
-faulted_says : (names : List (List ℕ)) (r : Run) (older : List CoreStep) (rd : Reading) (c : ℕ) (fault : ConnectionFault) (o : Outcome)
-    → first_refusal (needs_idle (final_world r) c) ≡ None → In o (fault_outcomes fault) → Says names r older (Event.Next c) rd o
-faulted_says names r older rd c fault o n i = elim i [
-  | inl e ↦ subst P e (errs false)
-  | inr j ↦ elim j [ inl e ↦ subst P e (errs true) | inr k ↦ absurd k ]
-]
-  where
-    P : Outcome → Type 0
-    P = Says names r older (Event.Next c) rd
-
-    errs : (cut : Bool) → P (Outcome.Faulted fault cut)
-    errs cut =
-        ap (λ z. z ++ said (answers_of r)) (fault_account (names_after names older) older (said (answers_of r)) c (frame_in rd) fault cut)
-        ∙ ap (λ b. said (b ∷ answers_of r)) (sym (made_answer (final_world r) (Errs c) (ap (λ (z : Option Objection). option_or z None) n)))
-
-found_says : (names : List (List ℕ)) (r : Run) (older : List CoreStep) (whose : Own (final_world r) older) (c : ℕ) (f : RawFrame) (left : Unread) (o : Outcome) (why : Option ConnectionFault)
-    → first_refusal (needs_idle (final_world r) c) ≡ None
-    → In o (option_map_or fault_outcomes why (accepted_outcomes (core_at names r older) c f))
-    → Says names r older (Event.Next c) (Reading.Finds f left) o
-found_says names r older whose c f left o (Some fault) n i = faulted_says names r older (Reading.Finds f left) c fault o n i
-found_says names r older whose c f left o None n i = elim (In-append_cases o (frame_outcome (core_at names r older) c f) _ i) [
-  | inl j ↦ accepted_says names r older whose c f left o (action_by f.command (session_at (core_at names r older) c) f) refl
-      (subst (λ (w : World). In o (option_map_or (move_outcome (core_with names w older)) (frame_move (core_at names r older) c (action_by f.command (session_at (core_at names r older) c) f)) (Outcome.Done ∷ [])))
-      (sym (framed_world names r older f)) j)
-  | inr j ↦ faulted_says names r older (Reading.Finds f left) c frame_no_memory o n
-      (was_wanted (wants_memory (core_at names r older) c f) frame_no_memory o j)
-]
-
-read_says : (names : List (List ℕ)) (r : Run) (older : List CoreStep) (whose : Own (final_world r) older) (rd : Reading) (c : ℕ) (o : Outcome) → first_refusal (needs_idle (final_world r) c) ≡ None
-    → In o (reading_outcomes (core_at names r older) c rd) → Says names r older (Event.Next c) rd o
-read_says names r older whose Reading.Nothing c o n i =
-    faulted_says names r older Reading.Nothing c ConnectionFault.ReaderNoMemory o n
-    (was_wanted (is_any (unread_at c older).text) ConnectionFault.ReaderNoMemory o i)
-read_says names r older whose (Reading.Waits left) c o n (inl e) = subst (Says names r older (Event.Next c) (Reading.Waits left)) e refl
-read_says names r older whose (Reading.Waits left) c o n (inr i) = absurd i
-read_says names r older whose (Reading.Finds f left) c o n i = found_says names r older whose c f left o (frame_fault (core_at names r older) c f) n i
-read_says names r older whose (Reading.Fails check left) c o n i = faulted_says names r older (Reading.Fails check left) c (ConnectionFault.Stream check) o n i
-
-next_says : (names : List (List ℕ)) (r : Run) (older : List CoreStep) (whose : Own (final_world r) older) (rd : Reading) (c : ℕ) (o : Outcome) (why : Option Objection)
-    → first_refusal (needs_idle (final_world r) c) ≡ why → In o (unless why (reading_outcomes (core_at names r older) c rd)) → Says names r older (Event.Next c) rd o
-next_says names r older whose rd c o None n i = read_says names r older whose rd c o n i
-next_says names r older whose rd c o (Some why) n i =
-    let k = refusal_some (refusal_of why) o (in_option o _ i) in
-    subst (Says names r older (Event.Next c) rd) k.is (ap (λ z. z ++ said (answers_of r)) (refused_account (names_after names older) older (said (answers_of r)) c (frame_in rd) k.why))
+next_says : (names : List (List ℕ)) (r : Run) (older : List CoreStep) (whose : Own (final_world r) older) (rd : Reading) (c : ℕ) (o : Outcome)
+    → In o (outcomes (core_at names r older) (Event.Next c) rd) → Says names r older (Event.Next c) rd o
+next_says names r older whose rd c o i =
+    by_next (core_at names r older) c (Says names r older (Event.Next c))
+    (λ rd why. ap (λ z. z ++ said (answers_of r)) (elim (frame_in rd) as (λ (read : Option RawFrame). account_of_step (names_after names older) older (said (answers_of r)) (Event.Next c) read (Outcome.Refused why) ≡ []) [ None ↦ refl | Some f ↦ refl ]))
+    (λ rd fault cut n.
+    ap (λ z. z ++ said (answers_of r)) (elim (frame_in rd) as (λ (read : Option RawFrame). account_of_step (names_after names older) older (said (answers_of r)) (Event.Next c) read (Outcome.Faulted fault cut) ≡ Answer.Error c ∷ []) [ None ↦ refl | Some f ↦ refl ])
+    ∙ ap (λ b. said (b ∷ answers_of r)) (sym (made_answer (final_world r) (Errs c) (ap (λ (z : Option Objection). option_or z None) n))))
+    (λ f left o n e j. accepted_says names r older whose c f left o (action_by f.command (session_at (core_at names r older) c) f) refl
+    (subst (λ (w : World). In o (option_map_or (move_outcome (core_with names w older)) (frame_move (core_at names r older) c (action_by f.command (session_at (core_at names r older) c) f)) (Outcome.Done ∷ [])))
+    (sym (framed_world names r older f)) j))
+    rd o i
 
 -- ---- every event
 
@@ -668,7 +511,7 @@ event_says : (names : List (List ℕ)) (r : Run) (older : List CoreStep) (whose 
     → In o (outcomes (core_at names r older) e rd) → Says names r older e rd o
 event_says names r older whose Event.Open rd o acc i = opened_says names r older rd o i
 event_says names r older whose (Event.Piece c octets) rd o acc i = refl
-event_says names r older whose (Event.Next c) rd o acc i = next_says names r older whose rd c o (first_refusal (needs_idle (final_world r) c)) refl i
+event_says names r older whose (Event.Next c) rd o acc i = next_says names r older whose rd c o i
 event_says names r older whose (Event.Propose c t) rd o acc i = proposed_says names r older whose rd c t o i
 event_says names r older whose (Event.Decide c) rd o acc i = decided_says names r older whose rd c o acc i
 event_says names r older whose (Event.Withdraw c) rd o acc i = withdrawn_says names r older whose rd c o i

@@ -1,9 +1,5 @@
 -- What the worked rows are written with.
-use Rattle.delivery.proofs.Words.Std.{ℕ, zero, suc, List, [], ◌∷◌, ◌++◌, map, reverse, codes, Option}
-use Rattle.delivery.proofs.Words.Topics.{Topic, TxnId, SentMessage, PartMessage, Stamp, LogRow, Cause}
-use Rattle.delivery.proofs.Words.Frames.{Command, RawFrame, Check, unread_of}
-use Rattle.delivery.proofs.Words.Machine.{Answer, answers_from}
-use Rattle.delivery.proofs.Words.Core.{Event, Outcome, Refusal, TopicList, QueueReport, CoreStep, Reading, reader_limits, Core, core_after, moves, outcomes}
+use Rattle.delivery.proofs.Words.All.{ℕ, zero, suc, List, [], ◌∷◌, ◌++◌, map, reverse, codes, Option, Topic, TxnId, SentMessage, PartMessage, Stamp, LogRow, Cause, Command, RawFrame, Check, unread_of, Answer, answers_from, Event, Outcome, Refusal, TopicList, QueueReport, CoreStep, Reading, reader_limits, Core, core_after, moves, outcomes}
 use Rattle.stomp_frame.specs.declared.command.Command.TheVariants as commands
 use Rattle.stomp_frame.specs.Headers.{Header}
 
@@ -62,8 +58,7 @@ pick (suc n) (o ∷ os) = pick n os
 -- a core after these acts, each with the outcome of its choice
 abbrev pub played : Core → List Act → Core
 played k [] = k
-played k (a ∷ acts) =
-    played (core_after k (record { event = a.event; reading = a.reading; outcome = pick a.choice (outcomes k a.event a.reading) })) acts
+played k (a ∷ acts) = played (core_after k (record { event = a.event; reading = a.reading; outcome = pick a.choice (outcomes k a.event a.reading) })) acts
 
 -- what came of the acts, the oldest first
 abbrev pub shown_outcomes : Core → List Outcome
@@ -127,8 +122,7 @@ heard (o ∷ before) = o ∷ heard before
 -- the core and what its machine answered
 abbrev pub machine_after : Core × List Answer → Act → Core × List Answer
 machine_after p a =
-    let o = pick a.choice (outcomes p.0 a.event a.reading) in
-    let step : CoreStep = record { event = a.event; reading = a.reading; outcome = o } in
+    let o = pick a.choice (outcomes p.0 a.event a.reading) in let step : CoreStep = record { event = a.event; reading = a.reading; outcome = o } in
     (core_after p.0 step, answers_from (moves p.0 a.event a.reading o) p.0.world p.1)
 
 -- what the machine answered once these acts are played too, but for refusals and Done

@@ -1,8 +1,5 @@
 -- Of a played row: its steps tell what its machine answered, and its report is what they tell.
-use Rattle.delivery.proofs.Words.Std.{ℕ, ◌+◌, Bool, true, false, List, [], ◌∷◌, ◌++◌, map, length, list_all, flat_map, bytes_eq, ◌&&◌}
-use Rattle.delivery.proofs.Words.Topics.{Topic, TxnId, Stamp, zero_stamp, LogRow, Item, last_stamp}
-use Rattle.delivery.proofs.Words.Machine.{due, log_row, Answer, commits_of, delivered_items}
-use Rattle.delivery.proofs.Words.Core.{QueueReport, Report, account_of, released_log, Core, report_of, log_in, each_number, reported_begun}
+use Rattle.delivery.proofs.Words.All.{ℕ, ◌+◌, Bool, true, false, List, [], ◌∷◌, ◌++◌, map, length, list_all, flat_map, bytes_eq, ◌&&◌, Topic, TxnId, Stamp, zero_stamp, LogRow, Item, last_stamp, due, log_row, Answer, commits_of, delivered_items, QueueReport, Report, account_of, released_log, Core, report_of, log_in, each_number, reported_begun}
 use Rattle.delivery.proofs.Core.ShownReadings.{shows_reading}
 use Rattle.delivery.specs.Core.Answered.{begun_in}
 use Rattle.delivery.proofs.Core.Acts.{Act, machine_account, played, topic}
@@ -73,8 +70,7 @@ are_due told r i (q ∷ qs) = is_due told r i q ∷ are_due told r (i + 1) qs
 -- the steps show what was read, tell what the machine answered, and the report is what they tell
 abbrev pub agreements_of : Core → List Answer → List Bool
 agreements_of k heard =
-    let told = account_of k.names k.steps in
-    let r = report_of k in
+    let told = account_of k.names k.steps in let r = report_of k in
     list_all shows_reading k.steps
     ∷ alike (map answer_numbers told) (map answer_numbers heard)
     ∷ alike (map row_numbers r.commits) (map (λ x. row_numbers (log_row x)) (commits_of told))

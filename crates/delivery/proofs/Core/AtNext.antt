@@ -1,6 +1,6 @@
 -- What holds after each run holds after one event more.
 use Rattle.std.proofs.Common.{◌≡◌, List, [], ◌∷◌, subst}
-use Rattle.delivery.proofs.Words.Machine.{World, start, Move, Answer, world_after, answer_to, Run, answers_of, final_world}
+use Rattle.delivery.proofs.Words.All.{World, start, Move, Answer, world_after, answer_to, Run, answers_of, final_world}
 use Rattle.delivery.proofs.Core.ByRun.{longer, run_append, answers_append}
 
 pub at_next : (P : List Answer → World → Type 0) → ((r : Run) → P (answers_of r) (final_world r)) → (r : Run) (e : Move)

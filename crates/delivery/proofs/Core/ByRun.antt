@@ -1,6 +1,6 @@
 -- Runs one event after another, so that what is shown of one event may use the laws of the run before it.
 use Rattle.std.proofs.Common.{◌≡◌, ℕ, List, [], ◌∷◌, ◌++◌, refl, sym, subst}
-use Rattle.delivery.proofs.Words.Machine.{World, start, Move, Answer, world_after, answer_to, run, answers_from, Run, answers_of, final_world}
+use Rattle.delivery.proofs.Words.All.{World, start, Move, Answer, world_after, answer_to, run, answers_from, Run, answers_of, final_world}
 
 -- the world after two lists of events
 pub run_append : (es fs : List Move) (w : World) → run (es ++ fs) w ≡ run fs (run es w)

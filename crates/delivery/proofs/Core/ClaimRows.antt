@@ -1,6 +1,6 @@
 -- Worked rows of senders that outlive a connection.
-use Rattle.delivery.proofs.Words.Std.{false, refl, ◌≡◌, ℕ, List, [], ◌∷◌, map, codes, Some, None}
-use Rattle.delivery.proofs.Words.Core.{Event, Refusal, ConnectionFault, Claim, begun_count, claims_of, kept_count, sender_claimed, senders_of, sender_of, Core, new_core, report_of, Opened, Done, Flying, Proposed, Failed, Decided, Withdrawn, Cancelled, Turned, Faulted, Leaving, Gone, Refused}
+use Rattle.delivery.proofs.Words.All.{false, refl, ◌≡◌, ℕ, List, [], ◌∷◌, map, codes, Some, None, Event, Refusal, ConnectionFault, Claim, begun_count, claims_of, kept_count, sender_claimed, senders_of, sender_of, Core, new_core, report_of, Flying, Proposed, Faulted}
+use Rattle.delivery.specs.declared.outcome.Outcome.TheVariants.{Opened, Done, Failed, Decided, Withdrawn, Cancelled, Turned, Leaving, Gone, Refused}
 use Rattle.stomp_frame.specs.declared.command.Command.TheVariants as commands
 use Rattle.mcast_group.specs.declared.fault.ProposeFault.TheVariants as proposals
 use Rattle.delivery.proofs.Core.Agreement.{agreements, all_agree}
@@ -49,21 +49,15 @@ lasting_acts = opens_as 0 p (commits_both 0 (
 abbrev pub lasting : Core
 lasting = played nine lasting_acts
 
-lasting_outcomes : shown_outcomes lasting
+lasting_rows : (shown_outcomes lasting
     ≡ Opened 0 ∷ Done ∷ Done ∷ Done ∷ Done ∷ Flying (id 0 1) ∷ Proposed 10 ∷ Proposed 1 ∷ Decided (stamp 10 0) false ∷ Leaving
     ∷ Opened 1 ∷ Faulted ConnectionFault.SenderInUse false ∷ Gone false
     ∷ Opened 2 ∷ Done ∷ Flying (id 0 2) ∷ Proposed 11 ∷ Decided (stamp 11 1) false ∷ Turned 2
-    ∷ Opened 3 ∷ Done ∷ Flying (id 1 1) ∷ []
-lasting_outcomes = refl
-
-lasting_agrees : agreements nine lasting_acts ≡ all_agree
-lasting_agrees = refl
-
-lasting_commits : (report_of lasting).commits ≡ log_row 0 1 10 0 (0 ∷ 1 ∷ []) ∷ log_row 0 2 11 1 (1 ∷ []) ∷ []
-lasting_commits = refl
-
-lasting_outs : (report_of lasting).outs ≡ greeting ∷ in_use ∷ greeting ∷ greeting ∷ []
-lasting_outs = refl
+    ∷ Opened 3 ∷ Done ∷ Flying (id 1 1) ∷ [])
+    × (agreements nine lasting_acts ≡ all_agree)
+    × ((report_of lasting).commits ≡ log_row 0 1 10 0 (0 ∷ 1 ∷ []) ∷ log_row 0 2 11 1 (1 ∷ []) ∷ [])
+    × ((report_of lasting).outs ≡ greeting ∷ in_use ∷ greeting ∷ greeting ∷ [])
+lasting_rows = (refl, refl, refl, refl)
 
 -- ---- it is in use while its lost connection's transaction goes on
 
@@ -75,15 +69,13 @@ flying_acts = opens_as 0 p (commits_both 0 (
     ∷ opens_as 2 p (act (Event.Leave 0)
     ∷ opens_as 3 p (reads 3 (send B (codes "2")) ∷ propose 3 1 ∷ [])))))
 
-flying_outcomes : shown_outcomes (played nine flying_acts)
+flying_rows : (shown_outcomes (played nine flying_acts)
     ≡ Opened 0 ∷ Done ∷ Done ∷ Done ∷ Done ∷ Flying (id 0 1) ∷ Proposed 10 ∷ Leaving
     ∷ Opened 1 ∷ Faulted ConnectionFault.SenderInUse false ∷ Refused Refusal.Busy ∷ Proposed 1 ∷ Decided (stamp 10 0) false
     ∷ Opened 2 ∷ Faulted ConnectionFault.SenderInUse false ∷ Gone false
-    ∷ Opened 3 ∷ Done ∷ Flying (id 0 2) ∷ Proposed 11 ∷ []
-flying_outcomes = refl
-
-flying_agrees : agreements nine flying_acts ≡ all_agree
-flying_agrees = refl
+    ∷ Opened 3 ∷ Done ∷ Flying (id 0 2) ∷ Proposed 11 ∷ [])
+    × (agreements nine flying_acts ≡ all_agree)
+flying_rows = (refl, refl)
 
 -- ---- and until the tickets of a withdrawn transaction are cancelled
 
@@ -99,16 +91,14 @@ cancelling_acts = opens 0 (opens_as 1 p (commits_both 1 (
     ∷ opens_as 3 p (reads 3 (send B (codes "2")) ∷ propose 3 1 ∷ act (Event.Decide 3)
     ∷ opens_as 4 q (reads 4 (send B (codes "3")) ∷ []))))))
 
-cancelling_outcomes : shown_outcomes (played full_a cancelling_acts)
+cancelling_rows : (shown_outcomes (played full_a cancelling_acts)
     ≡ Opened 0 ∷ Done ∷ Opened 1 ∷ Done ∷ Done ∷ Done ∷ Done ∷ Flying (id 1 1) ∷ Proposed 1 ∷ Failed proposals.ClockFull
     ∷ Withdrawn false ∷ Refused Refusal.Busy
     ∷ Opened 2 ∷ Faulted ConnectionFault.SenderInUse false ∷ Cancelled ∷ Gone false
     ∷ Opened 3 ∷ Done ∷ Flying (id 1 2) ∷ Proposed 2 ∷ Decided (stamp 2 1) false
-    ∷ Opened 4 ∷ Done ∷ Flying (id 2 1) ∷ []
-cancelling_outcomes = refl
-
-cancelling_agrees : agreements full_a cancelling_acts ≡ all_agree
-cancelling_agrees = refl
+    ∷ Opened 4 ∷ Done ∷ Flying (id 2 1) ∷ [])
+    × (agreements full_a cancelling_acts ≡ all_agree)
+cancelling_rows = (refl, refl)
 
 -- ---- counting
 
@@ -122,17 +112,11 @@ four_senders : map (λ c. sender_claimed c four_claims) (0 ∷ 1 ∷ 2 ∷ 3 ∷
 four_senders = refl
 
 -- the senders in their order, and the number of each connection's
-senders_listed : senders_of four_claims ≡ Some p ∷ None ∷ Some q ∷ []
-senders_listed = refl
-
-numbers_of : map (λ c. sender_of c four_claims) (0 ∷ 1 ∷ 2 ∷ 3 ∷ 4 ∷ []) ≡ 0 ∷ 1 ∷ 0 ∷ 2 ∷ 0 ∷ []
-numbers_of = refl
-
-three_begun : begun_count four_claims ≡ 3
-three_begun = refl
-
-two_kept : kept_count four_claims ≡ 2
-two_kept = refl
+claims_counted : (senders_of four_claims ≡ Some p ∷ None ∷ Some q ∷ [])
+    × (map (λ c. sender_of c four_claims) (0 ∷ 1 ∷ 2 ∷ 3 ∷ 4 ∷ []) ≡ 0 ∷ 1 ∷ 0 ∷ 2 ∷ 0 ∷ [])
+    × (begun_count four_claims ≡ 3)
+    × (kept_count four_claims ≡ 2)
+claims_counted = (refl, refl, refl, refl)
 
 -- a refused CONNECT claims nothing: of the four in `lasting` the second isn't there
 lasting_claims : claims_of lasting.steps

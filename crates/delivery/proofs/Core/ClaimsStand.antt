@@ -1,15 +1,11 @@
 -- Whom each connection of a core speaks for, and how many senders there are, is as the accepted CONNECTs say.
-use Rattle.delivery.proofs.Words.Std.{◌≡◌, ℕ, ◌+◌, ◌<◌, ◌==◌, Bool, true, false, cond, not, ◌&&◌, List, [], ◌∷◌, ◌++◌, length, get_or, set, Option, Some, None, inl, inr, refl, sym, ap, subst, ◌∙◌, arith, true≢false, codes, list_all, position_or_len, option_map, option_map_or, option_and_then, option_to_list, option_or, unwrap_or, false≢true, and_parts, ltb-true, eqb-true, eq-eqb, not-false, length_push}
-use Rattle.delivery.proofs.Words.Topics.{first_refusal, In, Topic, SentMessage, Item, ProposeFault, Entry}
-use Rattle.delivery.proofs.Words.Frames.{Command, RawFrame, CaseFault, is_connect, case_fault, first_of, Unread, Action, SessionFault, is_known, field, transaction_of, send_of, client_of, has_destination, Held, action_by, commit, sends_in, session_fault}
-use Rattle.delivery.proofs.Words.Lemmas.{at_set, at_set_within, none_some, not_true}
-use Rattle.delivery.proofs.Words.Machine.{Objection, refusal_of, World, Connection, SenderState, nobody, new_sender, connection_at, speaker, speaker_number, subscription_at, entry_at, Move, world_after, move_refusal, move_effect, needs_idle, find_leftover, find_verdict, oldest_live, claimed_senders, connect_effect, commit_effect, proposal_fault, propose_effect, cancel_effect, learn_effect, take_effect, leave_effect, close_effect_of, run, AddsTopic, Opens, Connects, Commits, Unsubscribes, Disconnects, Errs, Lost, Leaves, Proposes, Decides, Withdraws, Cancels, Learns, Takes}
-use Rattle.delivery.proofs.Words.Core.{Event, Outcome, Refusal, ConnectionFault, TopicList, CoreStep, Reading, frame_in, has_effect, Claim, claim_of, claims_of, is_kept, begins, begun_count, kept_sender, claimed_sender, sender_claimed, is_one_client, senders_of, sender_of, is_cut, Core, core_for, core_of, names_at, moves, topic_moves, frame_move, session_at, is_no_memory, unless, frame_no_memory, claim_fault, frame_fault, fault_outcomes, outcomes_without, reading_outcomes, outcomes, accepted_outcomes, IsCoreRun}
+use Rattle.delivery.proofs.Words.All.{◌≡◌, ℕ, ◌+◌, ◌<◌, ◌==◌, Bool, true, false, cond, not, ◌&&◌, List, [], ◌∷◌, ◌++◌, length, get_or, set, Option, Some, None, refl, sym, ap, subst, ◌∙◌, arith, true≢false, codes, list_all, position_or_len, option_map, option_map_or, option_and_then, option_to_list, option_or, unwrap_or, false≢true, and_parts, ltb-true, eqb-true, eq-eqb, not-false, length_push, In, Command, RawFrame, CaseFault, is_connect, case_fault, Unread, Action, SessionFault, is_known, field, client_of, has_destination, Held, action_by, session_fault, at_set, at_set_within, none_some, not_true, Objection, World, Connection, SenderState, nobody, new_sender, connection_at, speaker_number, subscription_at, Move, world_after, move_refusal, move_effect, claimed_senders, connect_effect, run, AddsTopic, Opens, Connects, Commits, Disconnects, Errs, Lost, Leaves, Proposes, Decides, Withdraws, Cancels, Takes, Standing, Event, Outcome, ConnectionFault, TopicList, CoreStep, Reading, frame_in, has_effect, Claim, claim_of, claims_of, is_kept, begins, begun_count, kept_sender, claimed_sender, sender_claimed, is_one_client, senders_of, sender_of, is_cut, Core, core_for, core_of, names_at, moves, topic_moves, frame_move, session_at, is_no_memory, frame_no_memory, claim_fault, frame_fault, outcomes, IsCoreRun}
 use Rattle.stomp_frame.specs.declared.command.Command.TheVariants as commands
 use Rattle.stomp_session.specs.declared.action.Action.TheVariants as actions
-use Rattle.delivery.proofs.Machine.SubscriptionSteps.{at_push, set_length}
-use Rattle.delivery.proofs.Machine.InvariantIsKept.{by_refusal, checked}
+use Rattle.delivery.proofs.Words.Steps.{at_push, set_length, by_refusal, checked, by_found, InEachCase, always}
+use Rattle.delivery.proofs.Core.ByReading.{by_next}
 use Rattle.delivery.proofs.Core.SenderPlaces.{no_place, place_of}
+use Rattle.delivery.proofs.Core.Actions.{frame_fits}
 
 -- there are as many senders as have begun, and each connection speaks for whom it claimed
 pub record Stand (w : World) (claims : List Claim) : Type 0 where
@@ -27,71 +23,54 @@ abbrev is_quiet : Move → Bool
 is_quiet (Connects c claimed) = false
 is_quiet e = true
 
-alike : (w : World) → Keeps w w
-alike w = record { senders = refl; spoken = λ c. refl }
+senders_alone : {w v : World} → length v.senders ≡ length w.senders → v.connections ≡ w.connections → Keeps w v
+senders_alone {w} same e = record { senders = same; spoken = λ c. ap (λ (z : List Connection). (get_or z c nobody).sender) e }
 
 -- a connection stands otherwise
-standing : (w : World) (c : ℕ) (x : Connection) → x.sender ≡ (connection_at w c).sender → (d : ℕ) → (get_or (set w.connections c x) d nobody).sender ≡ (connection_at w d).sender
-standing w c x e d =
-    at_set (λ (z : Connection). z.sender ≡ (connection_at w d).sender) w.connections c d x nobody (λ k. e ∙ ap (λ n. (connection_at w n).sender) (sym k)) refl
+stood : {w v : World} (c : ℕ) (standing : Standing) → length v.senders ≡ length w.senders
+    → v.connections ≡ set w.connections c (record { sender = (connection_at w c).sender; standing = standing }) → Keeps w v
+stood {w} c standing same e = record {
+  senders = same;
+  spoken = λ d. ap (λ (z : List Connection). (get_or z d nobody).sender) e
+      ∙ at_set (λ (z : Connection). z.sender ≡ (connection_at w d).sender) w.connections c d _ nobody (λ k. ap (λ n. (connection_at w n).sender) (sym k)) refl;
+}
 
-proposed : (w : World) (c : ℕ) (t : Topic) (o : Option ProposeFault) → Keeps w (propose_effect w c t o)
-proposed w c t None = record { senders = set_length w.senders (speaker_number w c) _; spoken = λ d. refl }
-proposed w c t (Some fault) = record { senders = set_length w.senders (speaker_number w c) _; spoken = λ d. refl }
-
-closed : (w : World) (s : ℕ) (o : Option Entry) → Keeps w (close_effect_of w s o)
-closed w s None = alike w
-closed w s (Some e) = record { senders = refl; spoken = λ d. refl }
-
-left : (w : World) (c : ℕ) (o : Option ℕ) → Keeps w (leave_effect w c o)
-left w c None = record { senders = refl; spoken = standing w c _ refl }
-left w c (Some s) = closed w s (entry_at w s)
-
-handed : (w : World) (s : ℕ) (o : Option Item) → Keeps w (take_effect w s o)
-handed w s None = record { senders = refl; spoken = standing w (subscription_at w s).connection _ refl }
-handed w s (Some item) = record { senders = refl; spoken = λ d. refl }
-
-effect_keeps : (w : World) (e : Move) → is_quiet e ≡ true → Keeps w (move_effect w e)
+effect_keeps : (w : World) (e : Move) → is_quiet e ≡ true → InEachCase (λ v o. Keeps w v) w e
 effect_keeps w (Connects c claimed) q = absurd (false≢true q)
-effect_keeps w Opens q = record {
+effect_keeps w Opens q = always (record {
   senders = refl;
   spoken = λ c. at_push (λ (z : Connection). z.sender ≡ (connection_at w c).sender) w.connections c _ nobody (λ k e. e) refl;
-}
-effect_keeps w (Commits c sends) q = elim sends as (λ sends. Keeps w (commit_effect w c sends)) [ [] ↦ alike w | first ∷ others ↦ record { senders = set_length w.senders (speaker_number w c) _; spoken = λ d. refl } ]
-effect_keeps w (Unsubscribes c s) q = closed w s (entry_at w s)
-effect_keeps w (Disconnects c) q = record { senders = refl; spoken = standing w c _ refl }
-effect_keeps w (Errs c) q = record { senders = refl; spoken = standing w c _ refl }
-effect_keeps w (Lost c) q = record { senders = refl; spoken = standing w c _ refl }
-effect_keeps w (Leaves c) q = left w c (oldest_live c 0 w.subscriptions)
-effect_keeps w (Proposes c t memory) q = proposed w c t (proposal_fault w c t memory)
-effect_keeps w (Decides c) q = record { senders = set_length w.senders (speaker_number w c) _; spoken = λ d. refl }
-effect_keeps w (Withdraws c) q = record { senders = set_length w.senders (speaker_number w c) _; spoken = standing w c _ refl }
-effect_keeps w (Cancels c t) q = elim (find_leftover t (speaker w c).leftovers) as (λ o. Keeps w (cancel_effect w c t o)) [ None ↦ alike w | Some k ↦ record { senders = set_length w.senders (speaker_number w c) _; spoken = λ d. refl } ]
-effect_keeps w (Learns t id) q = elim (find_verdict id w.verdicts) as (λ o. Keeps w (learn_effect w t id o)) [ None ↦ alike w | Some v ↦ record { senders = refl; spoken = λ d. refl } ]
-effect_keeps w (Takes s) q = handed w s _
-effect_keeps w _ q = record { senders = refl; spoken = λ d. refl }
+})
+effect_keeps w (Commits c sends) q = (senders_alone refl refl, λ k. senders_alone (set_length w.senders (speaker_number w c) _) refl)
+effect_keeps w (Disconnects c) q = always (stood c Standing.Leaving refl refl)
+effect_keeps w (Errs c) q = always (stood c Standing.Leaving refl refl)
+effect_keeps w (Lost c) q = always (stood c Standing.Leaving refl refl)
+effect_keeps w (Leaves c) q = (stood c Standing.Gone refl refl, λ s. (senders_alone refl refl, λ k. senders_alone refl refl))
+effect_keeps w (Proposes c t memory) q = (senders_alone (set_length w.senders (speaker_number w c) _) refl, λ k. senders_alone (set_length w.senders (speaker_number w c) _) refl)
+effect_keeps w (Decides c) q = always (senders_alone (set_length w.senders (speaker_number w c) _) refl)
+effect_keeps w (Withdraws c) q = always (stood c Standing.Leaving (set_length w.senders (speaker_number w c) _) refl)
+effect_keeps w (Cancels c t) q = (senders_alone refl refl, λ k. senders_alone (set_length w.senders (speaker_number w c) _) refl)
+effect_keeps w (Takes s) q = (stood (subscription_at w s).connection Standing.Leaving refl refl, λ k. senders_alone refl refl)
+effect_keeps w _ q = (senders_alone refl refl, λ k. senders_alone refl refl)
 
 quiet_stand : (w : World) (e : Move) (claims : List Claim) → is_quiet e ≡ true → Stand w claims → Stand (world_after w e) claims
 quiet_stand w e claims q h =
-    let k = by_refusal (λ v o. Keeps w v) w e (λ why. alike w) (λ n. effect_keeps w e q) in
+    let k = by_refusal (λ v o. Keeps w v) w e (λ why. senders_alone refl refl) (λ n. by_found (λ v o. Keeps w v) w e (effect_keeps w e q)) in
     record { begun = k.senders ∙ h.begun; spoken = λ c. k.spoken c ∙ h.spoken c }
 
 run_stand : (ms : List Move) (w : World) (claims : List Claim) → list_all is_quiet ms ≡ true → Stand w claims → Stand (run ms w) claims
 run_stand [] w claims q h = h
-run_stand (e ∷ es) w claims q h =
-    let k = and_parts (is_quiet e) (list_all is_quiet es) q in run_stand es (world_after w e) claims k.1 (quiet_stand w e claims k.0 h)
+run_stand (e ∷ es) w claims q h = let k = and_parts (is_quiet e) (list_all is_quiet es) q in run_stand es (world_after w e) claims k.1 (quiet_stand w e claims k.0 h)
 
 -- ---- a claim
 
 claim_counts : (client : Option (List ℕ)) (claims : List Claim) (senders : List SenderState) → length senders ≡ begun_count claims
     → length (claimed_senders senders (claimed_sender client claims)) ≡ cond (begins client claims) (begun_count claims + 1) (begun_count claims)
 claim_counts None claims senders h = let m = length_push senders new_sender in omega (arith, m, h)
-claim_counts (Some id) claims senders h = by (is_kept id claims)
-  where
-    by : (b : Bool) → length (claimed_senders senders (cond b (Some (Rattle.delivery.specs.Core.Claims.kept_sender id claims)) None))
-        ≡ cond (not b) (begun_count claims + 1) (begun_count claims)
-    by true = h
-    by false = let m = length_push senders new_sender in omega (arith, m, h)
+claim_counts (Some id) claims senders h = elim (is_kept id claims) as (λ (b : Bool). length (claimed_senders senders (cond b (Some (Rattle.delivery.specs.Core.Claims.kept_sender id claims)) None)) ≡ cond (not b) (begun_count claims + 1) (begun_count claims)) [
+  | true ↦ h
+  | false ↦ (let m = length_push senders new_sender in omega (arith, m, h))
+]
 
 claimed_stand : (w : World) (c : ℕ) (client : Option (List ℕ)) (claims : List Claim) → c < length w.connections → Stand w claims
     → Stand (connect_effect w c (claimed_sender client claims)) (record { connection = c; client = client } ∷ claims)
@@ -108,22 +87,10 @@ claimed_stand w c client claims l h = record {
 
 -- ---- an accepted frame
 
-sent_claims : (s : Held) (f : RawFrame) (o : Option (List ℕ)) (client : Option (List ℕ)) → option_map_or (λ transaction. actions.Nothing) o (commit (send_of s.names f ∷ [])) ≡ actions.Connected client → Prim.⊥
-sent_claims s f None client e = cc
-sent_claims s f (Some x) client e = cc
-
-committed_claims : (sends : List SentMessage) (client : Option (List ℕ)) → commit sends ≡ actions.Connected client → Prim.⊥
-committed_claims [] client e = cc
-committed_claims (x ∷ xs) client e = cc
-
 -- a frame that asks for a claim is a CONNECT, and the claim is of its client-id
 pub connect_of : (command : Command) (s : Held) (f : RawFrame) (client : Option (List ℕ)) → action_by command s f ≡ actions.Connected client
     → (is_connect command ≡ true) × (client_of f ≡ client)
-connect_of commands.Send s f client e = absurd (sent_claims s f (first_of (codes "transaction") f.headers) client e)
-connect_of commands.Commit s f client e = absurd (committed_claims (sends_in (transaction_of f) s.transactions) client e)
-connect_of commands.Connect s f client e = (refl, cc)
-connect_of commands.Stomp s f client e = (refl, cc)
-connect_of _ s f client e = cc
+connect_of command s f client e = frame_fits command s f e
 
 -- each CONNECT asks for it
 pub claims_asked : (command : Command) (s : Held) (f : RawFrame) → is_connect command ≡ true → action_by command s f ≡ actions.Connected (client_of f)
@@ -136,50 +103,35 @@ connect_plain commands.Connect e = refl
 connect_plain commands.Stomp e = refl
 connect_plain _ e = absurd (false≢true e)
 
--- where nothing is at fault with a frame, nothing stands against its move
-pub unobjected : (a : Option CaseFault) (b : Option SessionFault) (d : Option ConnectionFault) (c : Option Objection)
-    → option_or (option_map ConnectionFault.Frame a) (option_or (option_map ConnectionFault.Session b) (option_or d (option_map (λ why. frame_no_memory) c))) ≡ None
-    → (d ≡ None) × (c ≡ None)
-unobjected (Some x) b d c e = none_some _ (sym e)
-unobjected None (Some x) d c e = none_some _ (sym e)
-unobjected None None (Some x) c e = none_some _ (sym e)
-unobjected None None None (Some x) e = none_some _ (sym e)
-unobjected None None None None e = (refl, refl)
+-- nothing stands against the frame
+pub record Unobjected (k : Core) (c : ℕ) (f : RawFrame) : Type 0 where
+  pub session : session_fault (session_at k c) f ≡ None
+  pub move : option_and_then (λ mv. move_refusal (core_for k f).world mv) (frame_move k c (action_by f.command (session_at k c) f)) ≡ None
 
--- no fault has an effect
-fault_silent : (fault : ConnectionFault) (o : Outcome) → In o (fault_outcomes fault) → has_effect o ≡ false
-fault_silent fault o (inl e) = ap has_effect (sym e)
-fault_silent fault o (inr (inl e)) = ap has_effect (sym e)
-fault_silent fault o (inr (inr i)) = absurd i
-
-refusal_silent : (r : Option Refusal) (o : Outcome) → In o (option_to_list (option_map Outcome.Refused r)) → has_effect o ≡ false
-refusal_silent None o i = absurd i
-refusal_silent (Some r) o (inl e) = ap has_effect (sym e)
-refusal_silent (Some r) o (inr i) = absurd i
-
-wanted_silent : (b : Bool) (fault : ConnectionFault) (o : Outcome) → In o (outcomes_without b fault) → has_effect o ≡ false
-wanted_silent true fault o i = fault_silent fault o i
-wanted_silent false fault o i = absurd i
+-- so it is where nothing is at fault with it
+pub unobjected : (k : Core) (c : ℕ) (f : RawFrame) → frame_fault k c f ≡ None → Unobjected k c f
+unobjected k c f e =
+    by (case_fault f) (session_fault (session_at k c) f) refl (claim_fault k (action_by f.command (session_at k c) f))
+    (option_and_then (λ mv. move_refusal (core_for k f).world mv) (frame_move k c (action_by f.command (session_at k c) f))) refl e
+  where
+    by : (a : Option CaseFault) (b : Option SessionFault) → session_fault (session_at k c) f ≡ b → (y : Option ConnectionFault) (x : Option Objection)
+        → option_and_then (λ mv. move_refusal (core_for k f).world mv) (frame_move k c (action_by f.command (session_at k c) f)) ≡ x
+        → option_or (option_map ConnectionFault.Frame a) (option_or (option_map ConnectionFault.Session b) (option_or y (option_map (λ why. frame_no_memory) x))) ≡ None → Unobjected k c f
+    by (Some a) b s y x m e = none_some _ (sym e)
+    by None (Some b) s y x m e = none_some _ (sym e)
+    by None None s (Some y) x m e = none_some _ (sym e)
+    by None None s None (Some x) m e = none_some _ (sym e)
+    by None None s None None m e = record { session = s; move = m }
 
 -- a frame that has had its effect had no fault
 faultless : (k : Core) (c : ℕ) (f : RawFrame) (left : Unread) (o : Outcome) → has_effect o ≡ true → In o (outcomes k (Event.Next c) (Reading.Finds f left)) → frame_fault k c f ≡ None
-faultless k c f left o effect i = by_idle (first_refusal (needs_idle k.world c)) i
-  where
-    by_fault : (why : Option ConnectionFault) → In o (option_map_or fault_outcomes why (accepted_outcomes k c f)) → why ≡ None
-    by_fault None j = refl
-    by_fault (Some fault) j = absurd (true≢false (sym effect ∙ fault_silent fault o j))
-
-    by_idle : (why : Option Objection) → In o (unless why (reading_outcomes k c (Reading.Finds f left))) → frame_fault k c f ≡ None
-    by_idle None j = by_fault (frame_fault k c f) j
-    by_idle (Some why) j = absurd (true≢false (sym effect ∙ refusal_silent (refusal_of why) o j))
+faultless k c f left o effect i =
+    by_next k c (λ rd o. has_effect o ≡ true → option_and_then (frame_fault k c) (frame_in rd) ≡ None) (λ rd why h. absurd (false≢true h)) (λ rd fault cut n h. absurd (false≢true h)) (λ f left o n e j h. e)
+    (Reading.Finds f left) o i effect
 
 quiet_action : (k : Core) (c : ℕ) (action : Action) → ((client : Option (List ℕ)) → action ≡ actions.Connected client → Prim.⊥) → list_all is_quiet (option_to_list (frame_move k c action)) ≡ true
 quiet_action k c (actions.Connected client) n = absurd (n client refl)
 quiet_action k c _ n = refl
-
-quiet_topic : (b : Bool) (ms : List Move) → list_all is_quiet ms ≡ true → list_all is_quiet (cond b (AddsTopic 0 ∷ []) [] ++ ms) ≡ true
-quiet_topic true ms q = q
-quiet_topic false ms q = q
 
 -- the moves of an accepted frame, and its claim
 found_stand : (k : Core) (c : ℕ) (f : RawFrame) (left : Unread) (o : Outcome) → has_effect o ≡ true → In o (outcomes k (Event.Next c) (Reading.Finds f left)) → Stand k.world (claims_of k.steps)
@@ -196,17 +148,18 @@ found_stand k c f left o effect i h = by_connect (is_connect f.command) refl
         → Stand (run (topic_moves (names_at k) f ++ option_to_list (frame_move k c action)) k.world) (cond b (record { connection = c; client = client_of f } ∷ []) [] ++ claims)
     by_connect false e =
         run_stand (topic_moves (names_at k) f ++ option_to_list (frame_move k c action)) k.world claims
-        (quiet_topic (has_destination f.command && not (is_known (field (codes "destination") f) (names_at k))) (option_to_list (frame_move k c action))
-        (quiet_action k c action (λ client d. true≢false (sym (connect_of f.command (session_at k c) f client d).0 ∙ e)))) h
+        ((elim (has_destination f.command && not (is_known (field (codes "destination") f) (names_at k))) as (λ (b : Bool). list_all is_quiet (option_to_list (frame_move k c action)) ≡ true → list_all is_quiet (cond b (AddsTopic 0 ∷ []) [] ++ (option_to_list (frame_move k c action))) ≡ true) [
+          | true ↦ λ q. q
+          | false ↦ λ q. q
+        ]) (quiet_action k c action (λ client d. true≢false (sym (connect_of f.command (session_at k c) f client d).0 ∙ e)))) h
     by_connect true e =
-        let asks = claims_asked f.command (session_at k c) f e in
-        let mv = Connects c (claimed_sender (client_of f) claims) in
+        let asks = claims_asked f.command (session_at k c) f e in let mv = Connects c (claimed_sender (client_of f) claims) in
         let none : topic_moves (names_at k) f ≡ [] =
         ap (λ (b : Bool). cond (b && not (is_known (field (codes "destination") f) (names_at k))) (AddsTopic 0 ∷ []) []) (connect_plain f.command e) in
         let free : move_refusal k.world mv ≡ None =
         ap (λ ms. move_refusal (run ms k.world) mv) (sym none)
         ∙ (ap (λ (a : Action). option_and_then (λ m. move_refusal (core_for k f).world m) (frame_move k c a)) (sym asks)
-        ∙ (unobjected (case_fault f) (session_fault (session_at k c) f) (claim_fault k action) _ (faultless k c f left o effect i)).1) in
+        ∙ (unobjected k c f (faultless k c f left o effect i)).move) in
         let world : run (topic_moves (names_at k) f ++ option_to_list (frame_move k c action)) k.world ≡ connect_effect k.world c (claimed_sender (client_of f) claims) =
         ap (λ ms. run (ms ++ option_to_list (frame_move k c action)) k.world) none
         ∙ (ap (λ (a : Action). run (option_to_list (frame_move k c a)) k.world) asks
@@ -226,8 +179,7 @@ read_stand k c (Reading.Fails check left) o effect i h = h
 
 -- the moves of a Next, and its claim
 abbrev NextStands : Core → ℕ → Reading → Outcome → Type 0
-NextStands k c rd o =
-    Stand (run (moves k (Event.Next c) rd o) k.world) (claim_of (Event.Next c) (cond (has_effect o) (frame_in rd) None) ++ claims_of k.steps)
+NextStands k c rd o = Stand (run (moves k (Event.Next c) rd o) k.world) (claim_of (Event.Next c) (cond (has_effect o) (frame_in rd) None) ++ claims_of k.steps)
 
 next_stand : (k : Core) (c : ℕ) (rd : Reading) (o : Outcome) → In o (outcomes k (Event.Next c) rd) → Stand k.world (claims_of k.steps) → NextStands k c rd o
 next_stand k c rd (Outcome.Faulted fault cut) i h = quiet_stand k.world (Errs c) (claims_of k.steps) refl h
@@ -238,24 +190,12 @@ next_stand k c rd (Outcome.Flying id) i h = read_stand k c rd (Outcome.Flying id
 next_stand k c rd Outcome.Leaving i h = read_stand k c rd Outcome.Leaving refl i h
 next_stand k c rd _ i h = h
 
-cut_quiet : (c : ℕ) (b : Bool) → list_all is_quiet (Decides c ∷ cond b (Lost c ∷ []) []) ≡ true
-cut_quiet c true = refl
-cut_quiet c false = refl
-
-take_quiet : (s : ℕ) (b : Bool) → list_all is_quiet (cond b [] (Takes s ∷ [])) ≡ true
-take_quiet s true = refl
-take_quiet s false = refl
-
-open_quiet : (b : Bool) → list_all is_quiet (cond b [] (Opens ∷ [])) ≡ true
-open_quiet true = refl
-open_quiet false = refl
-
 step_stand : (k : Core) (e : Event) (rd : Reading) (o : Outcome) → In o (outcomes k e rd) → Stand k.world (claims_of k.steps)
     → Stand (run (moves k e rd o) k.world) (claim_of e (cond (has_effect o) (frame_in rd) None) ++ claims_of k.steps)
 step_stand k (Event.Next c) rd o i h = next_stand k c rd o i h
-step_stand k Event.Open rd o i h = run_stand (moves k Event.Open rd o) k.world (claims_of k.steps) (open_quiet (is_no_memory o)) h
-step_stand k (Event.Decide c) rd o i h = run_stand (moves k (Event.Decide c) rd o) k.world (claims_of k.steps) (cut_quiet c (is_cut o)) h
-step_stand k (Event.Take s) rd o i h = run_stand (moves k (Event.Take s) rd o) k.world (claims_of k.steps) (take_quiet s (is_no_memory o)) h
+step_stand k Event.Open rd o i h = run_stand (moves k Event.Open rd o) k.world (claims_of k.steps) (elim (is_no_memory o) as (λ (b : Bool). list_all is_quiet (cond b [] (Opens ∷ [])) ≡ true) [ true ↦ refl | false ↦ refl ]) h
+step_stand k (Event.Decide c) rd o i h = run_stand (moves k (Event.Decide c) rd o) k.world (claims_of k.steps) (elim (is_cut o) as (λ (b : Bool). list_all is_quiet (Decides c ∷ cond b (Lost c ∷ []) []) ≡ true) [ true ↦ refl | false ↦ refl ]) h
+step_stand k (Event.Take s) rd o i h = run_stand (moves k (Event.Take s) rd o) k.world (claims_of k.steps) (elim (is_no_memory o) as (λ (b : Bool). list_all is_quiet (cond b [] (Takes s ∷ [])) ≡ true) [ true ↦ refl | false ↦ refl ]) h
 step_stand k event rd o i h = run_stand (moves k event rd o) k.world (claims_of k.steps) refl h
 
 -- the steps of a core are those that led to it
@@ -282,8 +222,7 @@ number_claimed : (c : ℕ) (claims : List Claim) → unwrap_or (sender_claimed c
 number_claimed c [] = refl
 number_claimed c (claim ∷ before) = by (claim.connection == c) claim.client (number_claimed c before)
   where
-    kept : (id : List ℕ) (k : Bool)
-        → unwrap_or (cond k (Some (kept_sender id before)) None) (begun_count before) ≡ cond k (kept_sender id before) (begun_count before)
+    kept : (id : List ℕ) (k : Bool) → unwrap_or (cond k (Some (kept_sender id before)) None) (begun_count before) ≡ cond k (kept_sender id before) (begun_count before)
     kept id true = refl
     kept id false = refl
 

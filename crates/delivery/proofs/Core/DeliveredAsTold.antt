@@ -1,8 +1,5 @@
 -- What is delivered by an account in the machine's answers is delivered by what is told of them.
-use Rattle.delivery.proofs.Words.Std.{◌≡◌, ℕ, ◌+◌, ◌≤◌, true, false, List, [], ◌∷◌, ◌++◌, map, length, Some, refl, sym, ap, subst, ◌∙◌, true≢false, take, slice_get, enumerate_from, last_or}
-use Rattle.delivery.proofs.Words.Topics.{Topic, Stamp, zero_stamp, stamp_lt, CommitRow, committed_id, stamp_of, agreed, EachOnce, SenderOrder, In, Item, LogRow, last_stamp, Asked}
-use Rattle.delivery.proofs.Words.Machine.{Answer, commits_of, delivered_items, log_row, due, SilentAfterClose}
-use Rattle.delivery.proofs.Words.Core.{released_log, released_frontier, QueueReport, Report, log_in, Told, committed, frontier_of, handed_count, reported_begun, last_queued, LagsAsAnswered, IsAsAnswered, DeliversAnswers, Delivers}
+use Rattle.delivery.proofs.Words.All.{◌≡◌, ℕ, ◌+◌, ◌≤◌, true, false, List, [], ◌∷◌, ◌++◌, map, length, Some, refl, sym, ap, subst, ◌∙◌, true≢false, take, slice_get, enumerate_from, last_or, Topic, Stamp, zero_stamp, stamp_lt, CommitRow, committed_id, stamp_of, agreed, EachOnce, SenderOrder, In, Item, LogRow, last_stamp, Asked, Answer, commits_of, delivered_items, log_row, due, SilentAfterClose, released_log, released_frontier, QueueReport, Report, log_in, Told, committed, frontier_of, handed_count, reported_begun, last_queued, LagsAsAnswered, IsAsAnswered, DeliversAnswers, Delivers}
 use Rattle.delivery.specs.Core.Delivery.{Lags, IsAsTold}
 use Rattle.delivery.proofs.Core.Moments.{at_moment, from_moments, always_one, always_told}
 use Rattle.delivery.proofs.Core.Tells.{tells, tell, committed_told, log_told, frontier_told, handed_told, begun_told, tell_append}
@@ -36,8 +33,7 @@ last_told from (item ∷ items) = last_told item.stamp items
 lag_told : (capacity s : ℕ) (account : List Answer) (q : QueueReport) (end : Stamp) → LagsAsAnswered capacity s account q end
     → (later before : List Told) × (by : Told) × (tell account ≡ later ++ by ∷ before) × Lags capacity s q end by before
 lag_told capacity s account q end h =
-    let m = moves q.span.topic h.before h.by end h.reached h.passed in
-    let a = tell_append h.later (h.by ∷ h.before) in
+    let m = moves q.span.topic h.before h.by end h.reached h.passed in let a = tell_append h.later (h.by ∷ h.before) in
     let is : tell (h.by ∷ h.before) ≡ m.by ∷ tell h.before = ap (λ (z : List Told). z ++ tell h.before) m.is in (
       a.0,
       tell h.before,

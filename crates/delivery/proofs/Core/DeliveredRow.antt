@@ -1,11 +1,7 @@
 -- The theorem's record, met by one row: its fields can be had together, and their premises are met. Beside it stand reports
 -- that it refuses: of a closed subscription that stays open, of lags that are none, of one that is left out, of Takes that had
 -- no item, and without logs or a queue's item.
-use Rattle.delivery.proofs.Words.Std.{inl, inr, refl, sym, ap, subst, ◌∙◌, arith, cond, true≢false, ◌≡◌, ℕ, zero, suc, ◌==◌, ◌+◌, ◌≤◌, ◌++◌, Bool, true, false, ◌||◌, length, map, take, slice_get, List, [], ◌∷◌, codes, Option, Some, None}
-use Rattle.delivery.proofs.Words.Topics.{CommitRow, Transaction, In, names, topics_of, Cause, Stamp, LogRow, Item, Asked, Lag}
-use Rattle.delivery.proofs.Words.Lemmas.{some_same, none_some}
-use Rattle.delivery.proofs.Words.Machine.{IsSettled, IsResolved, log_row, item_at, is_due, due, Answer, shared_marks, commits_of, delivered_items}
-use Rattle.delivery.proofs.Words.Core.{QueueReport, Report, account_of, released_log, released_frontier, report_of, log_in, Delivers, IsAsAnswered, DeliversAnswers}
+use Rattle.delivery.proofs.Words.All.{inl, inr, refl, sym, ap, subst, ◌∙◌, arith, cond, true≢false, ◌≡◌, ℕ, zero, suc, ◌==◌, ◌+◌, ◌≤◌, ◌++◌, Bool, true, false, ◌||◌, length, map, take, slice_get, List, [], ◌∷◌, codes, Option, Some, None, CommitRow, Transaction, In, names, topics_of, Cause, Stamp, LogRow, Item, Asked, Lag, some_same, none_some, IsSettled, IsResolved, log_row, item_at, is_due, due, Answer, shared_marks, commits_of, delivered_items, QueueReport, Report, account_of, released_log, released_frontier, report_of, log_in, Delivers, IsAsAnswered, DeliversAnswers}
 use Rattle.delivery.specs.Core.Told.{Told, told_of, committed as committed_rows, frontier_of, handed_count}
 use Rattle.delivery.proofs.Core.Acts.{topic, stamp, id, made, part, log_row as row, A}
 use Rattle.delivery.proofs.Core.Rows.{ends}

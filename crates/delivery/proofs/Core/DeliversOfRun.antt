@@ -1,24 +1,20 @@
 -- What every run of the core delivers: the laws of the machine's run, said of the account and of the report.
-use Rattle.delivery.proofs.Words.Std.{◌≡◌, ℕ, zero, suc, ◌+◌, ◌<◌, ◌≤◌, inl, inr, List, [], ◌∷◌, ◌++◌, map, length, get_or, Option, Some, None, refl, sym, ap, subst, ◌∙◌, arith, take, slice_get}
-use Rattle.delivery.proofs.Words.Topics.{Topic, Stamp, zero_stamp, committed_id, stamp_of, agreed, EachOnce, SenderOrder, In, LogRow, last_stamp, Cause, TopicState, EntryEnd, new_topic, Asked, Lag}
-use Rattle.delivery.proofs.Words.Lemmas.{some_same, none_some}
-use Rattle.delivery.proofs.Words.Machine.{due, log_row, Run, answers_of, final_world, shared_marks, accepted_at, span_at, log_at, frontier_at, entry_to, World, Subscription, no_subscription, subscription_at, entry_at, Answer, commits_of, delivered_items, SilentAfterClose}
-use Rattle.delivery.proofs.Words.Core.{TopicList, CoreStep, beginning_of, Beginning, released_frontier, account_of, Core, core_of, IsCoreRun, QueueReport, Report, report_of, queue_report, each_number, log_in, Delivers, Told, told_of, reported_begun, IsAsAnswered, DeliversAnswers}
+use Rattle.delivery.proofs.Words.All.{◌≡◌, ℕ, zero, suc, ◌+◌, ◌<◌, ◌≤◌, inl, inr, List, [], ◌∷◌, ◌++◌, map, length, get_or, Option, Some, None, refl, sym, ap, subst, ◌∙◌, arith, take, slice_get, Topic, Stamp, zero_stamp, committed_id, stamp_of, agreed, EachOnce, SenderOrder, In, LogRow, last_stamp, Cause, TopicState, EntryEnd, new_topic, Asked, Lag, some_same, none_some, due, log_row, Run, answers_of, final_world, shared_marks, accepted_at, span_at, log_at, frontier_at, entry_to, World, Subscription, no_subscription, subscription_at, entry_at, Answer, commits_of, delivered_items, SilentAfterClose, TopicList, CoreStep, released_frontier, account_of, Core, core_of, IsCoreRun, QueueReport, Report, report_of, queue_report, each_number, log_in, Delivers, Told, told_of, reported_begun, IsAsAnswered, DeliversAnswers}
 use Rattle.delivery.proofs.Theorem.AcceptedIsDue.{reached, accepted_is_due, shared_in_one_order, agreed_once, agreed_in_sender_order}
 use Rattle.delivery.proofs.Theorem.LogIsOfAnswers.{log_is_of_outcomes}
 use Rattle.delivery.proofs.Theorem.SettledLeavesNoneOut.{settled_in_log}
 use Rattle.delivery.proofs.Theorem.ClosedIsSilent.{closed_is_silent}
-use Rattle.delivery.proofs.Theorem.SpansAsAnswered.{handing, spans_end_as_told}
-use Rattle.delivery.proofs.Core.Said.{said, said_from, commits_said, delivered_said, beginning_said, released_log_said, released_frontier_said, begun_said, settled_said, silent_said}
-use Rattle.delivery.proofs.Core.Started.{EndsAtFrontier, begin_of, numbered, begun_is, asked_at_frontier}
+use Rattle.delivery.proofs.Theorem.SpansAsAnswered.{spans_end_as_told}
+use Rattle.delivery.proofs.Theorem.HandedIsPrefix.{handing}
+use Rattle.delivery.proofs.Core.Said.{said, said_from, commits_said, delivered_said, released_log_said, begun_said, settled_said, silent_said}
+use Rattle.delivery.proofs.Core.Started.{begin_of, numbered, begun_is}
 use Rattle.delivery.proofs.Core.AccountOfRun.{run_of, core_at, core_is, account_is}
 use Rattle.delivery.proofs.Core.LagsAsTold.{lag_as_told, cause_by, end_by}
 use Rattle.delivery.proofs.Core.BoundedAtEach.{bounded_said}
 use Rattle.delivery.proofs.Core.Moments.{at_moment}
-use Rattle.delivery.proofs.Core.SaidParts.{said_append}
 use Rattle.delivery.proofs.Core.ToldEnds.{silent_at}
 use Rattle.delivery.proofs.Core.DeliveredAsTold.{EndsAt, take_given, delivered_told}
-use Rattle.delivery.proofs.Core.AskedAsTold.{asked_said}
+use Rattle.delivery.proofs.Core.AskedAsTold.{asked_said, asked_began}
 use Rattle.delivery.proofs.Core.ToldOfSteps.{told_is}
 
 -- ---- numbered lists
@@ -57,17 +53,6 @@ log_is r names steps t = held_at (final_world r).topics t.0 t
 
 -- ---- ends
 
-end_said : (s : ℕ) (past : List Answer) (to : Stamp) → EndsAtFrontier s past to → EndsAtFrontier s (said past) to
-end_said s past to h =
-    let before = h.1 in (
-      said h.0,
-      said before,
-      ap said h.2 ∙ said_append h.0 (Answer.Unsubscribed s to ∷ before),
-      h.3
-          ∙ (sym (released_frontier_said (beginning_of s before).topic before)
-          ∙ ap (λ (z : Beginning). released_frontier z.topic (said before)) (sym (beginning_said s before))),
-    )
-
 -- what has a cause has an end, and what has none has none
 has_end : (closed : Option EntryEnd) (lagged : Option Stamp) (cause : Cause) → cause_by closed lagged ≡ Some cause → (end : Stamp) × (end_by closed lagged ≡ Some end)
 has_end None None cause e = none_some cause e
@@ -104,7 +89,7 @@ as_told r names steps s l =
       told = λ to i. spans_end_as_told r s to (said_from (Answer.Unsubscribed s to) past i);
       unended = λ none. no_end closed lagged none;
       asked = λ cause. (let left = asked_closed closed lagged cause in
-          let end = end_said s past left.0.to (asked_at_frontier r s left.0 left.1 left.2) in
+          let end = asked_began r s left.0 left.1 left.2 in
           (end.0, end.1, left.0.to, end.2, end.3));
       lag = λ cause. (let end = has_end closed lagged Lag cause in (end.0, end.1, lag_as_told r s end.0 cause end.1));
       exactly_due = accepted_is_due r s l
@@ -116,11 +101,9 @@ as_told r names steps s l =
     }
 
 one_order : (r : Run) (names : List (List ℕ)) (steps : List CoreStep) (p q : QueueReport)
-    → In p (report_at r names steps).subscriptions → In q (report_at r names steps).subscriptions
-    → shared_marks p.queued q.queued ≡ shared_marks q.queued p.queued
+    → In p (report_at r names steps).subscriptions → In q (report_at r names steps).subscriptions → shared_marks p.queued q.queued ≡ shared_marks q.queued p.queued
 one_order r names steps p q i j =
-    let w = final_world r in
-    let a = each_in (queue_report w) 0 w.subscriptions p i in let b = each_in (queue_report w) 0 w.subscriptions q j in
+    let w = final_world r in let a = each_in (queue_report w) 0 w.subscriptions p i in let b = each_in (queue_report w) 0 w.subscriptions q j in
     subst (λ (z : QueueReport). shared_marks z.queued q.queued ≡ shared_marks q.queued z.queued) a.2
     (subst (λ (z : QueueReport). shared_marks (accepted_at w (0 + a.0)) z.queued ≡ shared_marks z.queued (accepted_at w (0 + a.0))) b.2
     (shared_in_one_order r (0 + a.0) (0 + b.0) (omega (arith, a.1)) (omega (arith, b.1))))
@@ -171,8 +154,7 @@ delivers topics capacity steps run =
 pub delivers_told : (topics : TopicList) (capacity : ℕ) (steps : List CoreStep) → IsCoreRun topics capacity steps
     → Delivers capacity (told_of topics.names steps) (report_of (core_of topics capacity steps))
 delivers_told topics capacity steps run =
-    let r = run_of topics capacity steps in let report = report_of (core_of topics capacity steps) in
-    let is = account_is topics capacity steps run in
+    let r = run_of topics capacity steps in let report = report_of (core_of topics capacity steps) in let is = account_is topics capacity steps run in
     let asked : (s : ℕ) (q : QueueReport) → slice_get report.subscriptions s ≡ Some q → q.cause ≡ Some Asked → EndsAt q.span.topic s (account_of topics.names steps) =
     subst (λ (z : List Answer). (s : ℕ) (q : QueueReport) → slice_get report.subscriptions s ≡ Some q → q.cause ≡ Some Asked → EndsAt q.span.topic s z) (sym is)
     (subst (λ (k : Core). (s : ℕ) (q : QueueReport) → slice_get (report_of k).subscriptions s ≡ Some q → q.cause ≡ Some Asked → EndsAt q.span.topic s (said (answers_of r)))

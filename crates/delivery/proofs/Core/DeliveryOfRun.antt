@@ -1,15 +1,12 @@
 -- The delivery of every run of the core.
 use Rattle.std.proofs.Common.{◌≡◌, ℕ, ◌<◌, List, [], length, sym, ap, subst, ◌∙◌, arith}
-use Rattle.delivery.proofs.Words.Topics.{TopicState}
-use Rattle.delivery.proofs.Words.Lemmas.{map_length}
-use Rattle.delivery.proofs.Words.Core.{TopicList, CoreStep, names_after, text_out, Core, core_of, names_at, report_of, out_in}
+use Rattle.delivery.proofs.Words.All.{TopicState, map_length, TopicList, CoreStep, names_after, text_out, Core, core_of, names_at, report_of, out_in}
 use Rattle.delivery.specs.Core.Answered.{RunsDeliverAnswers}
 use Rattle.delivery.specs.Core.Delivery.{RunsDeliver}
-use Rattle.delivery.proofs.Core.AccountOfRun.{run_of, core_at, core_is}
+use Rattle.delivery.proofs.Words.Changes.{run_of, core_at, core_is, get_or-each_number, length-each_number}
 use Rattle.delivery.proofs.Core.DeliversOfRun.{delivers, delivers_told}
 use Rattle.delivery.proofs.Core.Counts.{counted}
 use Rattle.delivery.proofs.Core.FramesRead.{are_readings}
-use Rattle.delivery.proofs.Views.Lists.ByNumber.{get_or-each_number, length-each_number}
 
 -- the octets out of each connection are those that the steps say
 written : (topics : TopicList) (capacity : ℕ) (steps : List CoreStep) (c : ℕ) → c < length (report_of (core_of topics capacity steps)).outs

@@ -1,9 +1,5 @@
 -- The world in which a frame's destination has its topic: but for that topic it is the world of before.
-use Rattle.delivery.proofs.Words.Std.{◌≡◌, ℕ, Bool, true, false, cond, not, ◌&&◌, List, [], ◌∷◌, ◌++◌, length, None, refl, ap, codes}
-use Rattle.delivery.proofs.Words.Topics.{first_refusal, new_topic}
-use Rattle.delivery.proofs.Words.Frames.{RawFrame, field, has_destination, is_known}
-use Rattle.delivery.proofs.Words.Machine.{World, Move, needs_idle, run}
-use Rattle.delivery.proofs.Words.Core.{Core, core_for, names_at, topic_moves}
+use Rattle.delivery.proofs.Words.All.{◌≡◌, ℕ, Bool, true, false, cond, not, ◌&&◌, List, [], ◌∷◌, ◌++◌, length, None, refl, ap, codes, first_refusal, new_topic, RawFrame, field, has_destination, is_known, World, Move, needs_idle, run, Core, core_for, names_at, topic_moves}
 
 -- the world with one more topic
 abbrev pub with_topic : World → World
@@ -11,11 +7,7 @@ with_topic w = record w { topics = w.topics ++ new_topic (record { 0 = length w.
 
 -- what holds of the world of before and with one more topic holds of it
 pub by_use : (P : World → Type 0) (k : Core) (f : RawFrame) → P k.world → P (with_topic k.world) → P (core_for k f).world
-by_use P k f old new = go (has_destination f.command && not (is_known (field (codes "destination") f) (names_at k)))
-  where
-    go : (b : Bool) → P (run (cond b (Move.AddsTopic 0 ∷ []) []) k.world)
-    go true = new
-    go false = old
+by_use P k f old new = elim (has_destination f.command && not (is_known (field (codes "destination") f) (names_at k))) as (λ (b : Bool). P (run (cond b (Move.AddsTopic 0 ∷ []) []) k.world)) [ true ↦ new | false ↦ old ]
 
 -- what stands against a Next
 pub idle_for : (k : Core) (f : RawFrame) (c : ℕ) → first_refusal (needs_idle k.world c) ≡ None → first_refusal (needs_idle (core_for k f).world c) ≡ None

@@ -1,23 +1,15 @@
 -- What a run read of a connection are the first frames of its octets, by the grammar.
-use Rattle.delivery.proofs.Words.Std.{◌≡◌, ℕ, ◌<◌, ◌==◌, Bool, true, false, cond, ◌&&◌, ◌⊎◌, inl, inr, true≢false, List, [], ◌∷◌, ◌++◌, length, Option, Some, None, refl, sym, ap, subst, ◌∙◌, append_assoc, append-nil, arith, eqb-true, ltb-true, false≢true, or_parts, not-false, option_map_or, option_to_list, option_or}
-use Rattle.delivery.proofs.Words.Topics.{first_refusal, In}
-use Rattle.delivery.proofs.Words.Frames.{Limits, RawFrame, Check, Unread, with_piece}
-use Rattle.delivery.proofs.Words.Lemmas.{at_set_within, passes}
-use Rattle.delivery.proofs.Words.Machine.{Objection, refusal_of, World, Connection, Standing, is_reading, nobody, connection_at, Move, needs_open, needs_idle, run, Errs}
-use Rattle.delivery.proofs.Words.Core.{TopicList, Event, Outcome, ConnectionFault, CoreStep, Reading, frame_in, is_fed, is_next, fed_octets, frames_of, reader_limits, BeginsWithFrames, Core, core_of, moves, unread_after, unread_at, IsReadBy, unless, fault_outcomes, reading_outcomes, outcomes, IsReadAt, IsCoreRun}
+use Rattle.delivery.proofs.Words.All.{◌≡◌, ℕ, ◌<◌, ◌==◌, Bool, true, false, cond, ◌&&◌, ◌⊎◌, inl, inr, true≢false, List, [], ◌∷◌, ◌++◌, length, Option, Some, None, refl, sym, ap, subst, ◌∙◌, append_assoc, append-nil, arith, eqb-true, ltb-true, false≢true, or_parts, not-false, option_map_or, option_to_list, option_or, first_refusal, In, Limits, RawFrame, Check, Unread, with_piece, at_set_within, passes, Objection, refusal_of, World, Connection, Standing, is_reading, nobody, connection_at, Move, needs_open, needs_idle, run, Errs, TopicList, Event, Outcome, ConnectionFault, CoreStep, Reading, frame_in, is_fed, is_next, fed_octets, frames_of, reader_limits, BeginsWithFrames, Core, core_of, moves, unread_after, unread_at, IsReadBy, unless, fault_outcomes, reading_outcomes, outcomes, IsReadAt, IsCoreRun}
 use Rattle.stomp_frame.specs.Grammar.{AreEols, BeginsWith}
 use Rattle.stomp_frame.proofs.Pieces.{eols_before}
 use Rattle.stomp_frame.proofs.Whole.{keeps_first_frame}
 use Rattle.delivery.proofs.Core.ShownReadings.{shown_each}
 use Rattle.delivery.specs.Core.Steps.{fed_to, AreReadings}
 use Rattle.delivery.specs.Core.State.{left_by}
-use Rattle.delivery.proofs.Machine.SubscriptionSteps.{set_length}
-use Rattle.delivery.proofs.Machine.Effects.{made_world}
-use Rattle.delivery.proofs.Core.AccountOfRun.{in_option, refusal_some}
+use Rattle.delivery.proofs.Words.Steps.{set_length, made_world}
+use Rattle.delivery.proofs.Words.Changes.{in_option, refusal_some, grown, stays_shut, core_steps}
 use Rattle.delivery.proofs.Core.ReadingsShown.{ReadsUnless, all_shown}
 use Rattle.delivery.proofs.Core.Speaking.{open_in}
-use Rattle.delivery.proofs.Views.Endpoints.StandingOfConnection.{grown, stays_shut}
-use Rattle.delivery.proofs.Core.ClaimsStand.{core_steps}
 
 -- the text is these frames, end-of-lines between them, and then this, perhaps behind more end-of-lines
 abbrev Front : Limits → List ℕ → List RawFrame → List ℕ → Type 0
@@ -36,8 +28,7 @@ front_longer limits text (f ∷ fs) tail more h = (h.0 ++ more, keeps_first_fram
 
 -- end-of-lines that are left out
 front_shorter : (limits : Limits) (text : List ℕ) (fs : List RawFrame) (tail rest eols : List ℕ) → AreEols eols → tail ≡ eols ++ rest → Front limits text fs tail → Front limits text fs rest
-front_shorter limits text [] tail rest eols k e h =
-    (h.0 ++ eols, eols_before h.0 eols h.1 k, h.2 ∙ (ap (λ (z : List ℕ). h.0 ++ z) e ∙ sym (append_assoc h.0 eols rest)))
+front_shorter limits text [] tail rest eols k e h = (h.0 ++ eols, eols_before h.0 eols h.1 k, h.2 ∙ (ap (λ (z : List ℕ). h.0 ++ z) e ∙ sym (append_assoc h.0 eols rest)))
 front_shorter limits text (f ∷ fs) tail rest eols k e h = (h.0, h.1, front_shorter limits h.0 fs tail rest eols k e h.2)
 
 -- one frame more
@@ -64,8 +55,7 @@ IsShut w c = (c < length w.connections) × (open_in w.connections c ≡ false)
 -- What a reader stands for, beside the octets that it was fed and the frames that were read: they are its front; or it
 -- returned a fault, and its connection isn't open.
 abbrev Reads : List ℕ → List RawFrame → Unread → Type 0 → Type 0
-Reads text fs u Shut =
-    (u.limits ≡ reader_limits) × (((u.answered ≡ None) × Front reader_limits text fs u.text) ⊎ (Shut × BeginsWithFrames reader_limits text fs))
+Reads text fs u Shut = (u.limits ≡ reader_limits) × (((u.answered ≡ None) × Front reader_limits text fs u.text) ⊎ (Shut × BeginsWithFrames reader_limits text fs))
 
 -- nothing was fed or read
 reads_same : (text text' : List ℕ) (fs fs' : List RawFrame) (u u' : Unread) (S T : Type 0) → text' ≡ text → fs' ≡ fs → u' ≡ u → (S → T) → Reads text fs u S → Reads text' fs' u' T
@@ -99,12 +89,6 @@ quiet k c ms piece e h =
 not_shut : (w : World) (c : ℕ) → first_refusal (needs_open w c) ≡ None → IsShut w c → Prim.⊥
 not_shut w c n h = true≢false (sym (not-false _ (passes (needs_open w c) n).1.1.0) ∙ h.1)
 
-fed_open : (k : Core) (c : ℕ) (octets : List ℕ) (o : Outcome) (why : Option Objection) → first_refusal (needs_open k.world c) ≡ why
-    → In o (unless why (Outcome.Fed ∷ Outcome.NoMemory ∷ [])) → is_fed o ≡ true → first_refusal (needs_open k.world c) ≡ None
-fed_open k c octets o None e i f = e
-fed_open k c octets o (Some why) e i f =
-    absurd (false≢true (ap is_fed (refusal_some (refusal_of why) o (in_option o _ i)).is ∙ f))
-
 piece_read : (k : Core) (c : ℕ) (octets : List ℕ) (ms : List Move) → first_refusal (needs_open k.world c) ≡ None → ReadsAt k c
     → ReadsAfter k c octets [] (with_piece (unread_at c k.steps) octets) (run ms k.world)
 piece_read k c octets ms n h =
@@ -129,14 +113,16 @@ piece_case k c d octets o ms true false e f i h = quiet k c ms [] refl h
 piece_case k c d octets o ms true true e f i h =
     let same : d ≡ c = eqb-true d c e in
     piece_read k c octets ms
-    (subst (λ n. first_refusal (needs_open k.world n) ≡ None) same (fed_open k d octets o (first_refusal (needs_open k.world d)) refl i f)) h
+    (subst (λ n. first_refusal (needs_open k.world n) ≡ None) same ((elim (first_refusal (needs_open k.world d)) as (λ (why : Option Objection). first_refusal (needs_open k.world d) ≡ why → In o (unless why (Outcome.Fed ∷ Outcome.NoMemory ∷ [])) → first_refusal (needs_open k.world d) ≡ None) [
+      | None ↦ λ e i. e
+      | Some why ↦ λ e i. absurd (false≢true (ap is_fed (refusal_some (refusal_of why) o (in_option o _ i)).is ∙ f))
+    ]) refl i)) h
 
 -- ---- a Next
 
 -- one that is read is of an open connection
 idle_open : (w : World) (c : ℕ) → first_refusal (needs_idle w c) ≡ None → IsShut w c → Prim.⊥
-idle_open w c n h =
-    true≢false (sym (not-false _ (or_parts _ _ (passes (needs_idle w c) n).1.1.0).0) ∙ h.1)
+idle_open w c n h = true≢false (sym (not-false _ (or_parts _ _ (passes (needs_idle w c) n).1.1.0).0) ∙ h.1)
 
 -- after an ERROR it isn't
 shut_by_error : (w : World) (c : ℕ) → first_refusal (needs_idle w c) ≡ None → IsShut (run (Errs c ∷ []) w) c
@@ -250,8 +236,7 @@ limits_are topics capacity steps is_run c = (reads_all topics capacity steps is_
 
 -- the reader of a connection whose frames may be read has returned no fault
 pub unanswered : (topics : TopicList) (capacity : ℕ) (steps : List CoreStep) → IsCoreRun topics capacity steps → (c : ℕ)
-    → first_refusal (needs_idle (core_of topics capacity steps).world c) ≡ None
-    → (unread_at c (core_of topics capacity steps).steps).answered ≡ None
+    → first_refusal (needs_idle (core_of topics capacity steps).world c) ≡ None → (unread_at c (core_of topics capacity steps).steps).answered ≡ None
 unanswered topics capacity steps is_run c idle = elim (reads_all topics capacity steps is_run c).1 [
   | inl j ↦ j.0
   | inr j ↦ absurd (idle_open (core_of topics capacity steps).world c idle j.0)

@@ -1,11 +1,6 @@
 -- One run with all that is asked of it, so that neither a run of the core nor its delivery is asked in vain: a connection is
 -- opened, fed a CONNECT, and greeted.
-use Rattle.delivery.proofs.Words.Std.{inl, refl, arith, ◌≡◌, ℕ, zero, suc, ◌==◌, ◌<◌, ◌++◌, Bool, true, false, if◌then◌else◌, List, [], ◌∷◌, codes, Ok}
-use Rattle.delivery.proofs.Words.Topics.{CommitRow, In}
-use Rattle.delivery.proofs.Words.Frames.{unread_of}
-use Rattle.delivery.proofs.Words.Lemmas.{none_some}
-use Rattle.delivery.proofs.Words.Machine.{log_row, Answer}
-use Rattle.delivery.proofs.Words.Core.{Event, Outcome, TopicList, CoreStep, Reading, reader_limits, fed_octets, frames_of, BeginsWithFrames, released_log, account_of, text_out, core_of, IsCoreRun, Report, report_of, log_in, out_in, Delivery, DeliversAnswers}
+use Rattle.delivery.proofs.Words.All.{inl, refl, arith, ◌≡◌, ℕ, zero, suc, ◌==◌, ◌<◌, ◌++◌, Bool, true, false, if◌then◌else◌, List, [], ◌∷◌, codes, Ok, CommitRow, In, unread_of, none_some, log_row, Answer, Event, Outcome, TopicList, CoreStep, Reading, reader_limits, fed_octets, frames_of, BeginsWithFrames, released_log, account_of, text_out, core_of, IsCoreRun, Report, report_of, log_in, out_in, Delivery, DeliversAnswers}
 use Rattle.std.specs.Str.{is_utf8, chars}
 use Rattle.std.specs.Char.{encode_utf8}
 use Rattle.stomp_escape.specs.Inner.Unescaping.{unescaped_from}
@@ -51,11 +46,9 @@ report = record {
   outs = codes "CONNECTED\nversion:1.2\nheart-beat:0,0\n\n\0" ∷ [];
 }
 
-report_is : report_of (core_of topics 64 steps) ≡ report
-report_is = refl
-
-account_is : account_of topics.names steps ≡ Answer.Opened 0 ∷ []
-account_is = refl
+reported_rows : (report_of (core_of topics 64 steps) ≡ report)
+    × (account_of topics.names steps ≡ Answer.Opened 0 ∷ [])
+reported_rows = (refl, refl)
 
 first_if : (b : Bool) → BeginsWithFrames reader_limits ((if b then text else []) ++ []) (if b then connect ∷ [] else [])
 first_if true = ([], begins reader_limits text connect [] text_is, tt)

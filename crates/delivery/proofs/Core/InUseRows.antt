@@ -1,10 +1,6 @@
 -- A client-id is in use until its connection is gone: after its DISCONNECT, an ERROR or its loss no senders among which its gate
 -- is back are those of the core. So a core that gives the gate back then makes no step that its contract allows.
-use Rattle.delivery.proofs.Words.Std.{refl, sym, ap, ◌∙◌, ◌≡◌, [], ◌∷◌, Option, Some, None, codes}
-use Rattle.delivery.proofs.Words.Topics.{GateState, KeptSender, SendersState, find_kept}
-use Rattle.delivery.proofs.Words.Lemmas.{some_same, none_some}
-use Rattle.delivery.proofs.Words.Core.{Event, claims_of, Core}
-use Rattle.delivery.proofs.Words.Views.{AreClients, kept_entry}
+use Rattle.delivery.proofs.Words.All.{refl, sym, ap, ◌∙◌, ◌≡◌, [], ◌∷◌, Option, Some, None, codes, GateState, KeptSender, SendersState, find_kept, some_same, none_some, Event, claims_of, Core, AreClients, kept_entry}
 use Rattle.delivery.proofs.Core.Acts.{act, reads, played, commit, disconnect}
 use Rattle.delivery.proofs.Core.ClaimRows.{nine, opens_as, p}
 

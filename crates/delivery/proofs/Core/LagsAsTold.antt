@@ -1,21 +1,14 @@
 -- A span that lagged ends at the last item of its queue, which was full as a row came that its topic's log has above the end.
-use Rattle.delivery.proofs.Words.Std.{◌≡◌, ℕ, ◌+◌, ◌<◌, ◌⊎◌, Bool, true, false, not, inl, inr, List, [], ◌∷◌, ◌++◌, length, Option, Some, None, refl, sym, ap, subst, ◌∙◌, arith, append-nil, true≢false, not-true, and_parts, and_from, cases_lt, option_map}
-use Rattle.delivery.proofs.Words.Topics.{Topic, Stamp, In, Rises, LogRow, Item, last_stamp, row_stamp, item_stamp, up_to, zero_stamp, stamp_lt, Cause, EntryEnd, IsQueueOf, Asked, Lag}
-use Rattle.delivery.proofs.Words.Lemmas.{In-append_left, In-append_right, lt_irrefl, lt_asym, lt_le, le_trans, same_stamps, zero_least, some_same, none_some}
-use Rattle.delivery.proofs.Words.Machine.{World, subscription_at, entry_at, accepted_at, end_at, log_at, frontier_at, entry_to, Move, Answer, world_after, answer_to, delivered_items, Run, answers_of, final_world, EndsBeforeRow, cause_of, Unsubscribed}
-use Rattle.delivery.proofs.Words.Core.{released_frontier, QueueReport, queue_report, last_queued, LagsAsAnswered}
+use Rattle.delivery.proofs.Words.All.{◌≡◌, ℕ, ◌+◌, ◌<◌, ◌⊎◌, Bool, true, false, not, inl, inr, List, [], ◌∷◌, ◌++◌, length, Option, Some, None, refl, sym, ap, subst, ◌∙◌, arith, append-nil, true≢false, not-true, and_parts, and_from, cases_lt, option_map, Topic, Stamp, In, Rises, LogRow, Item, last_stamp, row_stamp, item_stamp, up_to, zero_stamp, stamp_lt, Cause, EntryEnd, IsQueueOf, Asked, Lag, In-append_left, In-append_right, lt_irrefl, lt_asym, lt_le, le_trans, same_stamps, zero_least, some_same, none_some, World, subscription_at, entry_at, accepted_at, end_at, log_at, frontier_at, entry_to, Move, Answer, world_after, answer_to, delivered_items, Run, answers_of, final_world, EndsBeforeRow, cause_of, Unsubscribed, released_frontier, QueueReport, queue_report, last_queued, LagsAsAnswered}
 use Rattle.mcast_txn.proofs.Sorting.{Rises-back, Rises-front}
 use Rattle.delivery.specs.Core.Reports.{cause_at}
-use Rattle.delivery.proofs.Machine.Invariant.{topic_in}
-use Rattle.delivery.proofs.Machine.InvariantIsKept.{tickets, step_reached}
+use Rattle.delivery.proofs.Words.Steps.{topic_in, tickets, step_reached, reached, start_reached, queued, frontier_is, by_run}
 use Rattle.delivery.proofs.Machine.SpanSteps.{step_tells}
-use Rattle.delivery.proofs.Theorem.AcceptedIsDue.{reached, start_reached, queued, frontier_is}
 use Rattle.delivery.proofs.Theorem.ClosedAsAnswered.{closed_as_told, closed_stays}
 use Rattle.delivery.proofs.Theorem.EndsAreAnswered.{ends_are_told}
 use Rattle.delivery.proofs.Theorem.LagsEndBeforeRow.{lags_end_before_row}
 use Rattle.delivery.proofs.Theorem.QueuesGrow.{queues_grow}
 use Rattle.delivery.proofs.Theorem.SpansAsAnswered.{known, end_there, ends_stay}
-use Rattle.delivery.proofs.Core.ByRun.{by_run}
 use Rattle.delivery.proofs.Core.AtNext.{at_next}
 use Rattle.delivery.proofs.Core.Said.{said, is_said, released_frontier_said, delivered_said}
 use Rattle.delivery.proofs.Core.SaidParts.{said_append, said_kept, unsaid_same}
@@ -28,8 +21,7 @@ last_item : (from end : Stamp) (xs : List Item) → Rises item_stamp xs → ((i 
     → ((i : Item) → In i xs → stamp_lt end i.stamp ≡ false) → (from ≡ end) ⊎ ((i : Item) × In i xs × (i.stamp ≡ end)) → end ≡ last_queued from xs
 last_item from end [] rises above past (inl e) = sym e
 last_item from end [] rises above past (inr h) = absurd h.1
-last_item from end (x ∷ xs) rises above past (inl e) =
-    absurd (true≢false (sym (above x (inl refl)) ∙ (ap (λ z. stamp_lt z x.stamp) e ∙ past x (inl refl))))
+last_item from end (x ∷ xs) rises above past (inl e) = absurd (true≢false (sym (above x (inl refl)) ∙ (ap (λ z. stamp_lt z x.stamp) e ∙ past x (inl refl))))
 last_item from end (x ∷ xs) rises above past (inr h) =
     last_item x.stamp end xs rises.1 rises.0 (λ i k. past i (inr k)) (elim h.1 [ inl e ↦ inl (ap item_stamp e ∙ h.2) | inr k ↦ inr (h.0, k, h.2) ])
 
@@ -37,8 +29,7 @@ last_item from end (x ∷ xs) rises above past (inr h) =
 none_after : (from end : Stamp) (xs more : List Item) → Rises item_stamp (xs ++ more) → ((i : Item) → In i more → stamp_lt from i.stamp ≡ true)
     → ((i : Item) → In i more → stamp_lt end i.stamp ≡ false) → end ≡ last_queued from xs → more ≡ []
 none_after from end [] [] rises above past e = refl
-none_after from end [] (m ∷ ms) rises above past e =
-    absurd (true≢false (sym (above m (inl refl)) ∙ (ap (λ z. stamp_lt z m.stamp) (sym e) ∙ past m (inl refl))))
+none_after from end [] (m ∷ ms) rises above past e = absurd (true≢false (sym (above m (inl refl)) ∙ (ap (λ z. stamp_lt z m.stamp) (sym e) ∙ past m (inl refl))))
 none_after from end (x ∷ xs) more rises above past e = none_after x.stamp end xs more rises.1 (λ i k. rises.0 i (In-append_right i xs more k)) past e
 
 last_row : (base : Stamp) (xs : List LogRow) → (last_stamp base xs ≡ base) ⊎ ((r : LogRow) × In r xs × (r.stamp ≡ last_stamp base xs))
@@ -50,12 +41,10 @@ last_below : (base : Stamp) (xs others : List LogRow) (row : LogRow) → Rises r
 last_below base [] others row rises l = l
 last_below base (x ∷ xs) others row rises l = last_below x.stamp xs others row rises.1 (rises.0 row (In-append_right row xs (row ∷ others) (inl refl)))
 
-last_reaches : (base : Stamp) (xs : List LogRow) → ((r : LogRow) → In r xs → stamp_lt base r.stamp ≡ true) → Rises row_stamp xs
-    → stamp_lt (last_stamp base xs) base ≡ false
+last_reaches : (base : Stamp) (xs : List LogRow) → ((r : LogRow) → In r xs → stamp_lt base r.stamp ≡ true) → Rises row_stamp xs → stamp_lt (last_stamp base xs) base ≡ false
 last_reaches base [] above rises = lt_irrefl base
 last_reaches base (x ∷ xs) above rises =
-    let last = last_stamp x.stamp xs in
-    lt_asym base last (lt_le base x.stamp last (above x (inl refl)) (last_reaches x.stamp xs rises.0 rises.1))
+    let last = last_stamp x.stamp xs in lt_asym base last (lt_le base x.stamp last (above x (inl refl)) (last_reaches x.stamp xs rises.0 rises.1))
 
 last_split : (base : Stamp) (xs others : List LogRow) (row : LogRow) → last_stamp base (xs ++ row ∷ others) ≡ last_stamp row.stamp others
 last_split base [] others row = refl
@@ -75,8 +64,7 @@ record Between (before later : List LogRow) (end : Stamp) : Type 0 where
 between : (before later : List LogRow) (end : Stamp) → EndsBeforeRow before later end → Rises row_stamp later
     → ((r : LogRow) → In r later → stamp_lt zero_stamp r.stamp ≡ true) → Between before later end
 between before later end h rises above =
-    let xs = before ++ h.rows in let ys = h.row ∷ h.others in
-    let all : Rises row_stamp (xs ++ ys) = subst (λ z. Rises row_stamp z) h.log_is rises in
+    let xs = before ++ h.rows in let ys = h.row ∷ h.others in let all : Rises row_stamp (xs ++ ys) = subst (λ z. Rises row_stamp z) h.log_is rises in
     let over : (r : LogRow) → In r (xs ++ ys) → stamp_lt zero_stamp r.stamp ≡ true = λ r k. above r (subst (λ z. In r z) (sym h.log_is) k) in
     let rest = Rises-back row_stamp xs ys all in
     let below : stamp_lt end h.row.stamp ≡ true =
@@ -130,16 +118,6 @@ not_closed r e s end none cause a =
     let v = world_after (final_world r) e in
     asked_no_lag (sym (ap (λ z. cause_by z (entry_to (entry_at v s))) (closed_as_told r e s end a) ∙ ap (λ z. Some (cause_of z)) none) ∙ cause)
 
--- a span that has ended, and has lagged after an event, had lagged
-lagged_before : (r : Run) (e : Move) (s : ℕ) (end : Stamp) (o : Option EntryEnd) → (subscription_at (final_world r) s).closed ≡ o → end_at (final_world r) s ≡ Some end
-    → cause_at (world_after (final_world r) e) s ≡ Some Lag → cause_at (final_world r) s ≡ Some Lag
-lagged_before r e s end None c d cause =
-    let lagged = entry_to (entry_at (final_world r) s) in
-    ap (λ z. cause_by z lagged) c ∙ ap (option_map (λ (z : Stamp). Lag)) (sym (ap (λ z. end_by z lagged) c) ∙ d)
-lagged_before r e s end (Some left) c d cause =
-    let v = world_after (final_world r) e in
-    ap (λ z. cause_by z (entry_to (entry_at (final_world r) s))) c ∙ (sym (ap (λ z. cause_by z (entry_to (entry_at v s))) (closed_stays r e s left c)) ∙ cause)
-
 -- ---- a step
 
 -- a lag is told of a subscription with the same topic, beginning and queue, and of a longer account
@@ -170,28 +148,24 @@ queue_then : (r : Run) (e : Move) (s : ℕ) (end : Stamp) → end_at (world_afte
     IsQueueOf x.base x.frontier x.held (subscription_at (final_world r) s).from (Some end) (accepted_at v s)
 queue_then r e s end some =
     let w = final_world r in let v = world_after w e in let past = answer_to w e ∷ answers_of r in let h = step_reached (answers_of r) w e (reached r) in
-    let each = (step_tells (answers_of r) w e (reached r)).each s (old_one r e s end some) in
-    let q = (queued (tickets past) v s h.inv (end_there past v s end h some)).queue in
+    let each = (step_tells (answers_of r) w e (reached r)).each s (old_one r e s end some) in let q = (queued (tickets past) v s h.inv (end_there past v s end h some)).queue in
     subst (λ (t : Topic). IsQueueOf (topic_in v.topics t).base (topic_in v.topics t).frontier (topic_in v.topics t).held (subscription_at w s).from (Some end) (accepted_at v s)) each.topic
     (subst (λ (from : Stamp). let x = topic_in v.topics (subscription_at v s).topic in IsQueueOf x.base x.frontier x.held from (Some end) (accepted_at v s)) each.from
     (subst (λ (to : Option Stamp). let x = topic_in v.topics (subscription_at v s).topic in IsQueueOf x.base x.frontier x.held (subscription_at v s).from to (accepted_at v s)) some q))
 
 lag_comes : (r : Run) (e : Move) (s : ℕ) (end : Stamp) → end_at (final_world r) s ≡ None → cause_at (world_after (final_world r) e) s ≡ Some Lag
-    → end_at (world_after (final_world r) e) s ≡ Some end
-    → length (accepted_at (world_after (final_world r) e) s) ≡ length (delivered_items s (answers_of r)) + r.capacity
+    → end_at (world_after (final_world r) e) s ≡ Some end → length (accepted_at (world_after (final_world r) e) s) ≡ length (delivered_items s (answers_of r)) + r.capacity
     → LagsAsAnswered (world_after (final_world r) e).capacity s (answer_to (final_world r) e ∷ answers_of r) (queue_report (world_after (final_world r) e) s) end
 lag_comes r e s end none cause some full =
     let w = final_world r in let past = answers_of r in let v = world_after w e in let later = answer_to w e ∷ past in
     let t = (subscription_at w s).topic in let h = step_reached past w e (reached r) in
-    let tells = step_tells past w e (reached r) in let each = tells.each s (old_one r e s end some) in
-    let tied = h.inv.tied t in
+    let tells = step_tells past w e (reached r) in let each = tells.each s (old_one r e s end some) in let tied = h.inv.tied t in
     let b = between (log_at w t) (log_at v t) end (lags_end_before_row r e s end none some (not_closed r e s end none cause)) tied.sound.rises
     (λ row k. subst (λ z. stamp_lt z row.stamp ≡ true) tied.undrained (tied.sound.above_base row k)) in
     let q = (queued (tickets past) w s (reached r).inv (old_one r e s end some)).queue in
     let from : stamp_lt (frontier_at w t) (subscription_at w s).from ≡ false =
     subst (λ z. stamp_lt z (subscription_at w s).from ≡ false) (frontier_is (tickets past) w t (reached r).inv) q.from_past in
-    let le : stamp_lt end (subscription_at w s).from ≡ false = le_trans (subscription_at w s).from (frontier_at w t) end from b.reached in
-    let x = topic_in v.topics t in
+    let le : stamp_lt end (subscription_at w s).from ≡ false = le_trans (subscription_at w s).from (frontier_at w t) end from b.reached in let x = topic_in v.topics t in
     record {
       later = [];
       by = answer_to w e;
@@ -218,12 +192,12 @@ lag_case r e h s end None none cause some = elim (ends_are_told r e s end none s
   | inr k ↦ lag_comes r e s end none cause some k.1
 ]
 lag_case r e h s end (Some old) was cause some =
-    let w = final_world r in let past = answers_of r in let v = world_after w e in
-    let same : old ≡ end = some_same old end (sym (ends_stay r e s old was) ∙ some) in
-    let before = h s end (lagged_before r e s old (subscription_at w s).closed refl was cause) (was ∙ ap Some same) in
-    let l = old_one r e s end some in
-    let tells = step_tells past w e (reached r) in let each = tells.each s l in
-    let grown = queues_grow r e s l in let more = grown.0 in
+    let w = final_world r in let past = answers_of r in let v = world_after w e in let same : old ≡ end = some_same old end (sym (ends_stay r e s old was) ∙ some) in
+    let before = h s end ((elim (subscription_at w s).closed as (λ (o : Option EntryEnd). (subscription_at (final_world r) s).closed ≡ o → cause_at (final_world r) s ≡ Some Lag) [
+      | None ↦ λ c. (let lagged = entry_to (entry_at (final_world r) s) in ap (λ z. cause_by z lagged) c ∙ ap (option_map (λ (z : Stamp). Lag)) (sym (ap (λ z. end_by z lagged) c) ∙ was))
+      | Some left ↦ λ c. (let v = world_after (final_world r) e in ap (λ z. cause_by z (entry_to (entry_at (final_world r) s))) c ∙ (sym (ap (λ z. cause_by z (entry_to (entry_at v s))) (closed_stays r e s left c)) ∙ cause))
+    ]) refl) (was ∙ ap Some same) in
+    let l = old_one r e s end some in let tells = step_tells past w e (reached r) in let each = tells.each s l in let grown = queues_grow r e s l in let more = grown.0 in
     let q = queue_then r e s end some in
     let span : (i : Item) → In i more → (stamp_lt (subscription_at w s).from i.stamp ≡ true) × (not (stamp_lt end i.stamp) ≡ true) =
     λ i k. and_parts (stamp_lt (subscription_at w s).from i.stamp) (not (stamp_lt end i.stamp))
@@ -263,8 +237,7 @@ lag_said capacity s past q end h = by_case (is_said h.by) refl
       passed = subst (λ z. stamp_lt end (released_frontier q.span.topic z) ≡ true) (said_kept h.by h.before e) passed;
       full = h.full ∙ ap (λ (xs : List Item). length xs + capacity) (sym (delivered_said s h.before));
     }
-    by_case false e =
-        absurd (true≢false (sym (subst (λ z. stamp_lt end (released_frontier q.span.topic z) ≡ true) (unsaid_same h.by h.before e) passed) ∙ reached))
+    by_case false e = absurd (true≢false (sym (subst (λ z. stamp_lt end (released_frontier q.span.topic z) ≡ true) (unsaid_same h.by h.before e) passed) ∙ reached))
 
 -- after each run, a span that has lagged ends so by the account
 pub lag_as_told : (r : Run) (s : ℕ) (end : Stamp) → cause_at (final_world r) s ≡ Some Lag → end_at (final_world r) s ≡ Some end

@@ -1,8 +1,6 @@
 -- What holds at each moment of a run: of all that was answered or told, and of what was before each part of it.
 use Rattle.std.proofs.Common.{◌≡◌, Bool, true, false, List, [], ◌∷◌, ◌++◌, refl, sym, ap, subst}
-use Rattle.delivery.proofs.Words.Topics.{Transaction}
-use Rattle.delivery.proofs.Words.Machine.{Answer, txn_of_id}
-use Rattle.delivery.proofs.Words.Core.{Told}
+use Rattle.delivery.proofs.Words.All.{Transaction, Answer, txn_of_id, Told}
 use Rattle.delivery.proofs.Core.Said.{said, is_said}
 use Rattle.delivery.proofs.Core.SaidParts.{said_kept, unsaid_same}
 use Rattle.delivery.proofs.Core.Tells.{tell}
@@ -27,8 +25,7 @@ at_moment {X = X} P xs h later before e = below later (subst (λ (z : List X). A
 
 pub from_moments : {X : Type 0} (P : List X → Type 0) (xs : List X) → ((later before : List X) → xs ≡ later ++ before → P before) → Always P xs
 from_moments P [] h = h [] [] refl
-from_moments P (x ∷ xs) h =
-    (h [] (x ∷ xs) refl, from_moments P xs (λ later before e. h (x ∷ later) before (ap (λ z. x ∷ z) e)))
+from_moments P (x ∷ xs) h = (h [] (x ∷ xs) refl, from_moments P xs (λ later before e. h (x ∷ later) before (ap (λ z. x ∷ z) e)))
 
 -- what holds of each list
 pub always_all : {X : Type 0} (P : List X → Type 0) → ((xs : List X) → P xs) → (xs : List X) → Always P xs
@@ -50,13 +47,10 @@ always_one P Q f (x ∷ xs) h = (f (x ∷ xs) h.0, always_one P Q f xs h.1)
 -- each moment of what an account says is one of the answers
 pub always_said : (P : List Answer → Type 0) → ((past : List Answer) → P past → P (said past)) → (past : List Answer) → Always P past → Always P (said past)
 always_said P f [] h = h
-always_said P f (o ∷ past) h = by_case (is_said o) refl (always_said P f past h.1)
-  where
-    by_case : (b : Bool) → is_said o ≡ b → Always P (said past) → Always P (said (o ∷ past))
-    by_case true e k =
-        subst (λ (z : List Answer). Always P z) (sym (said_kept o past e))
-        (subst P (said_kept o past e) (f (o ∷ past) h.0), k)
-    by_case false e k = subst (λ (z : List Answer). Always P z) (sym (unsaid_same o past e)) k
+always_said P f (o ∷ past) h = (elim (is_said o) as (λ (b : Bool). is_said o ≡ b → Always P (said past) → Always P (said (o ∷ past))) [
+  | true ↦ λ e k. subst (λ (z : List Answer). Always P z) (sym (said_kept o past e)) (subst P (said_kept o past e) (f (o ∷ past) h.0), k)
+  | false ↦ λ e k. subst (λ (z : List Answer). Always P z) (sym (unsaid_same o past e)) k
+]) refl (always_said P f past h.1)
 
 -- each moment of what is told is one of the answers, or one between what a withdrawal tells
 pub always_told : (P : List Told → Type 0) → ((txn : Transaction) (told : List Told) → P told → P (Told.Withdrawn txn ∷ told))

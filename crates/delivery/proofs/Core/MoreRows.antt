@@ -1,7 +1,6 @@
 -- More rows: an empty COMMIT, ids that are used again, faults of the session, a MESSAGE's headers, and each want of memory.
-use Rattle.delivery.proofs.Words.Std.{refl, ◌≡◌, ℕ, true, false, List, [], ◌∷◌, ◌++◌, map, codes, Some}
-use Rattle.delivery.proofs.Words.Frames.{unread_of}
-use Rattle.delivery.proofs.Words.Core.{Reading, reader_limits, outcomes, Event, Outcome, Refusal, ConnectionFault, Core, report_of, Opened, Fed, Done, Subscribed, Unsubscribed, Flying, Proposed, Failed, Decided, Withdrawn, Cancelled, Turned, Handed, Faulted, Leaving, Gone, Refused, NoMemory}
+use Rattle.delivery.proofs.Words.All.{refl, ◌≡◌, ℕ, true, false, List, [], ◌∷◌, ◌++◌, map, codes, Some, unread_of, Reading, reader_limits, outcomes, Event, Outcome, Refusal, ConnectionFault, Core, report_of, Fed, Flying, Proposed, Faulted}
+use Rattle.delivery.specs.declared.outcome.Outcome.TheVariants.{Opened, Done, Subscribed, Unsubscribed, Failed, Decided, Withdrawn, Cancelled, Turned, Handed, Leaving, Gone, Refused, NoMemory}
 use Rattle.std.specs.Fmt.{digits}
 use Rattle.mcast_group.specs.declared.cause.Cause.TheVariants.{Asked}
 use Rattle.mcast_group.specs.declared.fault.ProposeFault.TheVariants as proposals
@@ -25,12 +24,10 @@ receipt name = codes "RECEIPT\nreceipt-id:" ++ name ++ codes "\n\n\0"
 abbrev pub empty_acts : List Act
 empty_acts = opens 0 (reads 0 (begin (codes "x")) ∷ reads 0 (asking (codes "r") (commit (codes "x"))) ∷ waits 0 ∷ [])
 
-empty_shown : shown (played one empty_acts)
-    ≡ (Opened 0 ∷ Done ∷ Done ∷ Done ∷ Refused Refusal.NoFrame ∷ [], (greeting ++ receipt (codes "r")) ∷ [])
-empty_shown = refl
-
-empty_agrees : agreements one empty_acts ≡ all_agree
-empty_agrees = refl
+empty_rows : (shown (played one empty_acts)
+    ≡ (Opened 0 ∷ Done ∷ Done ∷ Done ∷ Refused Refusal.NoFrame ∷ [], (greeting ++ receipt (codes "r")) ∷ []))
+    × (agreements one empty_acts ≡ all_agree)
+empty_rows = (refl, refl)
 
 -- ---- an id that is used again names the last subscription; another connection's same id is its own
 
@@ -44,17 +41,15 @@ again_acts = opens 0 (opens 1 (
     reads 0 (subscribe (codes "s") A) ∷ reads 0 (subscribe (codes "t") A) ∷ reads 1 (subscribe (codes "s") A) ∷ unsubscribe (codes "s")
     ∷ reads 0 (subscribe (codes "s") B) ∷ unsubscribe (codes "s") ∷ unsubscribe (codes "t") ∷ unsubscribe (codes "s") ∷ []))
 
-again_shown : shown (played both again_acts)
+again_rows : (shown (played both again_acts)
     ≡ (
       Opened 0 ∷ Done ∷ Opened 1 ∷ Done ∷ Subscribed 0 (stamp 0 0) ∷ Subscribed 1 (stamp 0 0) ∷ Subscribed 2 (stamp 0 0) ∷ Unsubscribed 0 (stamp 0 0)
           ∷ Subscribed 3 (stamp 0 0) ∷ Unsubscribed 3 (stamp 0 0) ∷ Unsubscribed 1 (stamp 0 0) ∷ Faulted (ConnectionFault.Session sessions.NoSuchSub) false ∷ [],
       (greeting ++ receipt (codes "u") ++ receipt (codes "u") ++ receipt (codes "u")
           ++ codes "ERROR\nmessage:64 NoSuchSub\nreceipt-id:u\ncontent-length:0\n\n\0") ∷ greeting ∷ [],
-    )
-again_shown = refl
-
-again_agrees : agreements both again_acts ≡ all_agree
-again_agrees = refl
+    ))
+    × (agreements both again_acts ≡ all_agree)
+again_rows = (refl, refl)
 
 -- ---- a span that ends by UNSUBSCRIBE: what is left in its queue isn't handed on
 
@@ -133,24 +128,20 @@ abbrev pub starved : ℕ → List Act
 starved choice = opens 0 (to_both 0 (propose 0 0 ∷ without 1 (propose 0 1) ∷ without choice (act (Event.Withdraw 0))
     ∷ act (Event.Leave 0) ∷ act (Event.Cancel 0 (topic 0)) ∷ turn 0 ∷ act (Event.Leave 0) ∷ []))
 
-starved_shown : shown (played both (starved 0))
+starved_rows : (shown (played both (starved 0))
     ≡ (
       Opened 0 ∷ Done ∷ Done ∷ Done ∷ Done ∷ Flying (id 0 1) ∷ Proposed 1 ∷ Failed proposals.NoMemory ∷ Withdrawn false
           ∷ Refused Refusal.Busy ∷ Cancelled ∷ Turned 0 ∷ Gone false ∷ [],
       (greeting ++ codes "ERROR\nmessage:42 NoMemory\nreceipt-id:q\ncontent-length:0\n\n\0") ∷ [],
-    )
-starved_shown = refl
-
-starved_cut : shown (played both (starved 1))
+    ))
+    × (shown (played both (starved 1))
     ≡ (
       Opened 0 ∷ Done ∷ Done ∷ Done ∷ Done ∷ Flying (id 0 1) ∷ Proposed 1 ∷ Failed proposals.NoMemory ∷ Withdrawn true
           ∷ Refused Refusal.Busy ∷ Cancelled ∷ Turned 0 ∷ Gone false ∷ [],
       greeting ∷ [],
-    )
-starved_cut = refl
-
-starved_agrees : agreements both (starved 1) ≡ all_agree
-starved_agrees = refl
+    ))
+    × (agreements both (starved 1) ≡ all_agree)
+starved_rows = (refl, refl, refl)
 
 -- ---- a RECEIPT of DISCONNECT that finds no memory; a Take that finds none, and then hands the item
 
@@ -178,36 +169,28 @@ abbrev pub lacking : ℕ → List Act
 lacking choice = opens 0 (reads 0 (begin (codes "x")) ∷ reads 0 (send_in (codes "x") A (codes "m"))
     ∷ without choice (reads 0 (asking (codes "q") (commit (codes "x")))) ∷ act (Event.Propose 0 (topic 0)) ∷ act (Event.Leave 0) ∷ [])
 
-lacking_shown : shown (played one (lacking 1))
+lacking_rows : (shown (played one (lacking 1))
     ≡ (
       Opened 0 ∷ Done ∷ Done ∷ Done ∷ Faulted (ConnectionFault.Session sessions.NoMemory) false ∷ Refused Refusal.NoFlight ∷ Gone false ∷ [],
       (greeting ++ codes "ERROR\nmessage:72 NoMemory\nreceipt-id:q\ncontent-length:0\n\n\0") ∷ [],
-    )
-lacking_shown = refl
-
-lacking_cut : (report_of (played one (lacking 2))).outs ≡ greeting ∷ []
-lacking_cut = refl
+    ))
+    × ((report_of (played one (lacking 2))).outs ≡ greeting ∷ [])
+lacking_rows = (refl, refl)
 
 -- the same where the reader found none for what is unread: of no frame, so without its receipt
 abbrev pub dry : Core
 dry = played one (opens 0 (act (Event.Piece 0 (codes "SEND")) ∷ act (Event.Next 0) ∷ []))
 
 -- where all is read, it wants none
-idle_answers : outcomes (played one (opens 0 [])) (Event.Next 0) Reading.Nothing ≡ []
-idle_answers = refl
-
-dry_shown : shown dry ≡ (Opened 0 ∷ Done ∷ Fed ∷ Faulted ConnectionFault.ReaderNoMemory false ∷ [], (greeting ++ codes "ERROR\nmessage:72 NoMemory\ncontent-length:0\n\n\0") ∷ [])
-dry_shown = refl
+idle_rows : (outcomes (played one (opens 0 [])) (Event.Next 0) Reading.Nothing ≡ [])
+    × (shown dry ≡ (Opened 0 ∷ Done ∷ Fed ∷ Faulted ConnectionFault.ReaderNoMemory false ∷ [], (greeting ++ codes "ERROR\nmessage:72 NoMemory\ncontent-length:0\n\n\0") ∷ []))
+idle_rows = (refl, refl)
 
 -- what may be answered, first with memory: to a Leave that has a RECEIPT to write, to one that hasn't, and to a Withdraw of a lost connection
 abbrev pub going : List ℕ → Core
 going name = played one (opens 0 (reads 0 (asking name disconnect) ∷ []))
 
-going_answers : outcomes (going (codes "bye")) (Event.Leave 0) Reading.Nothing ≡ Gone false ∷ Gone true ∷ []
-going_answers = refl
-
-quiet_answers : outcomes (played one (opens 0 (act (Event.Lost 0) ∷ []))) (Event.Leave 0) Reading.Nothing ≡ Gone false ∷ []
-quiet_answers = refl
-
-lost_answers : outcomes (played both (opens 0 (to_both 0 (without 1 (propose 0 0) ∷ act (Event.Lost 0) ∷ [])))) (Event.Withdraw 0) Reading.Nothing ≡ Withdrawn false ∷ []
-lost_answers = refl
+quiet_rows : (outcomes (going (codes "bye")) (Event.Leave 0) Reading.Nothing ≡ Gone false ∷ Gone true ∷ [])
+    × (outcomes (played one (opens 0 (act (Event.Lost 0) ∷ []))) (Event.Leave 0) Reading.Nothing ≡ Gone false ∷ [])
+    × (outcomes (played both (opens 0 (to_both 0 (without 1 (propose 0 0) ∷ act (Event.Lost 0) ∷ [])))) (Event.Withdraw 0) Reading.Nothing ≡ Withdrawn false ∷ [])
+quiet_rows = (refl, refl, refl)

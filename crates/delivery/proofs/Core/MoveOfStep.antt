@@ -1,16 +1,9 @@
 -- Which move of the machine a step of the core is.
-use Rattle.delivery.proofs.Words.Std.{◌≡◌, ℕ, Bool, true, false, cond, not, ◌&&◌, ◌⊎◌, inl, inr, List, [], ◌∷◌, ◌++◌, length, Option, Some, None, refl, sym, ap, subst, ◌∙◌, codes, option_map_or, option_and_then, option_to_list}
-use Rattle.delivery.proofs.Words.Topics.{Topic, SentMessage, first_refusal, In}
-use Rattle.delivery.proofs.Words.Frames.{RawFrame, case_fault, Unread, Action, action_by, is_known, field, has_destination, session_fault}
-use Rattle.delivery.proofs.Words.Lemmas.{some_same}
-use Rattle.delivery.proofs.Words.Machine.{Objection, refusal_of, World, topic_at, Move, Answer, needs_open, needs_idle, move_refusal, answer_to, world_after, commit_answer, end_now, run, move_topic, AddsTopic, Opens, Connects, Commits, Subscribes, Unsubscribes, Disconnects, Errs, Lost, Leaves, Proposes, Decides, Withdraws, Cancels, Learns, Releases, Turns, Takes}
-use Rattle.delivery.proofs.Words.Core.{Event, Outcome, ConnectionFault, Reading, number_by, has_effect, is_cut, Core, core_for, names_at, session_at, frame_move, is_faulted, is_no_memory, is_out_of_memory, moves, unread_at, outcome_of, move_outcome, unless, frame_no_memory, frame_fault, fault_outcomes, frame_outcome, reading_outcomes, cut_of, outcomes, accepted_outcomes, is_any, wants_memory, claim_fault, event_topic, claims_of, claimed_sender}
+use Rattle.delivery.proofs.Words.All.{◌≡◌, ℕ, Bool, true, false, cond, not, ◌&&◌, ◌⊎◌, inl, inr, List, [], ◌∷◌, ◌++◌, length, Option, Some, None, refl, sym, ap, subst, ◌∙◌, codes, option_map_or, option_and_then, option_to_list, Topic, SentMessage, first_refusal, In, RawFrame, Unread, Action, action_by, is_known, field, has_destination, some_same, Objection, refusal_of, World, topic_at, Move, Answer, needs_open, move_refusal, answer_to, world_after, commit_answer, end_now, run, move_topic, AddsTopic, Opens, Connects, Commits, Subscribes, Unsubscribes, Disconnects, Errs, Lost, Leaves, Proposes, Decides, Withdraws, Cancels, Learns, Releases, Turns, Takes, Event, Outcome, Reading, number_by, has_effect, is_cut, Core, core_for, names_at, session_at, frame_move, is_faulted, is_no_memory, is_out_of_memory, moves, outcome_of, move_outcome, unless, cut_of, outcomes, event_topic, claims_of, claimed_sender}
 use Rattle.stomp_session.specs.declared.action.Action.TheVariants as actions
-use Rattle.delivery.proofs.Machine.Effects.{same_world}
-use Rattle.delivery.proofs.Machine.SenderSteps.{In-append_cases}
-use Rattle.delivery.proofs.Core.AccountOfRun.{in_option, refusal_some, replied, same_memory, was_wanted}
+use Rattle.delivery.proofs.Words.Steps.{same_world, In-append_cases}
+use Rattle.delivery.proofs.Words.Changes.{in_option, refusal_some, replied, same_memory, unobjected, by_next}
 use Rattle.delivery.proofs.Core.ReadingsShown.{effect_of}
-use Rattle.delivery.proofs.Core.ClaimsStand.{unobjected}
 
 -- ---- the moves of an event
 
@@ -46,11 +39,6 @@ is_plain Outcome.Fed = true
 is_plain Outcome.NoMemory = true
 is_plain Outcome.Done = true
 is_plain o = false
-
--- the outcome is that a connection was opened
-abbrev pub is_opened : Outcome → Bool
-is_opened (Outcome.Opened c) = true
-is_opened o = false
 
 -- the world after these moves
 abbrev pub world_then : Core → Event → Reading → Outcome → World
@@ -96,6 +84,8 @@ MovedThen k e rd o =
 
 -- the step is a frame that makes its topic, and what it does then
 pub record MadeTopic (k : Core) (e : Event) (rd : Reading) (o : Outcome) : Type 0 where
+  pub connection : ℕ
+  pub event : e ≡ Event.Next connection
   pub effect : has_effect o ≡ true
   pub then : MovedThen k e rd o
 
@@ -121,8 +111,7 @@ alone k e rd o mv own topic world is = inr (inr (inl (record { move = mv; own = 
 
 -- the moves of an accepted frame, by whether it makes its topic, and its action
 abbrev frame_moves : Core → Bool → ℕ → Action → Outcome → List Move
-frame_moves k new c action o =
-    cond (is_faulted o) (Errs c ∷ []) (cond (has_effect o) (cond new (AddsTopic 0 ∷ []) [] ++ option_to_list (frame_move k c action)) [])
+frame_moves k new c action o = cond (is_faulted o) (Errs c ∷ []) (cond (has_effect o) (cond new (AddsTopic 0 ∷ []) [] ++ option_to_list (frame_move k c action)) [])
 
 -- a frame makes its topic
 abbrev is_first_use : Core → RawFrame → Bool
@@ -132,19 +121,9 @@ is_first_use k f = has_destination f.command && not (is_known (field (codes "des
 abbrev first_world : Core → Bool → World
 first_world k new = run (cond new (AddsTopic 0 ∷ []) []) k.world
 
-erred : (k : Core) (c : ℕ) (rd : Reading) (fault : ConnectionFault) (o : Outcome) → In o (fault_outcomes fault) → Comes k (Event.Next c) rd o
-erred k c rd fault o i = elim i [
-  | inl e ↦ subst (Comes k (Event.Next c) rd) e (inr (inl (record { connection = c; world = refl; faulted = refl })))
-  | inr j ↦ elim j [
-    | inl e ↦ subst (Comes k (Event.Next c) rd) e (inr (inl (record { connection = c; world = refl; faulted = refl })))
-    | inr n ↦ absurd n
-  ]
-]
-
 -- a frame that has its effect is the move of its action
 accepted : (k : Core) (c : ℕ) (f : RawFrame) (left : Unread) (o : Outcome) (action : Action) (mv : Move) → action_by f.command (session_at k c) f ≡ action
-    → frame_move k c action ≡ Some mv → is_of_frame mv ≡ true → is_faulted o ≡ false → has_effect o ≡ true
-    → outcome_of (answer_to (core_for k f).world mv) ≡ Some o
+    → frame_move k c action ≡ Some mv → is_of_frame mv ≡ true → is_faulted o ≡ false → has_effect o ≡ true → outcome_of (answer_to (core_for k f).world mv) ≡ Some o
     → Comes k (Event.Next c) (Reading.Finds f left) o
 accepted k c f left o action mv by is own sound effect came = by_use (is_first_use k f) refl
   where
@@ -163,6 +142,8 @@ accepted k c f left o action mv by is own sound effect came = by_use (is_first_u
         (ap (λ ms. run ms k.world) moved ∙ ap (λ (b : Bool). run (cond b (AddsTopic 0 ∷ []) [] ++ mv ∷ []) k.world) e)
         (subst (λ (b : Bool). outcome_of (answer_to (first_world k b) mv) ≡ Some o) e came)
     by_use true e = inr (inr (inr (inr (record {
+      connection = c;
+      event = refl;
       effect = effect;
       then = inr (
         mv,
@@ -179,72 +160,38 @@ done : (k : Core) (c : ℕ) (f : RawFrame) (left : Unread) (o : Outcome) (action
 done k c f left o action by is e = subst (Comes k (Event.Next c) (Reading.Finds f left)) e (by_use (is_first_use k f) refl)
   where
     moved : run (frame_moves k (is_first_use k f) c (action_by f.command (session_at k c) f) Outcome.Done) k.world ≡ run (cond (is_first_use k f) (AddsTopic 0 ∷ []) [] ++ []) k.world
-    moved =
-        ap (λ (m : Option Move). run (cond (is_first_use k f) (AddsTopic 0 ∷ []) [] ++ option_to_list m) k.world) (ap (frame_move k c) by ∙ is)
+    moved = ap (λ (m : Option Move). run (cond (is_first_use k f) (AddsTopic 0 ∷ []) [] ++ option_to_list m) k.world) (ap (frame_move k c) by ∙ is)
 
     by_use : (new : Bool) → is_first_use k f ≡ new → Comes k (Event.Next c) (Reading.Finds f left) Outcome.Done
     by_use false e = inl (moved ∙ ap (λ (b : Bool). run (cond b (AddsTopic 0 ∷ []) [] ++ []) k.world) e, refl)
     by_use true e = inr (inr (inr (inr (record {
+      connection = c;
+      event = refl;
       effect = refl;
       then = inl (moved ∙ ap (λ (b : Bool). run (cond b (AddsTopic 0 ∷ []) [] ++ []) k.world) e, refl);
     }))))
-
--- a commit of some SENDs, or of none
-committed : (k : Core) (c : ℕ) (f : RawFrame) (left : Unread) (o : Outcome) (sends : List SentMessage) → action_by f.command (session_at k c) f ≡ actions.Commit sends
-    → outcome_of (answer_to (core_for k f).world (Commits c sends)) ≡ Some o → outcome_of (commit_answer (core_for k f).world c sends) ≡ Some o
-    → Comes k (Event.Next c) (Reading.Finds f left) o
-committed k c f left o [] by came d =
-    let is = some_same _ o d in
-    accepted k c f left o (actions.Commit []) (Commits c []) by refl refl (ap is_faulted (sym is)) (ap has_effect (sym is)) came
-committed k c f left o (first ∷ more) by came d =
-    let is = some_same _ o d in
-    accepted k c f left o (actions.Commit (first ∷ more)) (Commits c (first ∷ more)) by refl refl (ap is_faulted (sym is)) (ap has_effect (sym is)) came
 
 accepted_by : (k : Core) (c : ℕ) (f : RawFrame) (left : Unread) (o : Outcome) (action : Action) → action_by f.command (session_at k c) f ≡ action
     → option_and_then (λ mv. move_refusal (core_for k f).world mv) (frame_move k c action) ≡ None
     → In o (option_map_or (move_outcome (core_for k f)) (frame_move k c action) (Outcome.Done ∷ [])) → Comes k (Event.Next c) (Reading.Finds f left) o
 accepted_by k c f left o (actions.Connected client) by n i =
-    let w = (core_for k f).world in let mv = Connects c (claimed_sender client (claims_of k.steps)) in
-    let is = some_same Outcome.Done o (effect_of w mv o n i) in
+    let w = (core_for k f).world in let mv = Connects c (claimed_sender client (claims_of k.steps)) in let is = some_same Outcome.Done o (effect_of w mv o n i) in
     accepted k c f left o (actions.Connected client) mv by refl refl (ap is_faulted (sym is)) (ap has_effect (sym is)) (in_option o _ i)
 accepted_by k c f left o actions.Nothing by n i = elim i [ inl e ↦ done k c f left o actions.Nothing by refl e | inr j ↦ absurd j ]
 accepted_by k c f left o (actions.Subscribe id t) by n i =
-    let w = (core_for k f).world in
-    let is = some_same (Outcome.Subscribed (length w.subscriptions) (topic_at w t).frontier) o (effect_of w (Subscribes c t) o n i) in
+    let w = (core_for k f).world in let is = some_same (Outcome.Subscribed (length w.subscriptions) (topic_at w t).frontier) o (effect_of w (Subscribes c t) o n i) in
     accepted k c f left o (actions.Subscribe id t) (Subscribes c t) by refl refl (ap is_faulted (sym is)) (ap has_effect (sym is)) (in_option o _ i)
 accepted_by k c f left o (actions.Unsubscribe id) by n i =
-    let w = (core_for k f).world in let s = number_by c id k.steps in
-    let is = some_same (Outcome.Unsubscribed s (end_now w s)) o (effect_of w (Unsubscribes c s) o n i) in
+    let w = (core_for k f).world in let s = number_by c id k.steps in let is = some_same (Outcome.Unsubscribed s (end_now w s)) o (effect_of w (Unsubscribes c s) o n i) in
     accepted k c f left o (actions.Unsubscribe id) (Unsubscribes c s) by refl refl (ap is_faulted (sym is)) (ap has_effect (sym is)) (in_option o _ i)
 accepted_by k c f left o (actions.Commit sends) by n i =
-    committed k c f left o sends by (in_option o _ i) (effect_of (core_for k f).world (Commits c sends) o n i)
+    (elim sends as (λ (sends : List SentMessage). action_by f.command (session_at k c) f ≡ actions.Commit sends → outcome_of (answer_to (core_for k f).world (Commits c sends)) ≡ Some o → outcome_of (commit_answer (core_for k f).world c sends) ≡ Some o → Comes k (Event.Next c) (Reading.Finds f left) o) [
+      | [] ↦ λ by came d. (let is = some_same _ o d in accepted k c f left o (actions.Commit []) (Commits c []) by refl refl (ap is_faulted (sym is)) (ap has_effect (sym is)) came)
+      | first ∷ more ↦ λ by came d. (let is = some_same _ o d in accepted k c f left o (actions.Commit (first ∷ more)) (Commits c (first ∷ more)) by refl refl (ap is_faulted (sym is)) (ap has_effect (sym is)) came)
+    ]) by (in_option o _ i) (effect_of (core_for k f).world (Commits c sends) o n i)
 accepted_by k c f left o actions.Disconnect by n i =
     let is = some_same Outcome.Leaving o (effect_of (core_for k f).world (Disconnects c) o n i) in
     accepted k c f left o actions.Disconnect (Disconnects c) by refl refl (ap is_faulted (sym is)) (ap has_effect (sym is)) (in_option o _ i)
-
-found : (k : Core) (c : ℕ) (f : RawFrame) (left : Unread) (o : Outcome) (why : Option ConnectionFault) → frame_fault k c f ≡ why
-    → In o (option_map_or fault_outcomes why (accepted_outcomes k c f)) → Comes k (Event.Next c) (Reading.Finds f left) o
-found k c f left o (Some fault) e i = erred k c (Reading.Finds f left) fault o i
-found k c f left o None e i = elim (In-append_cases o (frame_outcome k c f) _ i) [
-  | inl j ↦ accepted_by k c f left o (action_by f.command (session_at k c) f) refl
-      (unobjected (case_fault f) (session_fault (session_at k c) f) (claim_fault k (action_by f.command (session_at k c) f))
-      (option_and_then (λ mv. move_refusal (core_for k f).world mv) (frame_move k c (action_by f.command (session_at k c) f))) e).1 j
-  | inr j ↦ erred k c (Reading.Finds f left) frame_no_memory o (was_wanted (wants_memory k c f) frame_no_memory o j)
-]
-
-idle_comes : (k : Core) (c : ℕ) (rd : Reading) (o : Outcome) → In o (reading_outcomes k c rd) → Comes k (Event.Next c) rd o
-idle_comes k c Reading.Nothing o i =
-    erred k c Reading.Nothing ConnectionFault.ReaderNoMemory o (was_wanted (is_any (unread_at c k.steps).text) ConnectionFault.ReaderNoMemory o i)
-idle_comes k c (Reading.Waits left) o (inl e) = subst (Comes k (Event.Next c) (Reading.Waits left)) e (inl (refl, refl))
-idle_comes k c (Reading.Waits left) o (inr i) = absurd i
-idle_comes k c (Reading.Finds f left) o i = found k c f left o (frame_fault k c f) refl i
-idle_comes k c (Reading.Fails check left) o i = erred k c (Reading.Fails check left) (ConnectionFault.Stream check) o i
-
-next_comes : (k : Core) (c : ℕ) (rd : Reading) (o : Outcome) (why : Option Objection) → In o (unless why (reading_outcomes k c rd)) → Comes k (Event.Next c) rd o
-next_comes k c rd o None i = idle_comes k c rd o i
-next_comes k c rd o (Some why) i =
-    let r = refusal_some (refusal_of why) o (in_option o _ i) in
-    subst (Comes k (Event.Next c) rd) r.is (inl (refl, refl))
 
 -- ---- the others
 
@@ -256,16 +203,6 @@ opened_comes k rd o i = elim (In-append_cases o (move_outcome k Opens) (Outcome.
   ]
   | inr j ↦ elim j [ inl e ↦ subst (Comes k Event.Open rd) e (inl (refl, refl)) | inr n ↦ absurd n ]
 ]
-
-fed_comes : (k : Core) (c : ℕ) (octets : List ℕ) (rd : Reading) (o : Outcome) (why : Option Objection) → In o (unless why (Outcome.Fed ∷ Outcome.NoMemory ∷ []))
-    → Comes k (Event.Piece c octets) rd o
-fed_comes k c octets rd o None i = elim i [
-  | inl e ↦ subst (Comes k (Event.Piece c octets) rd) e (inl (refl, refl))
-  | inr j ↦ elim j [ inl e ↦ subst (Comes k (Event.Piece c octets) rd) e (inl (refl, refl)) | inr n ↦ absurd n ]
-]
-fed_comes k c octets rd o (Some why) i =
-    let r = refusal_some (refusal_of why) o (in_option o _ i) in
-    subst (Comes k (Event.Piece c octets) rd) r.is (inl (refl, refl))
 
 proposed_comes : (k : Core) (c : ℕ) (t : Topic) (rd : Reading) (o : Outcome) → In o (move_outcome k (Proposes c t true) ++ move_outcome k (Proposes c t false))
     → Comes k (Event.Propose c t) rd o
@@ -288,45 +225,30 @@ taken_comes k s rd o None n i = elim (In-append_cases o (move_outcome k (Takes s
   | inr j ↦ elim j [ inl e ↦ subst (Comes k (Event.Take s) rd) e (inl (refl, refl)) | inr m ↦ absurd m ]
 ]
 taken_comes k s rd o (Some why) n i =
-    let r = refusal_some (refusal_of why) o (in_option o _ i) in
-    subst (Comes k (Event.Take s) rd) r.is (inl (same_world k.world (Takes s) why n, refl))
+    let r = refusal_some (refusal_of why) o (in_option o _ i) in subst (Comes k (Event.Take s) rd) r.is (inl (same_world k.world (Takes s) why n, refl))
 
 -- an outcome, cut or not
 either : {Q : Type 0} (b o : Outcome) → (b ≡ o) ⊎ ((cut_of b ≡ o) × Q) → (b ≡ o) ⊎ (cut_of b ≡ o)
 either b o (inl e) = inl e
 either b o (inr e) = inr e.0
 
-decided_comes : (k : Core) (c : ℕ) (rd : Reading) (o : Outcome) → In o (outcomes k (Event.Decide c) rd) → (b : Bool) → is_cut o ≡ b → Comes k (Event.Decide c) rd o
-decided_comes k c rd o i false e =
-    let h = replied k c (Event.Decide c) _ o i in
-    inr (inr (inl (record {
-      move = Decides c;
-      own = refl;
-      topic = refl;
-      world = ap (λ b. run (Decides c ∷ cond b (Lost c ∷ []) []) k.world) e;
-      base = h.base;
-      is = h.is;
-      cut = either h.base o h.cut;
-    })))
-decided_comes k c rd o i true e =
-    let h = replied k c (Event.Decide c) _ o i in
-    inr (inr (inr (inl (record {
-      connection = c;
-      event = refl;
-      world = ap (λ b. run (Decides c ∷ cond b (Lost c ∷ []) []) k.world) e;
-      base = h.base;
-      is = h.is;
-      cut = either h.base o h.cut;
-      was_cut = e;
-    }))))
-
 -- each step of the core is one of these
 pub comes : (k : Core) (e : Event) (rd : Reading) (o : Outcome) → In o (outcomes k e rd) → Comes k e rd o
 comes k Event.Open rd o i = opened_comes k rd o i
-comes k (Event.Piece c octets) rd o i = fed_comes k c octets rd o (first_refusal (needs_open k.world c)) i
-comes k (Event.Next c) rd o i = next_comes k c rd o (first_refusal (needs_idle k.world c)) i
+comes k (Event.Piece c octets) rd o i = (elim (first_refusal (needs_open k.world c)) as (λ (why : Option Objection). In o (unless why (Outcome.Fed ∷ Outcome.NoMemory ∷ [])) → Comes k (Event.Piece c octets) rd o) [
+  | None ↦ λ i. elim i [ inl e ↦ subst (Comes k (Event.Piece c octets) rd) e (inl (refl, refl)) | inr j ↦ elim j [ inl e ↦ subst (Comes k (Event.Piece c octets) rd) e (inl (refl, refl)) | inr n ↦ absurd n ] ]
+  | Some why ↦ λ i. (let r = refusal_some (refusal_of why) o (in_option o _ i) in subst (Comes k (Event.Piece c octets) rd) r.is (inl (refl, refl)))
+]) i
+comes k (Event.Next c) rd o i =
+    by_next k c (Comes k (Event.Next c)) (λ rd why. inl (refl, refl))
+    (λ rd fault cut n. inr (inl (record { connection = c; world = refl; faulted = refl })))
+    (λ f left o n e j. accepted_by k c f left o (action_by f.command (session_at k c) f) refl (unobjected k c f e).move j)
+    rd o i
 comes k (Event.Propose c t) rd o i = proposed_comes k c t rd o i
-comes k (Event.Decide c) rd o i = decided_comes k c rd o i (is_cut o) refl
+comes k (Event.Decide c) rd o i = (elim (is_cut o) as (λ (b : Bool). is_cut o ≡ b → Comes k (Event.Decide c) rd o) [
+  | false ↦ λ e. (let h = replied k c (Event.Decide c) _ o i in inr (inr (inl (record { move = Decides c; own = refl; topic = refl; world = ap (λ b. run (Decides c ∷ cond b (Lost c ∷ []) []) k.world) e; base = h.base; is = h.is; cut = either h.base o h.cut }))))
+  | true ↦ λ e. (let h = replied k c (Event.Decide c) _ o i in inr (inr (inr (inl (record { connection = c; event = refl; world = ap (λ b. run (Decides c ∷ cond b (Lost c ∷ []) []) k.world) e; base = h.base; is = h.is; cut = either h.base o h.cut; was_cut = e })))))
+]) refl
 comes k (Event.Withdraw c) rd o i =
     let h = replied k c (Event.Withdraw c) _ o i in
     inr (inr (inl (record { move = Withdraws c; own = refl; topic = refl; world = refl; base = h.base; is = h.is; cut = either h.base o h.cut })))

@@ -1,21 +1,13 @@
 -- There are never more topics than there may be.
-use Rattle.delivery.proofs.Words.Std.{◌≡◌, ℕ, ◌<◌, ◌≤◌, Bool, true, false, cond, not, ◌&&◌, inl, inr, List, [], ◌∷◌, ◌++◌, length, Option, Some, None, refl, sym, ap, subst, ◌∙◌, arith, codes, nat_lt, option_map, option_map_or, option_or, false≢true, true≢false, ltb-true, length-append}
-use Rattle.delivery.proofs.Words.Topics.{first_refusal, In}
-use Rattle.delivery.proofs.Words.Frames.{CaseFault, Command, RawFrame, case_fault, Unread, SessionFault, field, has_destination, id_of, with_destination, is_known, max_topics, Held, is_closed, is_new, is_open, open_refusals, session_fault}
-use Rattle.delivery.proofs.Words.Machine.{Objection, refusal_of, needs_idle}
-use Rattle.delivery.proofs.Words.Core.{TopicList, ConnectionFault, Event, Outcome, CoreStep, Reading, frame_in, has_effect, names_after, Core, core_of, names_at, session_at, IsCoreRun, IsReadAt, accepted_outcomes, fault_outcomes, frame_fault, outcomes, reading_outcomes, unless}
+use Rattle.delivery.proofs.Words.All.{◌≡◌, ℕ, ◌<◌, ◌≤◌, Bool, true, false, cond, not, ◌&&◌, List, [], ◌∷◌, ◌++◌, length, Option, Some, None, refl, sym, ap, subst, arith, codes, nat_lt, option_map_or, false≢true, true≢false, ltb-true, length-append, first_refusal, In, Command, RawFrame, field, has_destination, id_of, with_destination, is_known, max_topics, Held, is_closed, is_new, is_open, open_refusals, session_fault, TopicList, Event, Outcome, CoreStep, Reading, frame_in, has_effect, names_after, Core, core_of, names_at, session_at, IsCoreRun, IsReadAt, outcomes}
 use Rattle.stomp_frame.specs.declared.command.Command.TheVariants as commands
 use Rattle.stomp_session.specs.declared.fault.SessionFault.TheVariants as faults
 use Rattle.stomp_session.specs.Refusals.{has_bad_destination, has_one_topic_too_many, has_other_ack, is_full, is_in_full_transaction, is_in_no_transaction}
-use Rattle.delivery.proofs.Core.AccountOfRun.{core_is, in_option, refusal_some}
+use Rattle.delivery.proofs.Core.AccountOfRun.{core_is}
+use Rattle.delivery.proofs.Core.ByReading.{by_next}
+use Rattle.delivery.proofs.Core.ClaimsStand.{unobjected}
 
 -- ---- a frame that its session accepts
-
-none_of : (a : Option CaseFault) (b : Option SessionFault) (x : Option ConnectionFault)
-    → option_or (option_map ConnectionFault.Frame a) (option_or (option_map ConnectionFault.Session b) x) ≡ None → b ≡ None
-none_of None None x e = refl
-none_of None (Some b) x e = absurd (cc)
-none_of (Some a) b x e = absurd (cc)
 
 fourth : {F : Type 0} (a b c d : Bool) (v w x y : F) (rest : Option F) → cond a (Some v) (cond b (Some w) (cond c (Some x) (cond d (Some y) rest))) ≡ None → d ≡ false
 fourth true b c d v w x y rest e = absurd (cc)
@@ -41,11 +33,7 @@ not_too_many _ s f e has = absurd (false≢true has)
 
 new_room : (known : Bool) (n : ℕ) → (not known && not (nat_lt n max_topics)) ≡ false → known ≡ false → n < max_topics
 new_room true n e new = absurd (true≢false new)
-new_room false n e new = by (nat_lt n max_topics) refl e
-  where
-    by : (b : Bool) → nat_lt n max_topics ≡ b → not b ≡ false → n < max_topics
-    by true is h = ltb-true n max_topics is
-    by false is h = absurd (true≢false h)
+new_room false n e new = (elim (nat_lt n max_topics) as (λ (b : Bool). nat_lt n max_topics ≡ b → not b ≡ false → n < max_topics) [ true ↦ λ is h. ltb-true n max_topics is | false ↦ λ is h. absurd (true≢false h) ]) refl e
 
 -- where an accepted frame makes a topic there is room for one more
 pub room_for : (s : Held) (f : RawFrame) → session_fault s f ≡ None → has_destination f.command ≡ true → is_known (field (codes "destination") f) s.names ≡ false
@@ -65,40 +53,21 @@ few_with s f free few = by (has_destination f.command) refl (is_known name s.nam
 
 -- ---- a step
 
-effect_few : (k : Core) (c : ℕ) (f : RawFrame) (o : Outcome) (x : Option ConnectionFault) → frame_fault k c f ≡ x
-    → In o (option_map_or fault_outcomes x (accepted_outcomes k c f)) → has_effect o ≡ true → length (names_at k) ≤ max_topics
-    → length (with_destination f (names_at k)) ≤ max_topics
-effect_few k c f o None e i h few = few_with (session_at k c) f (none_of (case_fault f) (session_fault (session_at k c) f) _ e) few
-effect_few k c f o (Some x) e (inl i) h few = absurd (false≢true (ap has_effect i ∙ h))
-effect_few k c f o (Some x) e (inr (inl i)) h few = absurd (false≢true (ap has_effect i ∙ h))
-effect_few k c f o (Some x) e (inr (inr i)) h few = absurd i
-
 -- the names with those that the step adds
 abbrev Few : Core → Reading → Outcome → Type 0
 Few k rd o = length (option_map_or (λ (f : RawFrame). with_destination f (names_at k)) (cond (has_effect o) (frame_in rd) None) (names_at k)) ≤ max_topics
 
 unread_few : (k : Core) (rd : Reading) (o : Outcome) → frame_in rd ≡ None → length (names_at k) ≤ max_topics → Few k rd o
-unread_few k rd o none few = by (has_effect o)
-  where
-    by : (b : Bool) → length (option_map_or (λ (f : RawFrame). with_destination f (names_at k)) (cond b (frame_in rd) None) (names_at k)) ≤ max_topics
-    by true = subst (λ (x : Option RawFrame). length (option_map_or (λ (f : RawFrame). with_destination f (names_at k)) x (names_at k)) ≤ max_topics) (sym none) few
-    by false = few
-
-found_few : (k : Core) (c : ℕ) (f : RawFrame) (left : Unread) (o : Outcome) (why : Option Objection) → In o (unless why (reading_outcomes k c (Reading.Finds f left)))
-    → length (names_at k) ≤ max_topics → Few k (Reading.Finds f left) o
-found_few k c f left o why i few = by (has_effect o) refl why i
-  where
-    by : (b : Bool) → has_effect o ≡ b → (w : Option Objection) → In o (unless w (reading_outcomes k c (Reading.Finds f left)))
-        → length (option_map_or (λ (g : RawFrame). with_destination g (names_at k)) (cond b (Some f) None) (names_at k)) ≤ max_topics
-    by false e w j = few
-    by true e None j = effect_few k c f o (frame_fault k c f) refl j e few
-    by true e (Some w) j = let r = refusal_some (refusal_of w) o (in_option o _ j) in absurd (false≢true (ap has_effect r.is ∙ e))
+unread_few k rd o none few = elim (has_effect o) as (λ (b : Bool). length (option_map_or (λ (f : RawFrame). with_destination f (names_at k)) (cond b (frame_in rd) None) (names_at k)) ≤ max_topics) [
+  | true ↦ subst (λ (x : Option RawFrame). length (option_map_or (λ (f : RawFrame). with_destination f (names_at k)) x (names_at k)) ≤ max_topics) (sym none) few
+  | false ↦ few
+]
 
 next_few : (k : Core) (c : ℕ) (rd : Reading) (o : Outcome) → In o (outcomes k (Event.Next c) rd) → length (names_at k) ≤ max_topics → Few k rd o
-next_few k c Reading.Nothing o i few = unread_few k Reading.Nothing o refl few
-next_few k c (Reading.Waits left) o i few = unread_few k (Reading.Waits left) o refl few
-next_few k c (Reading.Finds f left) o i few = found_few k c f left o (first_refusal (needs_idle k.world c)) i few
-next_few k c (Reading.Fails check left) o i few = unread_few k (Reading.Fails check left) o refl few
+next_few k c rd o i few =
+    by_next k c (Few k) (λ rd why. few) (λ rd fault cut n. few)
+    (λ f left o n e j. elim (has_effect o) as (λ (b : Bool). length (option_map_or (λ (g : RawFrame). with_destination g (names_at k)) (cond b (Some f) None) (names_at k)) ≤ max_topics) [ true ↦ few_with (session_at k c) f (unobjected k c f e).session few | false ↦ few ])
+    rd o i
 
 step_few : (k : Core) (e : Event) (rd : Reading) (o : Outcome) → IsReadAt k e rd → In o (outcomes k e rd) → length (names_at k) ≤ max_topics → Few k rd o
 step_few k (Event.Next c) rd o is i few = next_few k c rd o i few
@@ -115,5 +84,4 @@ few_so_far topics capacity (step ∷ older) few run =
 -- there are at most so many names
 pub names_few : (topics : TopicList) (capacity : ℕ) (steps : List CoreStep) → length topics.names ≤ max_topics → IsCoreRun topics capacity steps
     → length (names_after topics.names steps) ≤ max_topics
-names_few topics capacity steps few run =
-    subst (λ (k : Core). length (names_at k) ≤ max_topics) (core_is topics capacity steps) (few_so_far topics capacity steps few run)
+names_few topics capacity steps few run = subst (λ (k : Core). length (names_at k) ≤ max_topics) (core_is topics capacity steps) (few_so_far topics capacity steps few run)

@@ -1,8 +1,6 @@
 -- A worked row from its octets: what is read is computed, and is by the grammar the first frames of the octets.
-use Rattle.delivery.proofs.Words.Std.{refl, ◌≡◌, ℕ, true, false, List, [], ◌∷◌, map, codes, Ok, list_all}
-use Rattle.delivery.proofs.Words.Frames.{RawFrame}
-use Rattle.delivery.proofs.Words.Core.{Event, kept_of, BeginsWithFrames, fed_octets, frames_of, reader_limits, Core, new_core, report_of, Opened, Fed, Done, Subscribed, Flying, Proposed, Decided, Turned, Handed}
-use Rattle.delivery.proofs.Words.Views.{steps_of}
+use Rattle.delivery.proofs.Words.All.{refl, ◌≡◌, ℕ, true, false, List, [], ◌∷◌, map, codes, Ok, list_all, RawFrame, Event, kept_of, BeginsWithFrames, fed_octets, frames_of, reader_limits, Core, new_core, report_of, Fed, Flying, Proposed, steps_of}
+use Rattle.delivery.specs.declared.outcome.Outcome.TheVariants.{Opened, Done, Subscribed, Decided, Turned, Handed}
 use Rattle.std.specs.Fmt.{digits}
 use Rattle.std.specs.Str.{is_utf8, chars}
 use Rattle.std.specs.Char.{encode_utf8}

@@ -1,8 +1,6 @@
 -- Worked rows, computed: MESSAGEs that say which of their transaction's they are, to who asked for it and to who didn't, and
 -- ERRORs that say our version.
-use Rattle.delivery.proofs.Words.Std.{refl, ◌≡◌, ℕ, true, false, List, [], ◌∷◌, ◌++◌, codes, Some}
-use Rattle.delivery.proofs.Words.Frames.{RawFrame}
-use Rattle.delivery.proofs.Words.Core.{ConnectionFault, Event, says_version, sub_parts, Core, new_core, report_of}
+use Rattle.delivery.proofs.Words.All.{refl, ◌≡◌, ℕ, true, false, List, [], ◌∷◌, ◌++◌, codes, Some, RawFrame, ConnectionFault, Event, says_version, sub_parts, Core, new_core, report_of}
 use Rattle.std.specs.Fmt.{digits}
 use Rattle.stomp_frame.specs.declared.case_fault.CaseFault.TheVariants as cases
 use Rattle.stomp_frame.specs.declared.case_fault.RequiredHeader.{RequiredHeader}
@@ -23,11 +21,9 @@ parted = played (new_core (topic_list ((A, 0) ∷ (B, 0) ∷ [])) 64) (opens 0 (
     ∷ reads 0 (send_in (codes "x") B (codes "n")) ∷ reads 0 (send_in (codes "x") A (codes "o")) ∷ reads 0 (commit (codes "x"))
     ∷ propose 0 0 ∷ propose 0 1 ∷ act (Event.Decide 0) ∷ turn 0 ∷ act (Event.Take 0) ∷ act (Event.Take 1) ∷ []))
 
-first_asked : sub_parts 0 parted.steps ≡ true
-first_asked = refl
-
-second_asked : sub_parts 1 parted.steps ≡ false
-second_asked = refl
+asked_rows : (sub_parts 0 parted.steps ≡ true)
+    × (sub_parts 1 parted.steps ≡ false)
+asked_rows = (refl, refl)
 
 parted_outs : (report_of parted).outs
     ≡ (codes "CONNECTED\nversion:1.2\nheart-beat:0,0\n\n\0"
@@ -48,14 +44,10 @@ no_host = ConnectionFault.Frame (cases.Missing RequiredHeader.Host)
 abbrev pub of_versions : List ℕ → RawFrame
 of_versions versions = frame commands.Connect ((codes "accept-version", versions) ∷ []) []
 
-told_old : says_version (Some (of_versions (codes "1.1"))) no_host ≡ true
-told_old = refl
-
-untold_new : says_version (Some (of_versions (codes "1.1,1.2"))) no_host ≡ false
-untold_new = refl
-
-untold_new_alone : says_version (Some (of_versions (codes "1.2"))) no_host ≡ false
-untold_new_alone = refl
+told_rows : (says_version (Some (of_versions (codes "1.1"))) no_host ≡ true)
+    × (says_version (Some (of_versions (codes "1.1,1.2"))) no_host ≡ false)
+    × (says_version (Some (of_versions (codes "1.2"))) no_host ≡ false)
+told_rows = (refl, refl, refl)
 
 -- one that sends none is of 1.0
 told_oldest : says_version (Some (frame commands.Connect [] [])) (ConnectionFault.Frame (cases.Missing RequiredHeader.AcceptVersion)) ≡ true

@@ -1,12 +1,9 @@
 -- The subscription of a number in a report.
-use Rattle.delivery.proofs.Words.Std.{◌≡◌, ℕ, ◌<◌, [], length, get_or, Some, None, slice_get, slice_get-get_or}
-use Rattle.delivery.proofs.Words.Topics.{zero_stamp}
-use Rattle.delivery.proofs.Words.Core.{QueueReport, Report}
+use Rattle.delivery.proofs.Words.All.{◌≡◌, ℕ, ◌<◌, [], length, get_or, Some, None, slice_get, slice_get-get_or, zero_stamp, QueueReport, Report}
 
 -- what stands for a subscription that isn't reported
 abbrev pub no_queue : QueueReport
-no_queue =
-    record { span = record { topic = record { 0 = 0 }; from = zero_stamp; to = None }; cause = None; queued = []; handed = [] }
+no_queue = record { span = record { topic = record { 0 = 0 }; from = zero_stamp; to = None }; cause = None; queued = []; handed = [] }
 
 -- the subscription of this number
 abbrev pub queue_in : Report → ℕ → QueueReport

@@ -1,8 +1,6 @@
 -- Worked rows, computed: the outcomes, what is reported, and the text out of each connection.
-use Rattle.delivery.proofs.Words.Std.{refl, ◌≡◌, ℕ, true, false, List, [], ◌∷◌, ◌++◌, map, codes, Some, None}
-use Rattle.delivery.proofs.Words.Frames.{unread_of}
-use Rattle.delivery.proofs.Words.Machine.{Answer}
-use Rattle.delivery.proofs.Words.Core.{Reading, reader_limits, outcomes, Event, Refusal, ConnectionFault, account_of, Core, names_at, new_core, report_of, Opened, Done, Subscribed, Unsubscribed, Flying, Proposed, Failed, Decided, Withdrawn, Cancelled, Turned, Handed, Faulted, Leaving, Gone, Refused, Fed}
+use Rattle.delivery.proofs.Words.All.{refl, ◌≡◌, ℕ, true, false, List, [], ◌∷◌, ◌++◌, map, codes, Some, None, unread_of, Answer, Reading, reader_limits, outcomes, Event, Refusal, ConnectionFault, account_of, Core, names_at, new_core, report_of, Flying, Proposed, Faulted, Fed}
+use Rattle.delivery.specs.declared.outcome.Outcome.TheVariants.{Opened, Done, Subscribed, Unsubscribed, Failed, Decided, Withdrawn, Cancelled, Turned, Handed, Leaving, Gone, Refused}
 use Rattle.std.specs.Fmt.{digits}
 use Rattle.mcast_group.specs.declared.cause.Cause.TheVariants.{Asked, Lag}
 use Rattle.mcast_group.specs.declared.fault.ProposeFault.TheVariants as proposals
@@ -51,26 +49,16 @@ crossing_news =
     ∷ Answer.Begun (record { id = id 0 1; sends = made 0 (x_to A) (codes "m1") ∷ made 1 (x_to B) (codes "m1") ∷ [] })
     ∷ Answer.Subscribed 0 0 (topic 1) (stamp 0 0) ∷ Answer.Opened 0 ∷ []
 
-crossing_told : account_of crossing.names crossing.steps ≡ crossing_news
-crossing_told = refl
-
-crossing_heard : machine_account (three, []) crossing_acts ≡ crossing_news
-crossing_heard = refl
-
-crossing_agrees : agreements three crossing_acts ≡ all_agree
-crossing_agrees = refl
-
-crossing_commits : (report_of crossing).commits ≡ log_row 0 1 10 0 (0 ∷ 1 ∷ []) ∷ log_row 0 2 11 2 (1 ∷ 2 ∷ []) ∷ []
-crossing_commits = refl
-
-crossing_logs : (report_of crossing).logs
+crossing_rows : (account_of crossing.names crossing.steps ≡ crossing_news)
+    × (machine_account (three, []) crossing_acts ≡ crossing_news)
+    × (agreements three crossing_acts ≡ all_agree)
+    × ((report_of crossing).commits ≡ log_row 0 1 10 0 (0 ∷ 1 ∷ []) ∷ log_row 0 2 11 2 (1 ∷ 2 ∷ []) ∷ [])
+    × ((report_of crossing).logs
     ≡ (log_row 0 1 10 0 (0 ∷ 1 ∷ []) ∷ []) ∷ (log_row 0 1 10 0 (0 ∷ 1 ∷ []) ∷ log_row 0 2 11 2 (1 ∷ 2 ∷ []) ∷ [])
-    ∷ (log_row 0 2 11 2 (1 ∷ 2 ∷ []) ∷ []) ∷ []
-crossing_logs = refl
-
-crossing_queues : map seen (report_of crossing).subscriptions
-    ≡ (topic 1, stamp 0 0, None, None, stamp 10 0 ∷ stamp 11 2 ∷ [], stamp 10 0 ∷ stamp 11 2 ∷ []) ∷ []
-crossing_queues = refl
+    ∷ (log_row 0 2 11 2 (1 ∷ 2 ∷ []) ∷ []) ∷ [])
+    × (map seen (report_of crossing).subscriptions
+    ≡ (topic 1, stamp 0 0, None, None, stamp 10 0 ∷ stamp 11 2 ∷ [], stamp 10 0 ∷ stamp 11 2 ∷ []) ∷ [])
+crossing_rows = (refl, refl, refl, refl, refl, refl)
 
 crossing_outs : (report_of crossing).outs
     ≡ codes "CONNECTED\nversion:1.2\nheart-beat:0,0\n\n\0RECEIPT\nreceipt-id:r1\n\n\0MESSAGE\nsubscription:b\nmessage-id:10.0.1\ndestination:B\ncontent-length:2\n\nm1\0MESSAGE\nsubscription:b\nmessage-id:11.2.0\ndestination:B\ncontent-length:2\n\nm2\0" ∷ []
@@ -102,22 +90,14 @@ ends_acts = opens 0 (
 abbrev pub ends : Core
 ends = played one ends_acts
 
-ends_outcomes : shown_outcomes ends
+ends_rows : (shown_outcomes ends
     ≡ Opened 0 ∷ Done ∷ Subscribed 0 (stamp 0 0) ∷ Flying (id 0 1) ∷ Proposed 1 ∷ Decided (stamp 1 0) false ∷ Turned 1
-    ∷ Done ∷ Done ∷ Leaving ∷ Refused Refusal.Gone ∷ Refused Refusal.Busy ∷ Unsubscribed 0 (stamp 1 0) ∷ Gone false ∷ Refused Refusal.Gone ∷ []
-ends_outcomes = refl
-
-ends_agrees : agreements one ends_acts ≡ all_agree
-ends_agrees = refl
-
-ends_commits : (report_of ends).commits ≡ log_row 0 1 1 0 (0 ∷ []) ∷ []
-ends_commits = refl
-
-ends_queues : map seen (report_of ends).subscriptions ≡ (topic 0, stamp 0 0, Some (stamp 1 0), Some Asked, stamp 1 0 ∷ [], []) ∷ []
-ends_queues = refl
-
-ends_outs : (report_of ends).outs ≡ codes "CONNECTED\nversion:1.2\nheart-beat:0,0\n\n\0RECEIPT\nreceipt-id:bye\n\n\0" ∷ []
-ends_outs = refl
+    ∷ Done ∷ Done ∷ Leaving ∷ Refused Refusal.Gone ∷ Refused Refusal.Busy ∷ Unsubscribed 0 (stamp 1 0) ∷ Gone false ∷ Refused Refusal.Gone ∷ [])
+    × (agreements one ends_acts ≡ all_agree)
+    × ((report_of ends).commits ≡ log_row 0 1 1 0 (0 ∷ []) ∷ [])
+    × (map seen (report_of ends).subscriptions ≡ (topic 0, stamp 0 0, Some (stamp 1 0), Some Asked, stamp 1 0 ∷ [], []) ∷ [])
+    × ((report_of ends).outs ≡ codes "CONNECTED\nversion:1.2\nheart-beat:0,0\n\n\0RECEIPT\nreceipt-id:bye\n\n\0" ∷ [])
+ends_rows = (refl, refl, refl, refl, refl)
 
 -- ---- lag: a queue of two items, and three rows
 
@@ -135,24 +115,18 @@ narrow = new_core (topic_list ((A, 0) ∷ [])) 2
 abbrev pub lags : Core
 lags = played narrow lags_acts
 
-lags_agrees : agreements narrow lags_acts ≡ all_agree
-lags_agrees = refl
-
-lags_outcomes : shown_outcomes lags
+lags_rows : (agreements narrow lags_acts ≡ all_agree)
+    × (shown_outcomes lags
     ≡ Opened 0 ∷ Done ∷ Subscribed 0 (stamp 0 0)
     ∷ Flying (id 0 1) ∷ Proposed 1 ∷ Decided (stamp 1 0) false ∷ Turned 1
     ∷ Flying (id 0 2) ∷ Proposed 2 ∷ Decided (stamp 2 0) false ∷ Turned 1
     ∷ Flying (id 0 3) ∷ Proposed 3 ∷ Decided (stamp 3 0) false ∷ Turned 1
     ∷ Handed 1 ∷ Handed 1 ∷ Faulted ConnectionFault.Lagged false ∷ Refused Refusal.Gone ∷ Refused Refusal.Busy
-    ∷ Unsubscribed 0 (stamp 2 0) ∷ Gone false ∷ []
-lags_outcomes = refl
-
-lags_queues : map seen (report_of lags).subscriptions
-    ≡ (topic 0, stamp 0 0, Some (stamp 2 0), Some Lag, stamp 1 0 ∷ stamp 2 0 ∷ [], stamp 1 0 ∷ stamp 2 0 ∷ []) ∷ []
-lags_queues = refl
-
-lags_logs : map (map (λ row. row.stamp)) (report_of lags).logs ≡ (stamp 1 0 ∷ stamp 2 0 ∷ stamp 3 0 ∷ []) ∷ []
-lags_logs = refl
+    ∷ Unsubscribed 0 (stamp 2 0) ∷ Gone false ∷ [])
+    × (map seen (report_of lags).subscriptions
+    ≡ (topic 0, stamp 0 0, Some (stamp 2 0), Some Lag, stamp 1 0 ∷ stamp 2 0 ∷ [], stamp 1 0 ∷ stamp 2 0 ∷ []) ∷ [])
+    × (map (map (λ row. row.stamp)) (report_of lags).logs ≡ (stamp 1 0 ∷ stamp 2 0 ∷ stamp 3 0 ∷ []) ∷ [])
+lags_rows = (refl, refl, refl, refl)
 
 lags_outs : (report_of lags).outs
     ≡ codes "CONNECTED\nversion:1.2\nheart-beat:0,0\n\n\0MESSAGE\nsubscription:s\nmessage-id:1.0.0\ndestination:A\ncontent-length:1\n\n1\0MESSAGE\nsubscription:s\nmessage-id:2.0.0\ndestination:A\ncontent-length:1\n\n2\0ERROR\nmessage:74 Lagged\ncontent-length:0\n\n\0" ∷ []
@@ -174,19 +148,15 @@ faults_acts = opens 0 (opens 1 (opens 2 (opens 3 (
 abbrev pub faults : Core
 faults = played one faults_acts
 
-faults_agrees : agreements one faults_acts ≡ all_agree
-faults_agrees = refl
-
-faults_outcomes : shown_outcomes faults
+faults_rows : (agreements one faults_acts ≡ all_agree)
+    × (shown_outcomes faults
     ≡ Opened 0 ∷ Done ∷ Opened 1 ∷ Done ∷ Opened 2 ∷ Done ∷ Opened 3 ∷ Done
     ∷ Flying (id 0 1) ∷ Faulted (ConnectionFault.Session sessions.NoSuchTxn) false
     ∷ Faulted (ConnectionFault.Session sessions.AckMode) false ∷ Faulted (ConnectionFault.Frame cases.Unsupported) false
     ∷ Fed ∷ Refused Refusal.NotLeaving ∷ Refused Refusal.Busy
-    ∷ Refused Refusal.Busy ∷ Gone false ∷ Refused Refusal.Gone ∷ []
-faults_outcomes = refl
-
-faults_names : names_at faults ≡ A ∷ codes "Z" ∷ []
-faults_names = refl
+    ∷ Refused Refusal.Busy ∷ Gone false ∷ Refused Refusal.Gone ∷ [])
+    × (names_at faults ≡ A ∷ codes "Z" ∷ [])
+faults_rows = (refl, refl, refl)
 
 -- the text of the CONNECTED frame
 abbrev pub greeting : List ℕ
@@ -222,20 +192,16 @@ full_acts = opens 0 (opens 1 (opens 2 (sends_one 0 (codes "m") (to_both 1 (
 abbrev pub full : Core
 full = played full_start full_acts
 
-full_outcomes : shown_outcomes full
+full_rows : (shown_outcomes full
     ≡ Opened 0 ∷ Done ∷ Opened 1 ∷ Done ∷ Opened 2 ∷ Done
     ∷ Flying (id 0 1) ∷ Proposed 18446744073709551615 ∷ Decided (stamp 18446744073709551615 0) false ∷ Turned 1
     ∷ Done ∷ Done ∷ Done ∷ Flying (id 1 1) ∷ Proposed 1 ∷ Flying (id 2 1) ∷ Proposed 2 ∷ Decided (stamp 2 1) false ∷ Turned 0
     ∷ Failed proposals.ClockFull ∷ Refused Refusal.Marked ∷ Withdrawn false ∷ Turned 0
-    ∷ Cancelled ∷ Refused Refusal.NotNamed ∷ Turned 1 ∷ Gone false ∷ []
-full_outcomes = refl
-
-full_agrees : agreements full_start full_acts ≡ all_agree
-full_agrees = refl
-
-full_outs : (report_of full).outs
-    ≡ greeting ∷ (greeting ++ codes "ERROR\nmessage:40 ClockFull\nreceipt-id:q\ncontent-length:0\n\n\0") ∷ greeting ∷ []
-full_outs = refl
+    ∷ Cancelled ∷ Refused Refusal.NotNamed ∷ Turned 1 ∷ Gone false ∷ [])
+    × (agreements full_start full_acts ≡ all_agree)
+    × ((report_of full).outs
+    ≡ greeting ∷ (greeting ++ codes "ERROR\nmessage:40 ClockFull\nreceipt-id:q\ncontent-length:0\n\n\0") ∷ greeting ∷ [])
+full_rows = (refl, refl, refl)
 
 -- ---- loss: the flight goes on, and its RECEIPT isn't written
 
@@ -249,16 +215,12 @@ lost_acts = opens 0 (to_both 0 (
 abbrev pub lost : Core
 lost = played both lost_acts
 
-lost_agrees : agreements both lost_acts ≡ all_agree
-lost_agrees = refl
-
-lost_outcomes : shown_outcomes lost
+lost_rows : (agreements both lost_acts ≡ all_agree)
+    × (shown_outcomes lost
     ≡ Opened 0 ∷ Done ∷ Done ∷ Done ∷ Done ∷ Flying (id 0 1) ∷ Proposed 1 ∷ Leaving ∷ Refused Refusal.Busy ∷ Refused Refusal.Busy
-    ∷ Proposed 1 ∷ Decided (stamp 1 1) false ∷ Turned 1 ∷ Turned 1 ∷ Gone false ∷ []
-lost_outcomes = refl
-
-lost_outs : (report_of lost).outs ≡ greeting ∷ []
-lost_outs = refl
+    ∷ Proposed 1 ∷ Decided (stamp 1 1) false ∷ Turned 1 ∷ Turned 1 ∷ Gone false ∷ [])
+    × ((report_of lost).outs ≡ greeting ∷ [])
+lost_rows = (refl, refl, refl)
 
 -- ---- a Decide whose RECEIPT finds no memory: the row stands, the reply is left out, the connection is leaving
 
@@ -271,34 +233,22 @@ cuts_acts = opens 0 (to_both 0 (
 abbrev pub cuts : Core
 cuts = played both cuts_acts
 
-cuts_agrees : agreements both cuts_acts ≡ all_agree
-cuts_agrees = refl
-
-cuts_outcomes : shown_outcomes cuts
+cuts_rows : (agreements both cuts_acts ≡ all_agree)
+    × (shown_outcomes cuts
     ≡ Opened 0 ∷ Done ∷ Done ∷ Done ∷ Done ∷ Flying (id 0 1) ∷ Proposed 1 ∷ Proposed 1 ∷ Decided (stamp 1 1) true
-    ∷ Refused Refusal.Busy ∷ Turned 1 ∷ Turned 1 ∷ Gone false ∷ []
-cuts_outcomes = refl
-
-cuts_commits : (report_of cuts).commits ≡ log_row 0 1 1 1 (0 ∷ 1 ∷ []) ∷ []
-cuts_commits = refl
-
-cuts_outs : (report_of cuts).outs ≡ greeting ∷ []
-cuts_outs = refl
+    ∷ Refused Refusal.Busy ∷ Turned 1 ∷ Turned 1 ∷ Gone false ∷ [])
+    × ((report_of cuts).commits ≡ log_row 0 1 1 1 (0 ∷ 1 ∷ []) ∷ [])
+    × ((report_of cuts).outs ≡ greeting ∷ [])
+cuts_rows = (refl, refl, refl, refl)
 
 -- a Decide without a receipt can't be cut; a Next may be 72, with its reply or without; a Release never is for want of memory
 abbrev pub plain : Core
 plain = played both (opens 0 (reads 0 (send A []) ∷ propose 0 0 ∷ []))
 
-plain_decides : outcomes plain (Event.Decide 0) Reading.Nothing ≡ Decided (stamp 1 0) false ∷ []
-plain_decides = refl
-
-plain_next : outcomes both (Event.Next 0) Reading.Nothing ≡ Refused Refusal.NoConn ∷ []
-plain_next = refl
-
-plain_begins : outcomes (played both (opens 0 [])) (Event.Next 0) (Reading.Finds (begin (codes "x")) (unread_of reader_limits))
-    ≡ Done ∷ Faulted (ConnectionFault.Session sessions.NoMemory) false ∷ Faulted (ConnectionFault.Session sessions.NoMemory) true ∷ []
-plain_begins = refl
-
-plain_proposes : outcomes (played both (opens 0 (reads 0 (send A []) ∷ []))) (Event.Propose 0 (topic 0)) Reading.Nothing
-    ≡ Proposed 1 ∷ Failed proposals.NoMemory ∷ []
-plain_proposes = refl
+plain_rows : (outcomes plain (Event.Decide 0) Reading.Nothing ≡ Decided (stamp 1 0) false ∷ [])
+    × (outcomes both (Event.Next 0) Reading.Nothing ≡ Refused Refusal.NoConn ∷ [])
+    × (outcomes (played both (opens 0 [])) (Event.Next 0) (Reading.Finds (begin (codes "x")) (unread_of reader_limits))
+    ≡ Done ∷ Faulted (ConnectionFault.Session sessions.NoMemory) false ∷ Faulted (ConnectionFault.Session sessions.NoMemory) true ∷ [])
+    × (outcomes (played both (opens 0 (reads 0 (send A []) ∷ []))) (Event.Propose 0 (topic 0)) Reading.Nothing
+    ≡ Proposed 1 ∷ Failed proposals.NoMemory ∷ [])
+plain_rows = (refl, refl, refl, refl)

@@ -1,9 +1,5 @@
 -- A net is a run of the machine, so that the laws of the machine's runs are laws of nets.
-use Rattle.delivery.proofs.Words.Std.{◌≡◌, ℕ, Bool, true, false, List, [], ◌∷◌, ◌++◌, Option, Some, None, refl, sym, ap, subst, ◌∙◌, zero, suc, not, ◌&&◌, codes, if◌then◌else◌, option_to_list, option_map_or, filter, get_or}
-use Rattle.delivery.proofs.Words.Topics.{In, ProposeFault, IsSound}
-use Rattle.delivery.proofs.Words.Frames.{RawFrame, Action, action_by, is_known, field, has_destination}
-use Rattle.delivery.proofs.Words.Machine.{World, topic_at, Move, Answer, answers_of, final_world, added_clocks, Errs, Lost}
-use Rattle.delivery.proofs.Words.Core.{Event, Outcome, TopicList, account_of, CoreStep, Reading, frame_in, has_effect, Core, core_of, moves, names_at, session_at, frame_move, topic_moves, is_faulted, is_no_memory, is_cut, KeptRun}
+use Rattle.delivery.proofs.Words.All.{◌≡◌, ℕ, Bool, true, false, List, [], ◌∷◌, ◌++◌, Option, Some, None, refl, sym, ap, subst, ◌∙◌, zero, suc, not, ◌&&◌, codes, if◌then◌else◌, option_to_list, option_map_or, filter, get_or, In, ProposeFault, IsSound, RawFrame, Action, action_by, is_known, field, has_destination, World, topic_at, Move, Answer, answers_of, final_world, added_clocks, Errs, Lost, Event, Outcome, TopicList, account_of, CoreStep, Reading, frame_in, has_effect, Core, core_of, moves, names_at, session_at, frame_move, topic_moves, is_faulted, is_no_memory, is_cut, KeptRun}
 use Rattle.stomp_session.specs.declared.action.Action.TheVariants as actions
 use Rattle.delivery.specs.NetLaws.{moves_of, run_of_net, is_told, NetsAreRuns, NetsAreTied, NetsAreSound, NothingOddComes, NoneFailsTwice}
 use Rattle.delivery.proofs.Theorem.NeverRefused.{none_is_pending_twice}
@@ -20,8 +16,7 @@ moves_are topics capacity (step ∷ older) =
     ap (λ (ms : List Move). ms ++ moves (core_of topics capacity older) step.event step.reading step.outcome) (moves_are topics capacity older)
 
 run_is : (net : KeptRun) → run_of net.topics net.capacity net.steps ≡ run_of_net net
-run_is net =
-    ap (λ (ms : List Move). record { capacity = net.capacity; log_limit = 65536; clocks = net.topics.clocks; events = ms }) (moves_are net.topics net.capacity net.steps)
+run_is net = ap (λ (ms : List Move). record { capacity = net.capacity; log_limit = 65536; clocks = net.topics.clocks; events = ms }) (moves_are net.topics net.capacity net.steps)
 
 -- what an account says of the machine's answers
 said_is : (past : List Answer) → said past ≡ filter is_told past
@@ -70,8 +65,7 @@ one_zero (suc i) = refl
 no_zero : AreZero []
 no_zero i = refl
 
-zero_by_frame : (k : Core) (c : ℕ) (read : Option RawFrame)
-    → AreZero
+zero_by_frame : (k : Core) (c : ℕ) (read : Option RawFrame) → AreZero
     (added_clocks (option_map_or (λ (f : RawFrame). topic_moves (names_at k) f ++ option_to_list (frame_move k c (action_by f.command (session_at k c) f))) read []))
 zero_by_frame k c None = no_zero
 zero_by_frame k c (Some f) =
@@ -81,8 +75,7 @@ zero_by_frame k c (Some f) =
 
 zero_by_event : (k : Core) (e : Event) (rd : Reading) (o : Outcome) → AreZero (added_clocks (moves k e rd o))
 zero_by_event k Event.Open rd o = zero_if (is_no_memory o) [] (Move.Opens ∷ []) no_zero no_zero
-zero_by_event k (Event.Next c) rd o =
-    zero_if (is_faulted o) (Errs c ∷ []) _ no_zero (zero_if (has_effect o) _ [] (zero_by_frame k c (frame_in rd)) no_zero)
+zero_by_event k (Event.Next c) rd o = zero_if (is_faulted o) (Errs c ∷ []) _ no_zero (zero_if (has_effect o) _ [] (zero_by_frame k c (frame_in rd)) no_zero)
 zero_by_event k (Event.Decide c) rd o = zero_if (is_cut o) (Lost c ∷ []) [] no_zero no_zero
 zero_by_event k (Event.Take s) rd o = zero_if (is_no_memory o) [] (Move.Takes s ∷ []) no_zero no_zero
 zero_by_event k e rd o = no_zero
@@ -109,8 +102,7 @@ pub nets_are_tied : NetsAreTied
 nets_are_tied net r is t = topics_are_tied (run_of_net net) t
 
 pub nets_are_sound : NetsAreSound
-nets_are_sound net r is t =
-    subst (λ (w : World). IsSound (topic_at w t)) (sym (nets_are_runs net r is).core) (topics_are_sound (run_of_net net) t).0
+nets_are_sound net r is t = subst (λ (w : World). IsSound (topic_at w t)) (sym (nets_are_runs net r is).core) (topics_are_sound (run_of_net net) t).0
 
 pub nothing_odd_comes : NothingOddComes
 nothing_odd_comes net r is why i = odd_never_comes (run_of_net net) why i

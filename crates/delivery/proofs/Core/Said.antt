@@ -1,9 +1,6 @@
 -- The readers of an account take nothing from refusals, nor from what was merely done: they read the same of
 -- all that a machine answered and of what of it an account says.
-use Rattle.delivery.proofs.Words.Std.{◌≡◌, ℕ, ◌+◌, ◌==◌, Bool, true, false, cond, ◌||◌, List, [], ◌∷◌, ◌++◌, refl, ap, subst, ◌∙◌, inl, inr, false≢true, take}
-use Rattle.delivery.proofs.Words.Topics.{Topic, TxnId, Stamp, zero_stamp, CommitRow, Transaction, same_id, In, Item, LogRow, last_stamp, topics_of, names}
-use Rattle.delivery.proofs.Words.Machine.{Answer, txn_of_id, commits_of, txn_count, delivered_items, released_at, agreed_rows, IsResolved, AllResolved, IsSettled, IsSilent, SilentAfterClose, closes}
-use Rattle.delivery.proofs.Words.Core.{Beginning, beginning_of, released_log, released_frontier, has_closed}
+use Rattle.delivery.proofs.Words.All.{◌≡◌, ℕ, ◌+◌, ◌==◌, Bool, true, false, cond, ◌||◌, List, [], ◌∷◌, ◌++◌, refl, ap, subst, ◌∙◌, inl, inr, false≢true, take, Topic, TxnId, Stamp, zero_stamp, CommitRow, Transaction, same_id, In, Item, LogRow, last_stamp, topics_of, names, Answer, txn_of_id, commits_of, txn_count, delivered_items, released_at, agreed_rows, IsResolved, AllResolved, IsSettled, IsSilent, SilentAfterClose, closes, Beginning, beginning_of, released_log, released_frontier, has_closed}
 use Rattle.delivery.specs.Theorem.Settled.{is_at}
 use Rattle.delivery.specs.Core.Answered.{begun_in}
 
@@ -18,22 +15,7 @@ abbrev pub said : List Answer → List Answer
 said [] = []
 said (Answer.Refused why ∷ past) = said past
 said (Answer.Done ∷ past) = said past
-said (Answer.Opened c ∷ past) = Answer.Opened c ∷ said past
-said (Answer.Begun txn ∷ past) = Answer.Begun txn ∷ said past
-said (Answer.Subscribed r c u from ∷ past) = Answer.Subscribed r c u from ∷ said past
-said (Answer.Unsubscribed r to ∷ past) = Answer.Unsubscribed r to ∷ said past
-said (Answer.Leaving c ∷ past) = Answer.Leaving c ∷ said past
-said (Answer.Error c ∷ past) = Answer.Error c ∷ said past
-said (Answer.Gone c ∷ past) = Answer.Gone c ∷ said past
-said (Answer.Ticket i ticket ∷ past) = Answer.Ticket i ticket ∷ said past
-said (Answer.Failed i why ∷ past) = Answer.Failed i why ∷ said past
-said (Answer.Decided i stamp ∷ past) = Answer.Decided i stamp ∷ said past
-said (Answer.Withdrawn i c ∷ past) = Answer.Withdrawn i c ∷ said past
-said (Answer.Cancelled i u ∷ past) = Answer.Cancelled i u ∷ said past
-said (Answer.Learnt i u ∷ past) = Answer.Learnt i u ∷ said past
-said (Answer.Released u i ∷ past) = Answer.Released u i ∷ said past
-said (Answer.Turned u n ∷ past) = Answer.Turned u n ∷ said past
-said (Answer.Handed r item ∷ past) = Answer.Handed r item ∷ said past
+said (o ∷ past) = o ∷ said past
 
 -- the transaction of an id
 pub txn_of_id_said : (id : TxnId) (past : List Answer) → txn_of_id id (said past) ≡ txn_of_id id past
@@ -152,8 +134,7 @@ settled_said t (_ ∷ past) h = settled_said t past h
 
 silent_from : (s : ℕ) (past : List Answer) → IsSilent s (said past) → IsSilent s past
 silent_from s past (inl k) = inl (k.0, said_from (Answer.Unsubscribed s k.0) past k.1)
-silent_from s past (inr k) =
-    inr (k.0, k.1, k.2, k.3, said_from (Answer.Subscribed s k.0 k.1 k.2) past k.4, said_from k.3 past k.5, k.6)
+silent_from s past (inr k) = inr (k.0, k.1, k.2, k.3, said_from (Answer.Subscribed s k.0 k.1 k.2) past k.4, said_from k.3 past k.5, k.6)
 
 -- an account is silent after a close where the run is
 pub silent_said : (past : List Answer) → SilentAfterClose past → SilentAfterClose (said past)

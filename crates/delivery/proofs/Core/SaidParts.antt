@@ -1,6 +1,5 @@
 -- What an account says of a part of the answers.
-use Rattle.delivery.proofs.Words.Std.{◌≡◌, true, false, List, [], ◌∷◌, ◌++◌, refl, ap, true≢false, false≢true}
-use Rattle.delivery.proofs.Words.Machine.{Answer}
+use Rattle.delivery.proofs.Words.All.{◌≡◌, true, false, List, [], ◌∷◌, ◌++◌, refl, ap, true≢false, false≢true, Answer}
 use Rattle.delivery.proofs.Core.Said.{said, is_said}
 
 -- of two lists what it says of each

@@ -1,7 +1,5 @@
 -- The senders that claims have begun, listed: a client-id is among them where it is kept, at its sender's number.
-use Rattle.delivery.proofs.Words.Std.{◌≡◌, ℕ, suc, ◌+◌, Bool, true, false, cond, not, ◌&&◌, ◌||◌, List, [], ◌∷◌, ◌++◌, length, Option, Some, None, refl, sym, ap, subst, ◌∙◌, arith, length-append, true≢false, list_any, position_or_len, bytes_eq}
-use Rattle.delivery.proofs.Words.Lemmas.{same_octets}
-use Rattle.delivery.proofs.Words.Core.{Claim, is_kept, begun_count, kept_sender, is_one_client, senders_of}
+use Rattle.delivery.proofs.Words.All.{◌≡◌, ℕ, suc, ◌+◌, Bool, true, false, cond, not, ◌&&◌, ◌||◌, List, [], ◌∷◌, ◌++◌, length, Option, Some, None, refl, sym, ap, subst, ◌∙◌, arith, length-append, true≢false, list_any, position_or_len, bytes_eq, same_octets, Claim, is_kept, begun_count, kept_sender, is_one_client, senders_of}
 
 -- ---- lists
 
@@ -43,8 +41,7 @@ none_at (sender ∷ senders) = ap (λ (n : ℕ). 1 + n) (none_at senders) ∙ om
 
 -- the senders once this one claims
 abbrev and_then : Option (List ℕ) → List Claim → List (Option (List ℕ))
-and_then client before =
-    cond (list_any (is_one_client client) (senders_of before)) (senders_of before) (senders_of before ++ client ∷ [])
+and_then client before = cond (list_any (is_one_client client) (senders_of before)) (senders_of before) (senders_of before ++ client ∷ [])
 
 -- one without a client-id is added
 adds_none : (before : List Claim) → and_then None before ≡ senders_of before ++ None ∷ []
@@ -91,11 +88,10 @@ many_then connection None before many =
     ∙ (length-append (senders_of before) (None ∷ []) ∙ ap (λ (n : ℕ). n + 1) many)
 many_then connection (Some other) before many =
     ap (λ (b : Bool). length (cond b (senders_of before) (senders_of before ++ Some other ∷ []))) (known before other)
-    ∙ by (is_kept other before)
-  where
-    by : (k : Bool) → length (cond k (senders_of before) (senders_of before ++ Some other ∷ [])) ≡ cond (not k) (begun_count before + 1) (begun_count before)
-    by true = many
-    by false = length-append (senders_of before) (Some other ∷ []) ∙ ap (λ (n : ℕ). n + 1) many
+    ∙ elim (is_kept other before) as (λ (k : Bool). length (cond k (senders_of before) (senders_of before ++ Some other ∷ [])) ≡ cond (not k) (begun_count before + 1) (begun_count before)) [
+      | true ↦ many
+      | false ↦ length-append (senders_of before) (Some other ∷ []) ∙ ap (λ (n : ℕ). n + 1) many
+    ]
 
 as_many : (claims : List Claim) → length (senders_of claims) ≡ begun_count claims
 as_many [] = refl
@@ -143,16 +139,13 @@ placed_then id connection o before placed = by o
     old other false true e d m = refl
     old other false false e d m = refl
     old other true true e d m = refl
-    old other true false e d m =
-        absurd (true≢false (sym m ∙ (ap (λ (z : List ℕ). is_kept z before) (sym (same_octets id other e)) ∙ d)))
+    old other true false e d m = absurd (true≢false (sym m ∙ (ap (λ (z : List ℕ). is_kept z before) (sym (same_octets id other e)) ∙ d)))
 
-    new : (other : List ℕ) (h k : Bool) → bytes_eq id other ≡ h → is_kept id before ≡ k → is_kept other before ≡ false
-        → cond k (cond k kept n) (cond h n (n + 1)) ≡ after h k true
+    new : (other : List ℕ) (h k : Bool) → bytes_eq id other ≡ h → is_kept id before ≡ k → is_kept other before ≡ false → cond k (cond k kept n) (cond h n (n + 1)) ≡ after h k true
     new other false true e d m = refl
     new other false false e d m = refl
     new other true false e d m = refl
-    new other true true e d m =
-        absurd (true≢false (sym d ∙ (ap (λ (z : List ℕ). is_kept z before) (same_octets id other e) ∙ m)))
+    new other true true e d m = absurd (true≢false (sym d ∙ (ap (λ (z : List ℕ). is_kept z before) (same_octets id other e) ∙ m)))
 
     by_known : (other : List ℕ) (m : Bool) → is_kept other before ≡ m
         → position_or_len p (cond m (senders_of before) (senders_of before ++ Some other ∷ [])) ≡ after (bytes_eq id other) (is_kept id before) (not m)

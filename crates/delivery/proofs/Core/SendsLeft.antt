@@ -1,8 +1,5 @@
 -- The SENDs of a transaction that frames left open are those that its session holds of it.
-use Rattle.delivery.proofs.Words.Std.{◌≡◌, ℕ, Bool, true, false, cond, not, ◌&&◌, ◌||◌, List, [], ◌∷◌, ◌++◌, map, codes, Option, Some, None, refl, sym, ap, subst, ◌∙◌, true≢false, append_assoc, append-nil, list_any, lookup, unwrap_or, option_map, option_map_or, bytes_eq, filter, fold}
-use Rattle.delivery.proofs.Words.Topics.{SentMessage}
-use Rattle.delivery.proofs.Words.Frames.{RawFrame, Command, first_of, is_send, is_begin, is_send_in, names_transaction, transaction_of, send_of, transactions_left, sends_in}
-use Rattle.delivery.proofs.Words.Lemmas.{same_octets, octets_pass}
+use Rattle.delivery.proofs.Words.All.{◌≡◌, ℕ, Bool, true, false, cond, not, ◌&&◌, ◌||◌, List, [], ◌∷◌, ◌++◌, map, codes, Option, Some, None, refl, sym, ap, subst, ◌∙◌, true≢false, append_assoc, append-nil, list_any, lookup, unwrap_or, option_map, option_map_or, bytes_eq, filter, fold, SentMessage, RawFrame, Command, first_of, is_send, is_begin, is_send_in, names_transaction, transaction_of, send_of, transactions_left, sends_in, same_octets, octets_pass}
 use Rattle.stomp_frame.specs.declared.command.Command.TheVariants as commands
 use Rattle.stomp_session.specs.Frames.{is_end}
 use Rattle.delivery.specs.Core.Told.{left_by, sends_left}
@@ -69,17 +66,11 @@ held_are_since x names (f ∷ after) = by (bytes_eq x y) (λ z. held_are_since z
 
 -- what transaction x has open once this frame came
 abbrev after_frame : List ℕ → List (List ℕ) → Option (List SentMessage) → RawFrame → Option (List SentMessage)
-after_frame x names sends f =
-    cond (is_send_in x f) (option_map (λ held. held ++ send_of names f ∷ []) sends) (cond (bytes_eq (transaction_of f) x) (left_by f.command sends) sends)
+after_frame x names sends f = cond (is_send_in x f) (option_map (λ held. held ++ send_of names f ∷ []) sends) (cond (bytes_eq (transaction_of f) x) (left_by f.command sends) sends)
 
 -- what it has open, with these SENDs after it
 abbrev with_sends : Option (List SentMessage) → List SentMessage → List SentMessage
 with_sends sends more = unwrap_or (option_map (λ held. held ++ more) sends) []
-
-one_more : (m : SentMessage) (more : List SentMessage) (sends : Option (List SentMessage))
-    → with_sends (option_map (λ held. held ++ m ∷ []) sends) more ≡ with_sends sends (m ∷ more)
-one_more m more None = refl
-one_more m more (Some held) = append_assoc held (m ∷ []) more
 
 -- where no frame but a SEND names it there are none since its BEGIN
 none_since : (x : List ℕ) (names : List (List ℕ)) (fs : List RawFrame) → list_any (names_transaction x) fs ≡ false → sends_since x names fs ≡ []
@@ -93,8 +84,7 @@ none_since x names (f ∷ fs) e = by (is_begin f.command) (names_transaction x f
     by false false none d = none d
 
 -- one after another they leave those since its BEGIN, or all that it had and theirs
-fold_since : (x : List ℕ) (names : List (List ℕ)) (fs : List RawFrame) (sends : Option (List SentMessage))
-    → unwrap_or (fold (after_frame x names) sends fs) []
+fold_since : (x : List ℕ) (names : List (List ℕ)) (fs : List RawFrame) (sends : Option (List SentMessage)) → unwrap_or (fold (after_frame x names) sends fs) []
     ≡ cond (list_any (names_transaction x) fs) (sends_since x names fs) (with_sends sends (map (send_of names) (filter (is_send_in x) fs)))
 fold_since x names [] sends = elim sends as (λ sends. unwrap_or sends [] ≡ with_sends sends []) [ None ↦ refl | Some held ↦ sym (append-nil held) ]
 fold_since x names (f ∷ fs) sends =
@@ -116,7 +106,10 @@ fold_since x names (f ∷ fs) sends =
         (with_sends sends (map (send_of names) (cond (is_send c && q) (f ∷ theirs) theirs))))
     by commands.Send true b a ih none =
         ih (option_map (λ held. held ++ send_of names f ∷ []) sends)
-        ∙ ap (λ (z : List SentMessage). cond a since z) (one_more (send_of names f) (map (send_of names) theirs) sends)
+        ∙ ap (λ (z : List SentMessage). cond a since z) (elim sends as (λ (sends : Option (List SentMessage)). with_sends (option_map (λ held. held ++ (send_of names f) ∷ []) sends) (map (send_of names) theirs) ≡ with_sends sends ((send_of names f) ∷ (map (send_of names) theirs))) [
+          | None ↦ refl
+          | Some held ↦ append_assoc held ((send_of names f) ∷ []) (map (send_of names) theirs)
+        ])
     by commands.Send false true a ih none = ih sends
     by commands.Send false false a ih none = ih sends
     by commands.Begin q true true ih none = ih (Some [])
@@ -134,8 +127,7 @@ fold_since x names (f ∷ fs) sends =
 -- what a session holds of a transaction are the SENDs that its frames left open
 pub sends_are_left : (x : List ℕ) (names : List (List ℕ)) (fs : List RawFrame) → sends_in x (transactions_left names fs) ≡ sends_left x names fs
 sends_are_left x names fs =
-    held_are_since x names fs ∙ (by (list_any (names_transaction x) fs) (none_since x names fs) ∙ sym (fold_since x names fs None))
-  where
-    by : (a : Bool) → (a ≡ false → sends_since x names fs ≡ []) → sends_since x names fs ≡ cond a (sends_since x names fs) []
-    by true none = refl
-    by false none = none refl
+    held_are_since x names fs ∙ ((elim (list_any (names_transaction x) fs) as (λ (a : Bool). (a ≡ false → sends_since x names fs ≡ []) → sends_since x names fs ≡ cond a (sends_since x names fs) []) [
+      | true ↦ λ none. refl
+      | false ↦ λ none. none refl
+    ]) (none_since x names fs) ∙ sym (fold_since x names fs None))

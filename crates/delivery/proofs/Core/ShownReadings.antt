@@ -1,7 +1,5 @@
 -- Whether steps read frames exactly where their outcomes say so, as tests.
-use Rattle.delivery.proofs.Words.Std.{◌≡◌, Bool, true, false, cond, not, ◌&&◌, inl, inr, List, [], ◌∷◌, refl, sym, subst, true≢false, list_all, is_some}
-use Rattle.delivery.proofs.Words.Topics.{In}
-use Rattle.delivery.proofs.Words.Core.{Event, Outcome, ConnectionFault, CoreStep, frame_in, reads_frame}
+use Rattle.delivery.proofs.Words.All.{◌≡◌, Bool, true, false, cond, not, ◌&&◌, inl, inr, List, [], ◌∷◌, refl, sym, subst, true≢false, list_all, is_some, In, Event, Outcome, ConnectionFault, CoreStep, frame_in, reads_frame}
 
 -- the outcome of a Next says that a frame was read
 abbrev pub says_frame : Outcome → Bool
@@ -29,8 +27,7 @@ both true b h = (refl, h)
 both false b h = absurd (true≢false (sym h))
 
 -- where each of them shows it, each has read a frame exactly where its outcome says so
-pub shown_each : (steps : List CoreStep) → list_all shows_reading steps ≡ true
-    → (s : CoreStep) → In s steps → is_some (frame_in s.reading) ≡ reads_frame s.event s.outcome
+pub shown_each : (steps : List CoreStep) → list_all shows_reading steps ≡ true → (s : CoreStep) → In s steps → is_some (frame_in s.reading) ≡ reads_frame s.event s.outcome
 shown_each [] h s i = absurd i
 shown_each (step ∷ older) h s (inl e) =
     subst (λ (z : CoreStep). is_some (frame_in z.reading) ≡ reads_frame z.event z.outcome) e

@@ -1,18 +1,9 @@
 -- What every run keeps of connections and their senders: a sender's number of transactions, whose its undecided
 -- transaction and its leftover tickets are, and that a connection which isn't open was closed.
-use Rattle.delivery.proofs.Words.Std.{◌≡◌, ℕ, ◌+◌, ◌<◌, ◌==◌, Bool, true, false, cond, ◌||◌, inl, inr, List, [], ◌∷◌, ◌++◌, map, length, get_or, set, Option, Some, None, refl, sym, ap, subst, ◌∙◌, true≢false, arith, eqb-true, eq-eqb, or_parts, or_right, not-false, length_push}
-use Rattle.delivery.proofs.Words.Topics.{Topic, TxnId, SentMessage, Transaction, In}
-use Rattle.delivery.proofs.Words.Lemmas.{at_set, at_set_within, In-map_cases, some_same, none_some, not_true}
-use Rattle.delivery.proofs.Words.Machine.{World, Connection, Undecided, Leftover, SenderState, Standing, is_reading, nobody, new_sender, connection_at, subscription_at, speaker, start, speaker_number, speaks_for, is_in_use, Move, Answer, world_after, answer_to, move_refusal, move_effect, move_answer, undecided_at, leftover, next_txn, connect_effect, commit_effect, commit_answer, cancel_effect, cancel_answer, leave_answer, run, answers_from, txn_count, closes, Refused, Opened}
-use Rattle.delivery.proofs.Words.Core.{has_closed}
+use Rattle.delivery.proofs.Words.All.{◌≡◌, ℕ, ◌+◌, ◌<◌, ◌==◌, Bool, true, false, cond, ◌||◌, inl, inr, List, [], ◌∷◌, ◌++◌, map, length, get_or, set, Option, Some, None, refl, sym, ap, subst, ◌∙◌, true≢false, arith, eqb-true, eq-eqb, or_parts, or_right, not-false, length_push, TxnId, SentMessage, Transaction, In, at_set, at_set_within, In-map_cases, some_same, none_some, not_true, World, Connection, Undecided, Leftover, SenderState, Standing, is_reading, nobody, new_sender, connection_at, subscription_at, speaker, speaker_number, speaks_for, is_in_use, Move, Answer, move_refusal, move_effect, move_answer, undecided_at, leftover, next_txn, connect_effect, commit_effect, commit_answer, txn_count, closes, answers_of, final_world, Run, Leaving, Error, has_closed}
 use Rattle.delivery.specs.Machine.Moves.Move.{Opens, Connects, Commits, Disconnects, Errs, Lost, Leaves, Proposes, Decides, Withdraws, Cancels, Takes}
-use Rattle.delivery.proofs.Machine.Invariant.{sender_in}
-use Rattle.delivery.proofs.Machine.SenderSteps.{In-append_cases, In-drop}
-use Rattle.delivery.proofs.Machine.SubscriptionSteps.{at_push, at_end, at_push_two, set_length}
-use Rattle.delivery.proofs.Machine.InvariantIsKept.{by_refusal, checked, in_flight}
-use Rattle.delivery.proofs.Machine.ByFound.{InEachCase, by_found, by_entry}
-use Rattle.delivery.proofs.Theorem.SendersAreOwn.{Speaks, effect_speaks, start_speaks, flying_speaks, speaks, reading_there}
-use Rattle.delivery.proofs.Machine.Speakers.{has_speaker, claim_free}
+use Rattle.delivery.proofs.Words.Steps.{sender_in, In-append_cases, In-drop, at_push, at_end, at_push_two, set_length, checked, in_flight, InEachCase, always, by_runs_moves, has_speaker, claim_free}
+use Rattle.delivery.proofs.Theorem.SendersAreOwn.{Speaks, speak, flying_speaks, speaks, reading_there}
 use Rattle.delivery.proofs.Core.Tests.{connection_there}
 
 -- the id of the transaction of this sender and this number
@@ -29,74 +20,109 @@ NoneOpen connections s = (c : ℕ) → (get_or connections c nobody).sender ≡ 
 
 -- A sender has made as many transactions as were answered, its undecided one is the last of them, and so is that
 -- of its leftover tickets, and no connection that speaks for it is open then; a connection that isn't open was closed.
-pub record Speaking (past : List Answer) (senders : List SenderState) (connections : List Connection) : Type 0 where
-  pub seqs : (s : ℕ) → (sender_in senders s).seq ≡ txn_count s past
+pub record Speaking (count : ℕ → ℕ) (was_shut : ℕ → Bool) (senders : List SenderState) (connections : List Connection) : Type 0 where
+  pub seqs : (s : ℕ) → (sender_in senders s).seq ≡ count s
   pub flying : (s : ℕ) (f : Undecided) → (sender_in senders s).flight ≡ Some f → f.txn.id ≡ id_at s (sender_in senders s).seq
   pub left : (s : ℕ) (k : Leftover) → In k (sender_in senders s).leftovers → (k.id ≡ id_at s (sender_in senders s).seq) × NoneOpen connections s
-  pub shut : (c : ℕ) → c < length connections → open_in connections c ≡ false → has_closed c past ≡ true
+  pub shut : (c : ℕ) → c < length connections → open_in connections c ≡ false → was_shut c ≡ true
+
+-- as the answers so far count and close
+abbrev pub IsSaid : List Answer → World → Type 0
+IsSaid past w = Speaking (λ s. txn_count s past) (λ c. has_closed c past) w.senders w.connections
 
 -- ---- writing
 
--- a sender is written with its number as it was
-written : (past : List Answer) (senders : List SenderState) (connections : List Connection) (s : ℕ) (x : SenderState) → x.seq ≡ (sender_in senders s).seq
-    → ((f : Undecided) → x.flight ≡ Some f → f.txn.id ≡ id_at s (sender_in senders s).seq)
-    → ((k : Leftover) → In k x.leftovers → (k.id ≡ id_at s (sender_in senders s).seq) × NoneOpen connections s)
-    → Speaking past senders connections → Speaking past (set senders s x) connections
-written past senders connections s x e g l h = record {
-  seqs = λ r. at_set (λ (z : SenderState). z.seq ≡ txn_count r past) senders s r x new_sender
-      (λ k. e ∙ (h.seqs s ∙ ap (λ n. txn_count n past) (sym k))) (h.seqs r);
-  flying = λ r f. at_set (λ (z : SenderState). z.flight ≡ Some f → f.txn.id ≡ id_at r z.seq) senders s r x new_sender
-      (λ k d. g f d ∙ (ap (λ n. id_at s n) (sym e) ∙ ap (λ m. id_at m x.seq) (sym k))) (h.flying r f);
-  left = λ r k. at_set (λ (z : SenderState). In k z.leftovers → (k.id ≡ id_at r z.seq) × NoneOpen connections r) senders s r x new_sender
-      (λ j i. (let a = l k i in
-      (a.0 ∙ (ap (λ n. id_at s n) (sym e) ∙ ap (λ m. id_at m x.seq) (sym j)), subst (λ m. NoneOpen connections m) (sym j) a.1)))
-      (h.left r k);
-  shut = h.shut;
-}
+module _ {count : ℕ → ℕ} {was_shut : ℕ → Bool} {senders : List SenderState} {connections : List Connection} where
+  -- a sender is written with its number as it was
+  written : (s : ℕ) (x : SenderState) → x.seq ≡ (sender_in senders s).seq → ((f : Undecided) → x.flight ≡ Some f → f.txn.id ≡ id_at s (sender_in senders s).seq)
+      → ((k : Leftover) → In k x.leftovers → (k.id ≡ id_at s (sender_in senders s).seq) × NoneOpen connections s)
+      → Speaking count was_shut senders connections → Speaking count was_shut (set senders s x) connections
+  written s x e g l h = record {
+    seqs = λ r. at_set (λ (z : SenderState). z.seq ≡ count r) senders s r x new_sender
+        (λ k. e ∙ (h.seqs s ∙ ap count (sym k))) (h.seqs r);
+    flying = λ r f. at_set (λ (z : SenderState). z.flight ≡ Some f → f.txn.id ≡ id_at r z.seq) senders s r x new_sender
+        (λ k d. g f d ∙ (ap (λ n. id_at s n) (sym e) ∙ ap (λ m. id_at m x.seq) (sym k))) (h.flying r f);
+    left = λ r k. at_set (λ (z : SenderState). In k z.leftovers → (k.id ≡ id_at r z.seq) × NoneOpen connections r) senders s r x new_sender
+        (λ j i. (let a = l k i in
+        (a.0 ∙ (ap (λ n. id_at s n) (sym e) ∙ ap (λ m. id_at m x.seq) (sym j)), subst (λ m. NoneOpen connections m) (sym j) a.1)))
+        (h.left r k);
+    shut = h.shut;
+  }
 
--- with its flight and its leftover tickets as they were too
-same_id_flies : (past : List Answer) (senders : List SenderState) (connections : List Connection) (s : ℕ) (f g : Undecided) → (sender_in senders s).flight ≡ Some f → g.txn ≡ f.txn
-    → Speaking past senders connections → Speaking past (set senders s (record (sender_in senders s) { flight = Some g })) connections
-same_id_flies past senders connections s f g e t h =
-    written past senders connections s (record (sender_in senders s) { flight = Some g }) refl
-    (λ y d. ap (λ (z : Undecided). z.txn.id) (sym (some_same g y d)) ∙ (ap (λ (z : Transaction). z.id) t ∙ h.flying s f e)) (h.left s) h
+  -- with its flight and its leftover tickets as they were too
+  same_id_flies : (s : ℕ) (f g : Undecided) → (sender_in senders s).flight ≡ Some f → g.txn ≡ f.txn
+      → Speaking count was_shut senders connections → Speaking count was_shut (set senders s (record (sender_in senders s) { flight = Some g })) connections
+  same_id_flies s f g e t h =
+      written s (record (sender_in senders s) { flight = Some g }) refl
+      (λ y d. ap (λ (z : Undecided). z.txn.id) (sym (some_same g y d)) ∙ (ap (λ (z : Transaction). z.id) t ∙ h.flying s f e)) (h.left s) h
 
--- a connection isn't open any more, and was closed
-stood : (past : List Answer) (senders : List SenderState) (connections : List Connection) (c : ℕ) (x : Connection) → is_reading x.standing ≡ false → has_closed c past ≡ true
-    → Speaking past senders connections → Speaking past senders (set connections c x)
-stood past senders connections c x n t h = record {
-  seqs = h.seqs;
-  flying = h.flying;
-  left = λ s k i. (let a = h.left s k i in
-      (a.0, λ d. at_set (λ (z : Connection). z.sender ≡ Some s → is_reading z.standing ≡ false) connections c d x nobody (λ j m. n) (a.1 d)));
-  shut = λ d l. at_set (λ (z : Connection). is_reading z.standing ≡ false → has_closed d past ≡ true) connections c d x nobody
-      (λ j e. subst (λ m. has_closed m past ≡ true) (sym j) t)
-      (h.shut d (let m : length (set connections c x) ≡ length connections = set_length connections c x in omega arith));
-}
+  -- a connection isn't open any more, and was closed
+  stood : {later : ℕ → Bool} (c : ℕ) (x : Connection) → is_reading x.standing ≡ false → later c ≡ true → ((d : ℕ) → was_shut d ≡ true → later d ≡ true)
+      → Speaking count was_shut senders connections → Speaking count later senders (set connections c x)
+  stood {later} c x n t more h = record {
+    seqs = h.seqs;
+    flying = h.flying;
+    left = λ s k i. (let a = h.left s k i in
+        (a.0, λ d. at_set (λ (z : Connection). z.sender ≡ Some s → is_reading z.standing ≡ false) connections c d x nobody (λ j m. n) (a.1 d)));
+    shut = λ d l. at_set (λ (z : Connection). is_reading z.standing ≡ false → later d ≡ true) connections c d x nobody
+        (λ j e. subst (λ m. later m ≡ true) (sym j) t)
+        (λ e. more d (h.shut d (let m : length (set connections c x) ≡ length connections = set_length connections c x in omega arith) e));
+  }
 
--- another answer than a new transaction
-noted : (past : List Answer) (senders : List SenderState) (connections : List Connection) (o : Answer) → ((s : ℕ) → txn_count s (o ∷ past) ≡ txn_count s past)
-    → Speaking past senders connections → Speaking (o ∷ past) senders connections
-noted past senders connections o a h = record {
-  seqs = λ s. h.seqs s ∙ sym (a s);
-  flying = h.flying;
-  left = h.left;
-  shut = λ c l e. or_right (closes c o) (has_closed c past) (h.shut c l e);
-}
+  -- a connection is opened
+  opened : Speaking count was_shut senders connections → Speaking count was_shut senders (connections ++ record { sender = None; standing = Standing.Open } ∷ [])
+  opened h =
+      let new : Connection = record { sender = None; standing = Standing.Open } in let n = length_push connections new in record {
+        seqs = h.seqs;
+        flying = h.flying;
+        left = λ s k i. (let a = h.left s k i in
+            (a.0, λ c. at_push_two (λ (z : Connection). z.sender ≡ Some s → is_reading z.standing ≡ false) connections c new nobody (λ e m. none_some s m) (λ ne. a.1 c)));
+        shut = λ c l. at_push_two (λ (z : Connection). is_reading z.standing ≡ false → was_shut c ≡ true) connections c new nobody
+            (λ e d. absurd (true≢false d)) (λ ne. h.shut c (omega arith));
+      }
+
+  -- a sender begins
+  begun : Speaking count was_shut senders connections → Speaking count was_shut (senders ++ new_sender ∷ []) connections
+  begun h = record {
+    seqs = λ s. subst (λ (z : SenderState). z.seq ≡ count s) (sym (same s)) (h.seqs s);
+    flying = λ s f. subst (λ (z : SenderState). z.flight ≡ Some f → f.txn.id ≡ id_at s z.seq) (sym (same s)) (h.flying s f);
+    left = λ s k. subst (λ (z : SenderState). In k z.leftovers → (k.id ≡ id_at s z.seq) × NoneOpen connections s) (sym (same s)) (h.left s k);
+    shut = h.shut;
+  }
+    where
+      same : (s : ℕ) → sender_in (senders ++ new_sender ∷ []) s ≡ sender_in senders s
+      same s = at_push (λ (z : SenderState). z ≡ sender_in senders s) senders s new_sender new_sender (λ e x. x) refl
+
+  -- a connection speaks for a sender that has nothing to cancel
+  joined : (c s : ℕ) → (sender_in senders s).leftovers ≡ [] → Speaking count was_shut senders connections
+      → Speaking count was_shut senders (set connections c (record { sender = Some s; standing = (get_or connections c nobody).standing }))
+  joined c s idle h =
+      let new : Connection = record { sender = Some s; standing = (get_or connections c nobody).standing } in let m = set_length connections c new in record {
+        seqs = h.seqs;
+        flying = h.flying;
+        left = λ r k i. (let a = h.left r k i in (
+          a.0,
+          λ d. at_set (λ (z : Connection). z.sender ≡ Some r → is_reading z.standing ≡ false) connections c d new nobody
+              (λ e q. absurd (subst (λ ks. In k ks) (ap (λ n. (sender_in senders n).leftovers) (sym (some_same s r q)) ∙ idle) i)) (a.1 d),
+        ));
+        shut = λ d l. at_set (λ (z : Connection). is_reading z.standing ≡ false → was_shut d ≡ true) connections c d new nobody
+            (λ e q. subst (λ n. was_shut n ≡ true) (sym e) (h.shut c (omega (arith, e)) q)) (h.shut d (omega arith));
+      }
+
+-- a connection is leaving, as it is answered
+leaving : {count : ℕ → ℕ} {senders : List SenderState} {connections : List Connection} (past : List Answer) (c : ℕ) (o : Answer) → has_closed c (o ∷ past) ≡ true
+    → Speaking count (λ d. has_closed d past) senders connections
+    → Speaking count (λ d. has_closed d (o ∷ past)) senders (set connections c (record { sender = (get_or connections c nobody).sender; standing = Standing.Leaving }))
+leaving past c o t h = stood c _ refl t (λ d. or_right (closes d o) (has_closed d past)) h
 
 closed_now : (c : ℕ) (past : List Answer) → ((c == c) || has_closed c past) ≡ true
 closed_now c past = ap (λ b. b || has_closed c past) (eq-eqb c c refl)
-
--- a connection is leaving, as it is answered
-leaving : (past : List Answer) (w : World) (c : ℕ) (o : Answer) → ((s : ℕ) → txn_count s (o ∷ past) ≡ txn_count s past) → has_closed c (o ∷ past) ≡ true
-    → Speaking past w.senders w.connections → Speaking (o ∷ past) w.senders (set w.connections c (record { sender = (connection_at w c).sender; standing = Standing.Leaving }))
-leaving past w c o a t h = stood (o ∷ past) w.senders w.connections c _ refl t (noted past w.senders w.connections o a h)
 
 -- ---- each move
 
 flown : (past : List Answer) (w : World) (c : ℕ) (first : SentMessage) (others : List SentMessage) → speaker_number w c < length w.senders
     → (connection_at w c).sender ≡ Some (speaker_number w c) → open_in w.connections c ≡ true
-    → Speaking past w.senders w.connections → Speaking (commit_answer w c (first ∷ others) ∷ past) (commit_effect w c (first ∷ others)).senders w.connections
+    → IsSaid past w → IsSaid (commit_answer w c (first ∷ others) ∷ past) (commit_effect w c (first ∷ others))
 flown past w c first others l own o h =
     let t = speaker_number w c in let x = sender_in w.senders t in
     let y : SenderState = record x { seq = x.seq + 1; flight = Some (record { txn = next_txn w c (first ∷ others); given = []; mark = None }) } in
@@ -111,71 +137,11 @@ flown past w c first others l own o h =
       shut = h.shut;
     }
 
-cancelled : (past : List Answer) (w : World) (c : ℕ) (t : Topic) (k : Leftover) → Speaking past w.senders w.connections
-    → Speaking (cancel_answer t (Some k) ∷ past) (cancel_effect w c t (Some k)).senders w.connections
-cancelled past w c t k h =
-    let s = speaker_number w c in
-    noted past _ w.connections (cancel_answer t (Some k)) (λ s. refl)
-    (written past w.senders w.connections s _ refl (h.flying s) (λ l i. h.left s l (In-drop t l (sender_in w.senders s).leftovers i)) h)
-
-opened : (past : List Answer) (w : World) → Speaking past w.senders w.connections → Speaking (move_answer w Opens ∷ past) w.senders (move_effect w Opens).connections
-opened past w h =
-    let new : Connection = record { sender = None; standing = Standing.Open } in
-    let n = length_push w.connections new in
-    noted past w.senders (move_effect w Opens).connections (Opened (length w.connections)) (λ s. refl) (record {
-      seqs = h.seqs;
-      flying = h.flying;
-      left = λ s k i. (let a = h.left s k i in
-          (a.0, λ c. at_push_two (λ (z : Connection). z.sender ≡ Some s → is_reading z.standing ≡ false) w.connections c new nobody (λ e m. none_some s m) (λ ne. a.1 c)));
-      shut = λ c l. at_push_two (λ (z : Connection). is_reading z.standing ≡ false → has_closed c past ≡ true) w.connections c new nobody
-          (λ e d. absurd (true≢false d)) (λ ne. h.shut c (omega arith));
-    })
-
--- a sender begins
-begun : (past : List Answer) (senders : List SenderState) (connections : List Connection) → Speaking past senders connections → Speaking past (senders ++ new_sender ∷ []) connections
-begun past senders connections h = record {
-  seqs = λ s. subst (λ (z : SenderState). z.seq ≡ txn_count s past) (sym (same s)) (h.seqs s);
-  flying = λ s f. subst (λ (z : SenderState). z.flight ≡ Some f → f.txn.id ≡ id_at s z.seq) (sym (same s)) (h.flying s f);
-  left = λ s k. subst (λ (z : SenderState). In k z.leftovers → (k.id ≡ id_at s z.seq) × NoneOpen connections s) (sym (same s)) (h.left s k);
-  shut = h.shut;
-}
-  where
-    same : (s : ℕ) → sender_in (senders ++ new_sender ∷ []) s ≡ sender_in senders s
-    same s = at_push (λ (z : SenderState). z ≡ sender_in senders s) senders s new_sender new_sender (λ e x. x) refl
-
--- a connection speaks for a sender that has nothing to cancel
-joined : (past : List Answer) (senders : List SenderState) (connections : List Connection) (c s : ℕ) → (sender_in senders s).leftovers ≡ [] → Speaking past senders connections
-    → Speaking past senders (set connections c (record { sender = Some s; standing = (get_or connections c nobody).standing }))
-joined past senders connections c s idle h =
-    let new : Connection = record { sender = Some s; standing = (get_or connections c nobody).standing } in record {
-      seqs = h.seqs;
-      flying = h.flying;
-      left = λ r k i. (let a = h.left r k i in (
-        a.0,
-        λ d. at_set (λ (z : Connection). z.sender ≡ Some r → is_reading z.standing ≡ false) connections c d new nobody
-            (λ e m. absurd (subst (λ ks. In k ks) (ap (λ n. (sender_in senders n).leftovers) (sym (some_same s r m)) ∙ idle) i)) (a.1 d),
-      ));
-      shut = λ d l. at_set (λ (z : Connection). is_reading z.standing ≡ false → has_closed d past ≡ true) connections c d new nobody
-          (λ e m. subst (λ n. has_closed n past ≡ true) (sym e) (h.shut c (subst (λ n. n < length connections) e (there d l)) m))
-          (h.shut d (there d l));
-    }
-  where
-    there : (d : ℕ) → d < length (set connections c (record { sender = Some s; standing = (get_or connections c nobody).standing })) → d < length connections
-    there d l = let m : length (set connections c (record { sender = Some s; standing = (get_or connections c nobody).standing })) ≡ length connections = set_length connections c _ in omega arith
-
-connected : (past : List Answer) (w : World) (c : ℕ) (claimed : Option ℕ) → ((s : ℕ) → claimed ≡ Some s → is_in_use w s ≡ false) → Speaks w → Speaking past w.senders w.connections
-    → Speaking past (connect_effect w c claimed).senders (connect_effect w c claimed).connections
-connected past w c None free p h =
-    joined past (w.senders ++ new_sender ∷ []) w.connections c (length w.senders)
-    (at_end (λ (z : SenderState). z.leftovers ≡ []) w.senders new_sender new_sender refl) (begun past w.senders w.connections h)
-connected past w c (Some s) free p h = joined past w.senders w.connections c s (p.resting s (Rattle.delivery.proofs.Theorem.SendersAreOwn.unspoken w s (free s refl))).1 h
-
 withdrawn : (past : List Answer) (w : World) (c : ℕ) → c < length w.connections → Speaks w → speaks_for (speaker_number w c) (connection_at w c) ≡ true → (speaker w c).flight ≡ Some (undecided_at w c)
-    → Speaking past w.senders w.connections → Speaking (move_answer w (Withdraws c) ∷ past) (move_effect w (Withdraws c)).senders (move_effect w (Withdraws c)).connections
+    → IsSaid past w → IsSaid (move_answer w (Withdraws c) ∷ past) (move_effect w (Withdraws c))
 withdrawn past w c l p own e h =
-    let f = undecided_at w c in let o = move_answer w (Withdraws c) in let s = speaker_number w c in
-    let g = leaving past w c o (λ s. refl) (closed_now c past) h in
-    written (o ∷ past) w.senders (move_effect w (Withdraws c)).connections s _ refl (λ y d. none_some y d)
+    let f = undecided_at w c in let o = move_answer w (Withdraws c) in let s = speaker_number w c in let g = leaving past c o (closed_now c past) h in
+    written s _ refl (λ y d. none_some y d)
     (λ k i. elim (In-append_cases k (sender_in w.senders s).leftovers (map (leftover f.txn.id) f.given) i) [
       | inl j ↦ g.left s k j
       | inr j ↦ (let m = In-map_cases (leftover f.txn.id) k f.given j in
@@ -191,60 +157,40 @@ withdrawn past w c l p own e h =
     shut_there : NoneOpen (move_effect w (Withdraws c)).connections (speaker_number w c)
     shut_there d = at_set_within (λ (z : Connection). z.sender ≡ Some (speaker_number w c) → is_reading z.standing ≡ false) w.connections c d _ nobody l (λ k m. refl) (λ ne m. others d ne m)
 
-happens : (past : List Answer) (w : World) (e : Move) → Speaks w → Speaking past w.senders w.connections → move_refusal w e ≡ None
-    → InEachCase (λ v o. Speaking (o ∷ past) v.senders v.connections) w e
-happens past w Opens p h e = let new = opened past w h in (new, λ k. new)
-happens past w (Connects c claimed) p h e =
-    let g = connected past w c claimed (claim_free w c claimed e) p h in (noted past _ _ _ (λ s. refl) g, λ k. noted past _ _ _ (λ s. refl) g)
-happens past w (Commits c sends) p h e =
-    let k = checked w (Commits c sends) e in let own = has_speaker w c (not-false _ k.1.1.1.0) in
-    (noted past _ _ _ (λ s. refl) h, λ m. flown past w c m.0 m.1 (p.there c (speaker_number w c) own) own (not-false _ (or_parts _ _ k.1.1.0).0) h)
-happens past w (Disconnects c) p h e = (leaving past w c _ (λ s. refl) (closed_now c past) h, λ k. leaving past w c _ (λ s. refl) (closed_now c past) h)
-happens past w (Errs c) p h e = (leaving past w c _ (λ s. refl) (closed_now c past) h, λ k. leaving past w c _ (λ s. refl) (closed_now c past) h)
-happens past w (Lost c) p h e = (leaving past w c _ (λ s. refl) (closed_now c past) h, λ k. leaving past w c _ (λ s. refl) (closed_now c past) h)
-happens past w (Leaves c) p h e =
-    let k = checked w (Leaves c) e in (
-      noted past _ _ _ (λ s. refl) (stood past w.senders w.connections c _ refl (h.shut c (connection_there w c k.0) k.1.1.0) h),
-      λ s. by_entry (λ v. Speaking (leave_answer w c (Some s) ∷ past) v.senders v.connections) w s (noted past _ _ _ (λ n. refl) h) (λ m. noted past _ _ _ (λ n. refl) h),
-    )
-happens past w (Proposes c t memory) p h e =
-    let k = checked w (Proposes c t memory) e in let fl = in_flight w c k.1.1.0 in let is = fl.is ∙ ap Some (sym fl.at) in (
-      noted past _ _ _ (λ s. refl) (same_id_flies past w.senders w.connections (speaker_number w c) (undecided_at w c) _ is refl h),
-      λ fault. noted past _ _ _ (λ s. refl) (same_id_flies past w.senders w.connections (speaker_number w c) (undecided_at w c) _ is refl h),
-    )
-happens past w (Decides c) p h e =
-    let s = speaker_number w c in
-    let g : Speaking (move_answer w (Decides c) ∷ past) (move_effect w (Decides c)).senders w.connections =
-    noted past _ w.connections (move_answer w (Decides c)) (λ s. refl) (written past w.senders w.connections s _ refl (λ f d. none_some f d) (h.left s) h) in
-    (g, λ k. g)
-happens past w (Withdraws c) p h e =
-    let k = checked w (Withdraws c) e in let fl = in_flight w c k.1.1.0 in
-    let g = withdrawn past w c (connection_there w c k.0) p (flying_speaks w c k.1.0 k.1.1.0) (fl.is ∙ ap Some (sym fl.at)) h in (g, λ k. g)
-happens past w (Cancels c t) p h e = (noted past _ _ _ (λ s. refl) h, λ k. cancelled past w c t k h)
-happens past w (Takes s) p h e =
-    let c = (subscription_at w s).connection in (leaving past w c _ (λ n. refl) (closed_now c past) h, λ k. noted past _ _ _ (λ n. refl) h)
-happens past w _ p h e = (noted past _ _ _ (λ s. refl) h, λ k. noted past _ _ _ (λ s. refl) h)
+happens : (past : List Answer) (w : World) (e : Move) → Speaks w → IsSaid past w → move_refusal w e ≡ None → InEachCase (λ v o. IsSaid (o ∷ past) v) w e
+happens past w Opens p h n = always (opened h)
+happens past w (Connects c claimed) p h n = always ((elim claimed as (λ (claimed : Option ℕ). ((s : ℕ) → claimed ≡ Some s → is_in_use w s ≡ false) → IsSaid past (connect_effect w c claimed)) [
+  | None ↦ λ free. joined c (length w.senders) (at_end (λ (z : SenderState). z.leftovers ≡ []) w.senders new_sender new_sender refl) (begun h)
+  | Some s ↦ λ free. joined c s (p.resting s (Rattle.delivery.proofs.Theorem.SendersAreOwn.unspoken w s (free s refl))).1 h
+]) (claim_free w c claimed n))
+happens past w (Commits c sends) p h n =
+    let k = checked w (Commits c sends) n in let own = has_speaker w c (not-false _ k.1.1.1.0) in
+    (h, λ m. flown past w c m.0 m.1 (p.there c (speaker_number w c) own) own (not-false _ (or_parts _ _ k.1.1.0).0) h)
+happens past w (Disconnects c) p h n = always (leaving past c (Leaving c) (closed_now c past) h)
+happens past w (Errs c) p h n = always (leaving past c (Error c) (closed_now c past) h)
+happens past w (Lost c) p h n = always (leaving past c (Leaving c) (closed_now c past) h)
+happens past w (Leaves c) p h n = let k = checked w (Leaves c) n in (stood c _ refl (h.shut c (connection_there w c k.0) k.1.1.0) (λ d e. e) h, λ s. (h, λ m. h))
+happens past w (Proposes c t memory) p h n =
+    let k = checked w (Proposes c t memory) n in let fl = in_flight w c k.1.1.0 in let is = fl.is ∙ ap Some (sym fl.at) in
+    (same_id_flies (speaker_number w c) (undecided_at w c) _ is refl h, λ fault. same_id_flies (speaker_number w c) (undecided_at w c) _ is refl h)
+happens past w (Decides c) p h n = let s = speaker_number w c in always (written s _ refl (λ f d. none_some f d) (h.left s) h)
+happens past w (Withdraws c) p h n =
+    let k = checked w (Withdraws c) n in let fl = in_flight w c k.1.1.0 in
+    always (withdrawn past w c (connection_there w c k.0) p (flying_speaks w c k.1.0 k.1.1.0) (fl.is ∙ ap Some (sym fl.at)) h)
+happens past w (Cancels c t) p h n = let s = speaker_number w c in (h, λ k. written s _ refl (h.flying s) (λ l i. h.left s l (In-drop t l (sender_in w.senders s).leftovers i)) h)
+happens past w (Takes s) p h n = let c = (subscription_at w s).connection in (leaving past c (Error c) (closed_now c past) h, λ k. h)
+happens past w _ p h n = always h
 
 -- a world that answers led to
 pub record Spoken (past : List Answer) (w : World) : Type 0 where
   pub speaks : Speaks w
-  pub speaking : Speaking past w.senders w.connections
+  pub speaking : IsSaid past w
 
--- each event keeps it
-pub step_spoken : (past : List Answer) (w : World) (e : Move) → Spoken past w → Spoken (answer_to w e ∷ past) (world_after w e)
-step_spoken past w e h =
-    by_refusal (λ v o. Spoken (o ∷ past) v) w e
-    (λ why. record { speaks = h.speaks; speaking = noted past w.senders w.connections (Refused why) (λ s. refl) h.speaking })
-    (λ n. record { speaks = effect_speaks w e n h.speaks; speaking = by_found (λ v o. Speaking (o ∷ past) v.senders v.connections) w e (happens past w e h.speaks h.speaking n) })
-
--- each run does
-pub run_spoken : (es : List Move) (past : List Answer) (w : World) → Spoken past w → Spoken (answers_from es w past) (run es w)
-run_spoken [] past w h = h
-run_spoken (e ∷ es) past w h = run_spoken es (answer_to w e ∷ past) (world_after w e) (step_spoken past w e h)
-
--- it holds at the start
-pub start_spoken : (capacity log_limit : ℕ) (clocks : List ℕ) → Spoken [] (start capacity log_limit clocks)
-start_spoken capacity log_limit clocks = record {
-  speaks = start_speaks capacity log_limit clocks;
-  speaking = record { seqs = λ s. refl; flying = λ s f e. none_some f e; left = λ s k i. absurd i; shut = λ c l. absurd (omega arith) };
+-- what a run keeps of connections and senders
+pub spoken : (r : Run) → Spoken (answers_of r) (final_world r)
+spoken r = record {
+  speaks = speak r;
+  speaking = by_runs_moves IsSaid (λ capacity log_limit clocks.
+      record { seqs = λ s. refl; flying = λ s f e. none_some f e; left = λ s k i. absurd i; shut = λ c l. absurd (omega arith) })
+      (λ past w why h. h) (λ q e h n. happens (answers_of q) (final_world q) e (speak q) h n) r;
 }

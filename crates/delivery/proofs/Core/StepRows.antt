@@ -1,9 +1,7 @@
 -- Worked rows of single rules: whom octets are fed to, faults of a stream, learns and releases, the order of a frame's checks,
 -- and a lag of another connection than that of the same number.
-use Rattle.delivery.proofs.Words.Std.{refl, ◌≡◌, false, true, List, [], ◌∷◌, ◌++◌, map, codes, Some, None}
-use Rattle.delivery.proofs.Words.Frames.{Unread, unread_of}
-use Rattle.delivery.proofs.Words.Machine.{shared_marks, Answer, new_sender}
-use Rattle.delivery.proofs.Words.Core.{Event, Refusal, ConnectionFault, CoreStep, Reading, reader_limits, fed_octets, frames_of, account_of, released_frontier, outcomes, Core, new_core, unread_at, report_of, Opened, Failed, Withdrawn, Fed, Done, Subscribed, Unsubscribed, Flying, Proposed, Decided, Learnt, Released, Turned, Handed, Faulted, Leaving, Gone, Refused}
+use Rattle.delivery.proofs.Words.All.{refl, ◌≡◌, false, true, List, [], ◌∷◌, ◌++◌, map, codes, Some, None, Unread, unread_of, shared_marks, Answer, new_sender, Event, Refusal, ConnectionFault, CoreStep, Reading, reader_limits, fed_octets, frames_of, account_of, released_frontier, outcomes, Core, new_core, unread_at, report_of, Fed, Flying, Proposed, Faulted}
+use Rattle.delivery.specs.declared.outcome.Outcome.TheVariants.{Opened, Failed, Withdrawn, Done, Subscribed, Unsubscribed, Decided, Learnt, Released, Turned, Handed, Leaving, Gone, Refused}
 use Rattle.std.specs.Fmt.{digits}
 use Rattle.mcast_group.specs.declared.cause.Cause.TheVariants.{Asked, Lag}
 use Rattle.mcast_group.specs.declared.fault.ProposeFault.TheVariants as proposals
@@ -28,14 +26,10 @@ feeds_acts = act Event.Open ∷ act Event.Open ∷ act (Event.Piece 0 (codes "a"
 abbrev pub feeds : Core
 feeds = played one feeds_acts
 
-feeds_octets : fed_octets 0 feeds.steps ∷ fed_octets 1 feeds.steps ∷ [] ≡ codes "ac" ∷ codes "b" ∷ []
-feeds_octets = refl
-
-feeds_outcomes : shown_outcomes feeds ≡ Opened 0 ∷ Opened 1 ∷ Fed ∷ Fed ∷ Fed ∷ Leaving ∷ Refused Refusal.Busy ∷ []
-feeds_outcomes = refl
-
-feeds_agrees : agreements one feeds_acts ≡ all_agree
-feeds_agrees = refl
+feeds_rows : (fed_octets 0 feeds.steps ∷ fed_octets 1 feeds.steps ∷ [] ≡ codes "ac" ∷ codes "b" ∷ [])
+    × (shown_outcomes feeds ≡ Opened 0 ∷ Opened 1 ∷ Fed ∷ Fed ∷ Fed ∷ Leaving ∷ Refused Refusal.Busy ∷ [])
+    × (agreements one feeds_acts ≡ all_agree)
+feeds_rows = (refl, refl, refl)
 
 -- what their readers stand for then, also after a frame of another connection was read
 feeds_unread : (unread_at 0 feeds.steps).text ∷ (unread_at 1 feeds.steps).text ∷ [] ≡ codes "ac" ∷ codes "b" ∷ []
@@ -64,15 +58,11 @@ reading_frames = refl
 abbrev pub broken_acts : List Act
 broken_acts = opens 0 (fails 0 checks.BadCommand ∷ waits 0 ∷ act (Event.Leave 0) ∷ [])
 
-broken_outcomes : shown_outcomes (played one broken_acts)
-    ≡ Opened 0 ∷ Done ∷ Faulted (ConnectionFault.Stream checks.BadCommand) false ∷ Refused Refusal.Busy ∷ Gone false ∷ []
-broken_outcomes = refl
-
-broken_outs : (report_of (played one broken_acts)).outs ≡ (greeting ++ codes "ERROR\nmessage:1 BadCommand\ncontent-length:0\n\n\0") ∷ []
-broken_outs = refl
-
-broken_agrees : agreements one broken_acts ≡ all_agree
-broken_agrees = refl
+broken_rows : (shown_outcomes (played one broken_acts)
+    ≡ Opened 0 ∷ Done ∷ Faulted (ConnectionFault.Stream checks.BadCommand) false ∷ Refused Refusal.Busy ∷ Gone false ∷ [])
+    × ((report_of (played one broken_acts)).outs ≡ (greeting ++ codes "ERROR\nmessage:1 BadCommand\ncontent-length:0\n\n\0") ∷ [])
+    × (agreements one broken_acts ≡ all_agree)
+broken_rows = (refl, refl, refl)
 
 -- the same where the reader finds no memory
 dry_agrees : agreements one (opens 0 (act (Event.Next 0) ∷ [])) ≡ all_agree
@@ -103,19 +93,15 @@ waiting_acts = opens 0 (opens 1 (reads 0 (subscribe (codes "s") A) ∷ to_both 0
 abbrev pub waiting : Core
 waiting = played both waiting_acts
 
-waiting_outcomes : shown_outcomes waiting
+waiting_rows : (shown_outcomes waiting
     ≡ Opened 0 ∷ Done ∷ Opened 1 ∷ Done ∷ Subscribed 0 (stamp 0 0) ∷ Done ∷ Done ∷ Done ∷ Flying (id 0 1) ∷ Done ∷ Done ∷ Done ∷ Flying (id 1 1)
     ∷ Proposed 1 ∷ Proposed 1 ∷ Proposed 2 ∷ Proposed 2 ∷ Decided (stamp 2 0) false ∷ Turned 0
     ∷ Learnt ∷ Refused Refusal.NothingDue ∷ Refused Refusal.NotDecided
     ∷ Decided (stamp 2 1) false ∷ Learnt ∷ Released (id 1 1) ∷ Released (id 0 1)
-    ∷ Refused Refusal.NothingDue ∷ Turned 2 ∷ Handed 1 ∷ []
-waiting_outcomes = refl
-
-waiting_logs : map (map (λ row. row.stamp)) (report_of waiting).logs ≡ (stamp 2 0 ∷ stamp 2 1 ∷ []) ∷ (stamp 2 0 ∷ stamp 2 1 ∷ []) ∷ []
-waiting_logs = refl
-
-waiting_agrees : agreements both waiting_acts ≡ all_agree
-waiting_agrees = refl
+    ∷ Refused Refusal.NothingDue ∷ Turned 2 ∷ Handed 1 ∷ [])
+    × (map (map (λ row. row.stamp)) (report_of waiting).logs ≡ (stamp 2 0 ∷ stamp 2 1 ∷ []) ∷ (stamp 2 0 ∷ stamp 2 1 ∷ []) ∷ [])
+    × (agreements both waiting_acts ≡ all_agree)
+waiting_rows = (refl, refl, refl)
 
 -- ---- whole parts: two SENDs to one topic are one item and two MESSAGEs, each with its index in the transaction
 
@@ -169,11 +155,9 @@ late_agrees : agreements narrow late_acts ≡ all_agree
 late_agrees = refl
 
 -- its span ends by lag (`WholeRow` has such an end whole), and that of the other was asked to end at the frontier then
-late_causes : map (λ q. q.cause) (report_of late).subscriptions ≡ Some Asked ∷ Some Lag ∷ []
-late_causes = refl
-
-late_frontier : (stamp 1 0) ≡ released_frontier (topic 0) (account_of (played narrow early_acts).names (played narrow early_acts).steps)
-late_frontier = refl
+late_rows : (map (λ q. q.cause) (report_of late).subscriptions ≡ Some Asked ∷ Some Lag ∷ [])
+    × ((stamp 1 0) ≡ released_frontier (topic 0) (account_of (played narrow early_acts).names (played narrow early_acts).steps))
+late_rows = (refl, refl)
 
 -- ---- an UNSUBSCRIBE ends the subscription that its id names, whatever number a wrong outcome says
 
@@ -233,17 +217,13 @@ abbrev pub marks_acts : List Act
 marks_acts = opens 0 (opens 1 (reads 0 (send A (codes "m")) ∷ reads 1 (send B (codes "n")) ∷ propose 0 0 ∷ without 1 (propose 1 1)
     ∷ act (Event.Withdraw 0) ∷ act (Event.Withdraw 1) ∷ act (Event.Leave 0) ∷ act (Event.Leave 1) ∷ []))
 
-marks_outcomes : shown_outcomes (played marks_start marks_acts)
+marks_rows : (shown_outcomes (played marks_start marks_acts)
     ≡ Opened 0 ∷ Done ∷ Opened 1 ∷ Done ∷ Flying (id 0 1) ∷ Flying (id 1 1) ∷ Failed proposals.ClockFull ∷ Failed proposals.NoMemory
-    ∷ Withdrawn false ∷ Withdrawn false ∷ Gone false ∷ Gone false ∷ []
-marks_outcomes = refl
-
-marks_outs : (report_of (played marks_start marks_acts)).outs
-    ≡ (greeting ++ codes "ERROR\nmessage:40 ClockFull\ncontent-length:0\n\n\0") ∷ (greeting ++ codes "ERROR\nmessage:42 NoMemory\ncontent-length:0\n\n\0") ∷ []
-marks_outs = refl
-
-marks_agrees : agreements marks_start marks_acts ≡ all_agree
-marks_agrees = refl
+    ∷ Withdrawn false ∷ Withdrawn false ∷ Gone false ∷ Gone false ∷ [])
+    × ((report_of (played marks_start marks_acts)).outs
+    ≡ (greeting ++ codes "ERROR\nmessage:40 ClockFull\ncontent-length:0\n\n\0") ∷ (greeting ++ codes "ERROR\nmessage:42 NoMemory\ncontent-length:0\n\n\0") ∷ [])
+    × (agreements marks_start marks_acts ≡ all_agree)
+marks_rows = (refl, refl, refl)
 
 -- ---- a reader stands for what it left, also where a frame is due or the stream is at fault
 
@@ -259,11 +239,9 @@ at_fault = record { limits = reader_limits; text = codes "HI"; answered = Some c
 abbrev pub after_reading : Reading → CoreStep
 after_reading reading = record { event = Event.Next 0; reading = reading; outcome = Refused Refusal.NoFrame }
 
-half_is_left : (unread_at 0 (after_reading (Reading.Waits half) ∷ [])).text ≡ codes "SE"
-half_is_left = refl
-
-fault_is_left : (unread_at 0 (after_reading (Reading.Fails checks.BadCommand at_fault) ∷ [])).answered ≡ Some checks.BadCommand
-fault_is_left = refl
+left_rows : ((unread_at 0 (after_reading (Reading.Waits half) ∷ [])).text ≡ codes "SE")
+    × ((unread_at 0 (after_reading (Reading.Fails checks.BadCommand at_fault) ∷ [])).answered ≡ Some checks.BadCommand)
+left_rows = (refl, refl)
 
 -- ---- a sender that has no sequence number left: its SEND is answered as without memory, whatever memory there is
 

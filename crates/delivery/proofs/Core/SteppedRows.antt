@@ -1,11 +1,8 @@
 -- Rows of what one event makes of a core (`HasStepped`), computed in cores of two topics that are written out. Beside each
 -- field stands a step that meets its premise, as the core makes it, and what a wrong machine makes instead: that field alone
 -- refuses it.
-use Rattle.delivery.proofs.Words.Std.{refl, sym, ap, ◌∙◌, subst, inl, inr, arith, ◌≡◌, ℕ, zero, suc, ◌+◌, ◌≤◌, false, List, [], ◌∷◌, ◌++◌, codes, map, length, Option, Some, None, false≢true, ◌⊎◌}
-use Rattle.delivery.proofs.Words.Topics.{Topic, Stamp, LogRow, Item, last_stamp, zero_stamp, TopicState, Pending}
-use Rattle.delivery.proofs.Words.Lemmas.{some_same, none_some}
-use Rattle.delivery.proofs.Words.Machine.{connection_at, World, SenderState, Subscription, Standing, topic_at, log_at, accepted_at, end_at}
-use Rattle.delivery.proofs.Words.Core.{Event, Outcome, Refusal, claims_of, sender_claimed, CoreStep, Reading, Core, core_after, names_at, new_core, outcomes, GivesTicket, GivesStamp, DeliversNext, IsNewTopic, LagsFull, Opened, Done, Unsubscribed, Proposed, Failed, Decided, Released, Turned, Handed, Refused, NoMemory}
+use Rattle.delivery.proofs.Words.All.{refl, sym, ap, ◌∙◌, subst, inl, inr, arith, ◌≡◌, ℕ, zero, suc, ◌+◌, ◌≤◌, false, List, [], ◌∷◌, ◌++◌, codes, map, length, Option, Some, None, false≢true, ◌⊎◌, Topic, Stamp, LogRow, Item, last_stamp, zero_stamp, TopicState, Pending, some_same, none_some, connection_at, World, SenderState, Subscription, Standing, topic_at, log_at, accepted_at, end_at, Event, Outcome, Refusal, claims_of, sender_claimed, CoreStep, Reading, Core, core_after, names_at, new_core, outcomes, GivesTicket, GivesStamp, DeliversNext, IsNewTopic, LagsFull, Proposed}
+use Rattle.delivery.specs.declared.outcome.Outcome.TheVariants.{Opened, Done, Unsubscribed, Failed, Decided, Released, Turned, Handed, Refused, NoMemory}
 use Rattle.mcast_group.specs.declared.fault.ProposeFault.TheVariants as proposals
 use Rattle.delivery.specs.Core.Stepped.{HasStepped}
 use Rattle.delivery.proofs.Core.Acts.{topic_list, topic, stamp, id, log_row, made, opens, part, played, reads, subscribe, A, B}
@@ -74,12 +71,10 @@ abbrev pub parted : Core
 parted = core (bare 0 0) (bare 1 0) [] Standing.Gone []
 
 -- of 87 and 81, which both hold of a gone connection, 87 comes first
-gone_may : outcomes parted (Event.Lost 0) Reading.Nothing ≡ Refused Refusal.Gone ∷ []
-gone_may = refl
-
-gone_steps : (after parted (Event.Lost 0) (Refused Refusal.Gone)).steps
-    ≡ record { event = Event.Lost 0; reading = Reading.Nothing; outcome = Refused Refusal.Gone } ∷ []
-gone_steps = refl
+gone_rows : (outcomes parted (Event.Lost 0) Reading.Nothing ≡ Refused Refusal.Gone ∷ [])
+    × ((after parted (Event.Lost 0) (Refused Refusal.Gone)).steps
+    ≡ record { event = Event.Lost 0; reading = Reading.Nothing; outcome = Refused Refusal.Gone } ∷ [])
+gone_rows = (refl, refl)
 
 -- the two checks swapped
 swapped_checks : Steps parted (after parted (Event.Lost 0) (Refused Refusal.Busy)) (Event.Lost 0) (Refused Refusal.Busy) → Prim.⊥
@@ -99,11 +94,9 @@ lost_step h = let e : 0 ≡ 1 = ap (λ (k : Core). length k.steps) h.is_after in
 abbrev pub sending : List Stamp → Core
 sending given = core (bare 0 4) (bare 1 9) (flying (0 ∷ 1 ∷ []) given ∷ []) Standing.Open []
 
-nothing_due : outcomes (sending []) (Event.Release (topic 0)) Reading.Nothing ≡ Refused Refusal.NothingDue ∷ []
-nothing_due = refl
-
-nothing_done : (after (sending []) (Event.Release (topic 0)) (Refused Refusal.NothingDue)).world ≡ (sending []).world
-nothing_done = refl
+nothing_rows : (outcomes (sending []) (Event.Release (topic 0)) Reading.Nothing ≡ Refused Refusal.NothingDue ∷ [])
+    × ((after (sending []) (Event.Release (topic 0)) (Refused Refusal.NothingDue)).world ≡ (sending []).world)
+nothing_rows = (refl, refl)
 
 -- a release that is refused, and raises its topic's clock
 refused_and_done : Steps (sending []) (core (bare 0 5) (bare 1 9) (flying (0 ∷ 1 ∷ []) [] ∷ []) Standing.Open []) (Event.Release (topic 0)) (Refused Refusal.NothingDue)
@@ -111,11 +104,9 @@ refused_and_done : Steps (sending []) (core (bare 0 5) (bare 1 9) (flying (0 ∷
 refused_and_done h =
     let e : 5 ≡ 4 = ap (λ (w : World). (topic_at w (topic 0)).clock) (h.refused Refusal.NothingDue refl) in absurd (omega (arith, e))
 
-open_may : outcomes (sending []) Event.Open Reading.Nothing ≡ Opened 1 ∷ NoMemory ∷ []
-open_may = refl
-
-open_without : (after (sending []) Event.Open NoMemory).world ≡ (sending []).world
-open_without = refl
+open_rows : (outcomes (sending []) Event.Open Reading.Nothing ≡ Opened 1 ∷ NoMemory ∷ [])
+    × ((after (sending []) Event.Open NoMemory).world ≡ (sending []).world)
+open_rows = (refl, refl)
 
 -- an Open without memory that opens
 opens_without : Steps (sending []) (after (sending []) Event.Open (Opened 1)) Event.Open NoMemory → Prim.⊥
@@ -303,14 +294,10 @@ third_released items end = queued (queueing [] (row 1 ∷ row 2 ∷ row 3 ∷ []
 abbrev pub release_a : Event
 release_a = Event.Release (topic 0)
 
-release_may : outcomes (third_due (item 2 1 ∷ [])) release_a Reading.Nothing ≡ Released (id 0 3) ∷ []
-release_may = refl
-
-release_is : (after (third_due (item 2 1 ∷ [])) release_a (Released (id 0 3))).world ≡ (third_released (item 2 1 ∷ item 3 1 ∷ []) None).world
-release_is = refl
-
-other_stays : topic_at (after (third_due (item 2 1 ∷ [])) release_a (Released (id 0 3))).world (topic 1) ≡ topic_at (third_due (item 2 1 ∷ [])).world (topic 1)
-other_stays = refl
+release_rows : (outcomes (third_due (item 2 1 ∷ [])) release_a Reading.Nothing ≡ Released (id 0 3) ∷ [])
+    × ((after (third_due (item 2 1 ∷ [])) release_a (Released (id 0 3))).world ≡ (third_released (item 2 1 ∷ item 3 1 ∷ []) None).world)
+    × (topic_at (after (third_due (item 2 1 ∷ [])) release_a (Released (id 0 3))).world (topic 1) ≡ topic_at (third_due (item 2 1 ∷ [])).world (topic 1))
+release_rows = (refl, refl, refl)
 
 -- a release that releases at two topics
 two_topics : Steps (third_due []) (core (queueing [] (row 1 ∷ row 2 ∷ row 3 ∷ []) [] None) (record (bare 1 9) { held = row 3 ∷ [] }) [] Standing.Open []) release_a (Released (id 0 3))
@@ -358,14 +345,10 @@ nameless h = let e : 3 ≡ 2 = h.as_many in absurd (omega (arith, e))
 -- ---- whom a connection speaks for, and how many senders there are, is as its claim says (`speaks`, `begun`)
 
 -- the connection of that core claimed a sender, the first
-used_speaks : (connection_at used.world 0).sender ≡ Some 0
-used_speaks = refl
-
-used_claimed : sender_claimed 0 (claims_of used.steps) ≡ Some 0
-used_claimed = refl
-
-used_begun : length used.world.senders ≡ 1
-used_begun = refl
+used_rows : ((connection_at used.world 0).sender ≡ Some 0)
+    × (sender_claimed 0 (claims_of used.steps) ≡ Some 0)
+    × (length used.world.senders ≡ 1)
+used_rows = (refl, refl, refl)
 
 -- a connection that speaks for a sender which it never claimed
 unclaimed : Steps two two (Event.Lost 0) (Refused Refusal.Gone) → Prim.⊥
@@ -382,11 +365,9 @@ abbrev pub leaving : Core
 leaving = core (queueing [] (row 1 ∷ []) (item 1 1 ∷ []) None) (bare 1 9) [] Standing.Leaving
     (record { connection = 0; topic = topic 0; from = zero_stamp; taken = 0; closed = None } ∷ [])
 
-leave_may : outcomes leaving (Event.Leave 0) Reading.Nothing ≡ Unsubscribed 0 (stamp 1 0) ∷ []
-leave_may = refl
-
-leave_ends : end_at (after leaving (Event.Leave 0) (Unsubscribed 0 (stamp 1 0))).world 0 ≡ Some (stamp 1 0)
-leave_ends = refl
+leave_rows : (outcomes leaving (Event.Leave 0) Reading.Nothing ≡ Unsubscribed 0 (stamp 1 0) ∷ [])
+    × (end_at (after leaving (Event.Leave 0) (Unsubscribed 0 (stamp 1 0))).world 0 ≡ Some (stamp 1 0))
+leave_rows = (refl, refl)
 
 -- the same answer, and the span stays open (`closes`)
 closes_nothing : Steps leaving (record leaving { steps = step_by (Event.Leave 0) (Unsubscribed 0 (stamp 1 0)) ∷ [] }) (Event.Leave 0) (Unsubscribed 0 (stamp 1 0)) → Prim.⊥

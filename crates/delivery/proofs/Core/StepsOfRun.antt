@@ -1,11 +1,5 @@
 -- The steps of a run are a function of its events and outcomes.
-use Rattle.delivery.proofs.Words.Std.{◌≡◌, ℕ, Bool, true, false, cond, inl, inr, List, [], ◌∷◌, map, Option, Some, None, Result, Ok, Err, refl, sym, ap, ◌∙◌, false≢true, reverse, option_map}
-use Rattle.delivery.proofs.Words.Topics.{first_refusal, In}
-use Rattle.delivery.proofs.Words.Frames.{RawFrame, Check, fault_of, Unread, ReadsNext, Halt}
-use Rattle.delivery.proofs.Words.Lemmas.{answers_none, one_answer, some_same, none_some}
-use Rattle.delivery.proofs.Words.Machine.{Objection, refusal_of, needs_idle}
-use Rattle.delivery.proofs.Words.Core.{TopicList, Event, Outcome, Refusal, ConnectionFault, Kept, CoreStep, Reading, kept_of, reader_limits, Core, core_of, IsReadBy, unread_at, kept_run, unless, fault_outcomes, reading_outcomes, outcomes, IsReadAt, IsCoreRun, is_any}
-use Rattle.delivery.proofs.Words.Views.{reading_at, steps_of}
+use Rattle.delivery.proofs.Words.All.{◌≡◌, ℕ, Bool, true, false, cond, inl, inr, List, [], ◌∷◌, map, Option, Some, None, Result, Ok, Err, refl, sym, ap, ◌∙◌, false≢true, reverse, option_map, first_refusal, In, RawFrame, Check, fault_of, Unread, ReadsNext, Halt, answers_none, one_answer, some_same, none_some, Objection, refusal_of, needs_idle, TopicList, Event, Outcome, Refusal, ConnectionFault, Kept, CoreStep, Reading, kept_of, reader_limits, Core, core_of, IsReadBy, unread_at, kept_run, unless, fault_outcomes, reading_outcomes, outcomes, IsReadAt, IsCoreRun, is_any, reading_at, steps_of}
 use Rattle.std.proofs.lemmas.List.{reverse-reverse}
 use Rattle.stomp_frame.specs.Inner.Parser.{after_eols, frame_at}
 use Rattle.stomp_frame.proofs.Pieces.{fault_of-only}
@@ -13,7 +7,7 @@ use Rattle.stomp_frame.proofs.Whole.{answers_frame, answers_fault}
 use Rattle.delivery.proofs.Core.ShownReadings.{says_frame}
 use Rattle.delivery.specs.Inner.Readings.{reading_of, reads_nothing}
 use Rattle.delivery.specs.Core.Delivery.{StepsAreKept}
-use Rattle.delivery.proofs.Core.AccountOfRun.{in_option, core_is, was_wanted}
+use Rattle.delivery.proofs.Words.Changes.{in_option, core_is, was_wanted}
 use Rattle.delivery.proofs.Core.FramesRead.{limits_are}
 use Rattle.delivery.proofs.Core.ReadingsShown.{ReadsUnless, idle}
 
@@ -34,37 +28,25 @@ reported _ r e = ap (λ (q : Refusal). reads_nothing (Outcome.Refused q)) (sym (
 Finds_is : (u : Unread) (f : RawFrame) (left : Unread) (r : Result (RawFrame × List ℕ) Halt) → frame_at u.limits u.text ≡ r → ReadsNext u (Ok (Some f)) left
     → Reading.Finds f left ≡ reading_of u r
 Finds_is u f left (Ok p) e h =
-    let same = one_answer u (Ok (Some f)) left (Ok (Some p.0)) (record u { text = p.1 }) h (answers_frame u p.0 p.1 e) in
-    let frame : f ≡ p.0 = cc in
+    let same = one_answer u (Ok (Some f)) left (Ok (Some p.0)) (record u { text = p.1 }) h (answers_frame u p.0 p.1 e) in let frame : f ≡ p.0 = cc in
     λ i. Reading.Finds (frame i) (same.1 i)
-Finds_is u f left (Err Halt.Open) e h =
-    let same = one_answer u (Ok (Some f)) left (Ok None) (record u { text = after_eols u.text }) h (answers_none u e) in cc
-Finds_is u f left (Err (Halt.Fault k)) e h =
-    let same = one_answer u (Ok (Some f)) left (Err (fault_of k)) (record u { answered = Some k }) h (answers_fault u k e) in cc
+Finds_is u f left (Err Halt.Open) e h = let same = one_answer u (Ok (Some f)) left (Ok None) (record u { text = after_eols u.text }) h (answers_none u e) in cc
+Finds_is u f left (Err (Halt.Fault k)) e h = let same = one_answer u (Ok (Some f)) left (Err (fault_of k)) (record u { answered = Some k }) h (answers_fault u k e) in cc
 
 -- the same of a frame that is due
-Waits_is : (u left : Unread) (r : Result (RawFrame × List ℕ) Halt) → frame_at u.limits u.text ≡ r → ReadsNext u (Ok None) left
-    → Reading.Waits left ≡ reading_of u r
-Waits_is u left (Ok p) e h =
-    let same = one_answer u (Ok None) left (Ok (Some p.0)) (record u { text = p.1 }) h (answers_frame u p.0 p.1 e) in cc
-Waits_is u left (Err Halt.Open) e h =
-    let same = one_answer u (Ok None) left (Ok None) (record u { text = after_eols u.text }) h (answers_none u e) in
-    ap Reading.Waits same.1
-Waits_is u left (Err (Halt.Fault k)) e h =
-    let same = one_answer u (Ok None) left (Err (fault_of k)) (record u { answered = Some k }) h (answers_fault u k e) in cc
+Waits_is : (u left : Unread) (r : Result (RawFrame × List ℕ) Halt) → frame_at u.limits u.text ≡ r → ReadsNext u (Ok None) left → Reading.Waits left ≡ reading_of u r
+Waits_is u left (Ok p) e h = let same = one_answer u (Ok None) left (Ok (Some p.0)) (record u { text = p.1 }) h (answers_frame u p.0 p.1 e) in cc
+Waits_is u left (Err Halt.Open) e h = let same = one_answer u (Ok None) left (Ok None) (record u { text = after_eols u.text }) h (answers_none u e) in ap Reading.Waits same.1
+Waits_is u left (Err (Halt.Fault k)) e h = let same = one_answer u (Ok None) left (Err (fault_of k)) (record u { answered = Some k }) h (answers_fault u k e) in cc
 
 -- the same of a fault
 Fails_is : (u : Unread) (check : Check) (left : Unread) (r : Result (RawFrame × List ℕ) Halt) → frame_at u.limits u.text ≡ r → ReadsNext u (Err (fault_of check)) left
     → Reading.Fails check left ≡ reading_of u r
-Fails_is u check left (Ok p) e h =
-    let same = one_answer u (Err (fault_of check)) left (Ok (Some p.0)) (record u { text = p.1 }) h (answers_frame u p.0 p.1 e) in cc
-Fails_is u check left (Err Halt.Open) e h =
-    let same = one_answer u (Err (fault_of check)) left (Ok None) (record u { text = after_eols u.text }) h (answers_none u e) in cc
+Fails_is u check left (Ok p) e h = let same = one_answer u (Err (fault_of check)) left (Ok (Some p.0)) (record u { text = p.1 }) h (answers_frame u p.0 p.1 e) in cc
+Fails_is u check left (Err Halt.Open) e h = let same = one_answer u (Err (fault_of check)) left (Ok None) (record u { text = after_eols u.text }) h (answers_none u e) in cc
 Fails_is u check left (Err (Halt.Fault k)) e h =
     let same = one_answer u (Err (fault_of check)) left (Err (fault_of k)) (record u { answered = Some k }) h (answers_fault u k e) in
-    let fault : fault_of check ≡ fault_of k = cc in
-    let one : check ≡ k = fault_of-only check k fault in
-    λ i. Reading.Fails (one i) (same.1 i)
+    let fault : fault_of check ≡ fault_of k = cc in let one : check ≡ k = fault_of-only check k fault in λ i. Reading.Fails (one i) (same.1 i)
 
 -- ---- what a Next reads
 
@@ -80,8 +62,7 @@ said_read o e = refl
 
 -- the reader of connection c gives this to a Next that is answered so
 abbrev Given : List CoreStep → ℕ → Outcome → Bool → Reading
-Given older c o nothing =
-    cond nothing Reading.Nothing (reading_of (unread_at c older) (frame_at reader_limits (unread_at c older).text))
+Given older c o nothing = cond nothing Reading.Nothing (reading_of (unread_at c older) (frame_at reader_limits (unread_at c older).text))
 
 faulted_as : (fault : ConnectionFault) (o : Outcome) (b : Bool) → reads_nothing (Outcome.Faulted fault false) ≡ b → reads_nothing (Outcome.Faulted fault true) ≡ b
     → In o (fault_outcomes fault) → reads_nothing o ≡ b
@@ -113,13 +94,10 @@ idle_reads k c (Reading.Fails check left) o l h i =
 next_reads : (k : Core) (c : ℕ) (rd : Reading) (o : Outcome) (why : Option Objection) → (unread_at c k.steps).limits ≡ reader_limits → ReadsUnless k c rd why
     → In o (unless why (reading_outcomes k c rd)) → rd ≡ Given k.steps c o (reads_nothing o)
 next_reads k c rd o None l h i = idle_reads k c rd o l h i
-next_reads k c rd o (Some why) l h i = refused (refusal_of why) refl (in_option o _ i)
-  where
-    refused : (r : Option Refusal) → refusal_of why ≡ r → option_map Outcome.Refused (refusal_of why) ≡ Some o → rd ≡ Given k.steps c o (reads_nothing o)
-    refused None e d = none_some o (ap (option_map Outcome.Refused) (sym e) ∙ d)
-    refused (Some r) e d =
-        let is : Outcome.Refused r ≡ o = some_same (Outcome.Refused r) o (ap (option_map Outcome.Refused) (sym e) ∙ d) in
-        h ∙ sym (ap (Given k.steps c o) (ap reads_nothing (sym is) ∙ reported why r e))
+next_reads k c rd o (Some why) l h i = (elim (refusal_of why) as (λ (r : Option Refusal). refusal_of why ≡ r → option_map Outcome.Refused (refusal_of why) ≡ Some o → rd ≡ Given k.steps c o (reads_nothing o)) [
+  | None ↦ λ e d. none_some o (ap (option_map Outcome.Refused) (sym e) ∙ d)
+  | Some r ↦ λ e d. (let is : Outcome.Refused r ≡ o = some_same (Outcome.Refused r) o (ap (option_map Outcome.Refused) (sym e) ∙ d) in h ∙ sym (ap (Given k.steps c o) (ap reads_nothing (sym is) ∙ reported why r e)))
+]) refl (in_option o _ i)
 
 -- what an event read is what the function says
 pub event_reads : (k : Core) (e : Event) (rd : Reading) (o : Outcome) → ((c : ℕ) → (unread_at c k.steps).limits ≡ reader_limits) → IsReadAt k e rd → In o (outcomes k e rd)
@@ -133,8 +111,7 @@ event_reads k _ rd o l h i = h
 pub steps_are : (topics : TopicList) (capacity : ℕ) (steps : List CoreStep) → IsCoreRun topics capacity steps → steps ≡ steps_of (map kept_of steps)
 steps_are topics capacity [] run = refl
 steps_are topics capacity (step ∷ older) run =
-    let k = core_of topics capacity older in
-    let same : k.steps ≡ older = ap (λ (z : Core). z.steps) (core_is topics capacity older) in
+    let k = core_of topics capacity older in let same : k.steps ≡ older = ap (λ (z : Core). z.steps) (core_is topics capacity older) in
     let rd : step.reading ≡ reading_at older step.event step.outcome =
     event_reads k step.event step.reading step.outcome (limits_are topics capacity older run.1) run.0.reading run.0.outcome
     ∙ ap (λ z. reading_at z step.event step.outcome) same in
@@ -145,8 +122,7 @@ steps_are topics capacity (step ∷ older) run =
 
 -- so they are those of the kept run, turned
 pub steps_turned : (topics : TopicList) (capacity : ℕ) (steps : List CoreStep) → IsCoreRun topics capacity steps → steps ≡ steps_of (reverse (kept_run steps))
-steps_turned topics capacity steps run =
-    steps_are topics capacity steps run ∙ ap (λ (ks : List Kept). steps_of ks) (sym (reverse-reverse (map kept_of steps)))
+steps_turned topics capacity steps run = steps_are topics capacity steps run ∙ ap (λ (ks : List Kept). steps_of ks) (sym (reverse-reverse (map kept_of steps)))
 
 -- a kept run has one list of steps
 pub one_list_of_steps : StepsAreKept

@@ -1,30 +1,19 @@
 -- What each step of the core makes of it: a refusal nothing, a ticket, a stamp, an item, the end of a span.
-use Rattle.delivery.proofs.Words.Std.{◌≡◌, ◌≢◌, ℕ, zero, suc, ◌+◌, ◌<◌, ◌≤◌, ◌==◌, ◌||◌, Bool, true, false, cond, ◌⊎◌, inl, inr, List, [], ◌∷◌, ◌++◌, map, length, get_or, set, Option, Some, None, refl, sym, ap, subst, ◌∙◌, arith, slice_get, list_all, option_map, option_to_list, unwrap_or, true≢false, false≢true, and_parts, ltb-true, not-false, cases_lt, get_or_past, length_push}
-use Rattle.delivery.proofs.Words.Topics.{Topic, TxnId, SentMessage, Stamp, greatest, part_at, row_at, ticket_rows, In, Item, topics_of, names, ProposeFault, Entry, TopicState, new_topic, after_propose}
-use Rattle.delivery.proofs.Words.Lemmas.{at_set, at_set_within, some_same, none_some}
-use Rattle.delivery.proofs.Words.Machine.{Objection, refusal_of, World, Undecided, SenderState, Connection, Subscription, nobody, no_subscription, new_sender, topic_at, sender_at, connection_at, speaker, subscription_at, entry_at, start, speaker_number, accepted_at, end_at, log_at, Move, Answer, world_after, answer_to, move_refusal, undecided_or_none, undecided_at, has_ticket, insert_ticket, is_complete, next_ticket, proposal_fault, propose_effect, propose_answer, decide_effect, take_effect, commit_effect, close_effect_of, IsAnswer, Run, final_world, answers_of, move_topic, EndsBeforeRow, delivered_items}
-use Rattle.delivery.proofs.Words.Core.{Event, Outcome, Refusal, Reading, has_effect, is_cut, Core, core_of, core_after, is_faulted, is_no_memory, outcome_of, cut_of, event_topic, GivesTicket, GivesStamp, DeliversNext, LagsFull, IsNewTopic}
-use Rattle.delivery.proofs.Words.Views.{IsReached}
+use Rattle.delivery.proofs.Words.All.{◌≡◌, ◌≢◌, ℕ, zero, suc, ◌+◌, ◌<◌, ◌≤◌, ◌==◌, ◌||◌, Bool, true, false, cond, ◌⊎◌, inl, inr, List, [], ◌∷◌, ◌++◌, map, length, get_or, set, Option, Some, None, refl, sym, ap, subst, ◌∙◌, arith, slice_get, list_all, option_map, option_to_list, unwrap_or, true≢false, false≢true, and_parts, ltb-true, not-false, cases_lt, get_or_past, length_push, Topic, TxnId, SentMessage, Stamp, greatest, part_at, row_at, ticket_rows, In, Item, topics_of, names, ProposeFault, Entry, TopicState, new_topic, after_propose, at_set, at_set_within, some_same, none_some, Objection, refusal_of, World, Undecided, SenderState, Connection, Subscription, nobody, no_subscription, new_sender, topic_at, sender_at, connection_at, speaker, subscription_at, entry_at, start, speaker_number, accepted_at, end_at, log_at, Move, Answer, world_after, answer_to, move_refusal, undecided_or_none, undecided_at, has_ticket, insert_ticket, is_complete, next_ticket, proposal_fault, propose_effect, propose_answer, decide_effect, take_effect, commit_effect, close_effect_of, IsAnswer, Run, final_world, answers_of, move_topic, EndsBeforeRow, delivered_items, Event, Outcome, Refusal, Reading, has_effect, is_cut, Core, core_of, core_after, is_faulted, is_no_memory, outcome_of, cut_of, event_topic, GivesTicket, GivesStamp, DeliversNext, LagsFull, IsNewTopic, IsReached}
 use Rattle.std.specs.List.{find}
 use Rattle.delivery.specs.Machine.Moves.Move.{AddsTopic, Opens, Connects, Commits, Subscribes, Unsubscribes, Disconnects, Errs, Lost, Leaves, Proposes, Decides, Withdraws, Cancels, Learns, Releases, Turns, Takes}
 use Rattle.delivery.specs.Core.Stepped
-use Rattle.delivery.proofs.Machine.Invariant.{topic_in}
-use Rattle.delivery.proofs.Machine.InvariantIsKept.{by_refusal, checked, in_flight, asks_of, Asks}
-use Rattle.delivery.proofs.Theorem.MovesAreAnswered.{events_are_answered}
+use Rattle.delivery.proofs.Words.Steps.{topic_in, by_refusal, checked, in_flight, asks_of, Asks, events_are_answered, kept_number, longer, run_append, at_push_two}
 use Rattle.delivery.proofs.Theorem.StepLaws.{refusals_change_nothing, others_untouched, ticket_is_own}
 use Rattle.delivery.proofs.Theorem.EndsAreAnswered.{ends_are_told}
 use Rattle.delivery.proofs.Theorem.LagsEndBeforeRow.{lags_end_before_row}
 use Rattle.delivery.proofs.Theorem.RowsEnter.{AllEnter, Enters, rows_enter}
-use Rattle.delivery.proofs.Theorem.SpansAsAnswered.{known, handing, ends_stay, spans_end_as_told}
-use Rattle.delivery.proofs.Core.AccountOfRun.{refusal_some}
-use Rattle.delivery.proofs.Core.ClaimsStand.{core_stands}
+use Rattle.delivery.proofs.Theorem.SpansAsAnswered.{known, ends_stay, spans_end_as_told}
+use Rattle.delivery.proofs.Theorem.HandedIsPrefix.{handing}
+use Rattle.delivery.proofs.Words.Changes.{refusal_some, core_stands, machine_run, world_of, by_world}
 use Rattle.delivery.proofs.Core.AtNext.{at_next}
-use Rattle.delivery.proofs.Machine.Speakers.{kept_number}
 use Rattle.delivery.proofs.Core.MoveOfStep.{IsMoveOf, is_of_frame, is_plain, world_then, with_topic, Comes, remembered, comes}
-use Rattle.delivery.proofs.Views.Runs.ByRunOfCore.{machine_run, world_of, by_world}
-use Rattle.delivery.proofs.Core.ByRun.{longer, run_append}
 use Rattle.delivery.proofs.Core.Counts.{adds_none, step_adds_none, topics_counted}
-use Rattle.delivery.proofs.Machine.SubscriptionSteps.{at_push_two}
 use Rattle.delivery.proofs.Views.Senders.TicketsOfTopics.{given, tickets_are}
 
 -- ---- outcomes and answers
@@ -113,15 +102,13 @@ IsWhole o = (is_faulted o ≡ false) × (is_cut o ≡ false) × (has_effect o �
 answered : (k : Core) (e : Event) (rd : Reading) (o : Outcome) → IsWhole o → Comes k e rd o → ((world_then k e rd o ≡ k.world) × (is_plain o ≡ true)) ⊎ IsAnswered k e rd o
 answered k e rd o whole (inl h) = inl h
 answered k e rd o whole (inr (inl h)) = absurd (false≢true (sym whole.0 ∙ h.faulted))
-answered k e rd o whole (inr (inr (inl h))) =
-    inr (record { move = h.move; own = h.own; world = h.world; is = h.is ∙ ap (λ (z : Outcome). Some z) (uncut h.base o whole.1 h.cut) })
+answered k e rd o whole (inr (inr (inl h))) = inr (record { move = h.move; own = h.own; world = h.world; is = h.is ∙ ap (λ (z : Outcome). Some z) (uncut h.base o whole.1 h.cut) })
 answered k e rd o whole (inr (inr (inr (inl h)))) = absurd (false≢true (sym whole.1 ∙ h.was_cut))
 answered k e rd o whole (inr (inr (inr (inr h)))) = absurd (false≢true (sym whole.2 ∙ h.effect))
 
 -- and an answer's where it is none of those of nothing done
 by_answer_alone : (k : Core) (e : Event) (rd : Reading) (o : Outcome) → is_plain o ≡ false → IsWhole o → Comes k e rd o → IsAnswered k e rd o
-by_answer_alone k e rd o full whole came =
-    elim (answered k e rd o whole came) [ inl h ↦ absurd (false≢true (sym full ∙ h.1)) | inr h ↦ h ]
+by_answer_alone k e rd o full whole came = elim (answered k e rd o whole came) [ inl h ↦ absurd (false≢true (sym full ∙ h.1)) | inr h ↦ h ]
 
 -- ---- what is refused
 
@@ -155,10 +142,8 @@ same_topic w _ own = absurd (false≢true own)
 others_stay : (k : Core) (e : Event) (rd : Reading) (o : Outcome) (t : Topic) → t.0 < length k.world.topics → event_topic k e rd ≢ Some t → Comes k e rd o
     → topic_at (world_then k e rd o) t ≡ topic_at k.world t
 others_stay k e rd o t l ne (inl h) = ap (λ (w : World). topic_at w t) h.0
-others_stay k e rd o t l ne (inr (inl h)) =
-    ap (λ (w : World). topic_at w t) h.world ∙ others_untouched k.world (Errs h.connection) t l (λ d. none_some t d)
-others_stay k e rd o t l ne (inr (inr (inl h))) =
-    ap (λ (w : World). topic_at w t) h.world ∙ others_untouched k.world h.move t l (λ d. ne (sym h.topic ∙ d))
+others_stay k e rd o t l ne (inr (inl h)) = ap (λ (w : World). topic_at w t) h.world ∙ others_untouched k.world (Errs h.connection) t l (λ d. none_some t d)
+others_stay k e rd o t l ne (inr (inr (inl h))) = ap (λ (w : World). topic_at w t) h.world ∙ others_untouched k.world h.move t l (λ d. ne (sym h.topic ∙ d))
 others_stay k e rd o t l ne (inr (inr (inr (inl h)))) =
     let w = k.world in let c = h.connection in
     let first : (world_after w (Decides c)).topics ≡ w.topics = by_refusal (λ v a. v.topics ≡ w.topics) w (Decides c) (λ why. refl) (λ n. refl) in
@@ -166,8 +151,7 @@ others_stay k e rd o t l ne (inr (inr (inr (inl h)))) =
     by_refusal (λ v a. v.topics ≡ (world_after w (Decides c)).topics) (world_after w (Decides c)) (Lost c) (λ why. refl) (λ n. refl) in
     ap (λ (z : World). topic_at z t) h.world ∙ ap (λ z. topic_in z t) (second ∙ first)
 others_stay k e rd o t l ne (inr (inr (inr (inr h)))) =
-    let w = k.world in
-    let first : topic_at (with_topic w) t ≡ topic_at w t = others_untouched w (AddsTopic 0) t l (λ d. none_some t d) in
+    let w = k.world in let first : topic_at (with_topic w) t ≡ topic_at w t = others_untouched w (AddsTopic 0) t l (λ d. none_some t d) in
     let there : t.0 < length (with_topic w).topics = (let n = length_push w.topics (new_topic (record { 0 = length w.topics }) w.log_limit 0) in omega (arith, n, l)) in
     elim h.then [
       | inl (is, plain) ↦ ap (λ (z : World). topic_at z t) is ∙ first
@@ -187,10 +171,8 @@ ticket_given : (w : World) (c : ℕ) (t : Topic) (m : Bool) (id : TxnId) (ticket
     → propose_answer w c t fault ≡ Answer.Ticket id ticket → GivesTicket w (propose_effect w c t fault) c t n
 ticket_given w c t m id ticket n (Some fault) asks number a = cc
 ticket_given w c t m id ticket n None asks number a =
-    let f = undecided_at w c in let s = speaker_number w c in
-    let same : next_ticket w c t ≡ ticket = cc in
-    let is : (next_ticket w c t).n ≡ n = ap (λ (z : Stamp). z.n) same ∙ number in
-    let x = after_propose (speaker w c).floor (part_at f.txn.id f.txn.sends t) (topic_at w t) in
+    let f = undecided_at w c in let s = speaker_number w c in let same : next_ticket w c t ≡ ticket = cc in
+    let is : (next_ticket w c t).n ≡ n = ap (λ (z : Stamp). z.n) same ∙ number in let x = after_propose (speaker w c).floor (part_at f.txn.id f.txn.sends t) (topic_at w t) in
     let y : SenderState = record (speaker w c) { flight = Some (record f { given = insert_ticket (next_ticket w c t) f.given }) } in
     let room : s < length w.senders = flight_there w.senders s asks.flying.flight asks.flying.is in record {
       named = asks.named;
@@ -213,8 +195,7 @@ Ticketed k e v n = (c : ℕ) × (t : Topic) × (e ≡ Event.Propose c t) × Give
 ticket_comes : (k : Core) (e : Event) (rd : Reading) (o : Outcome) (n : ℕ) → Comes k e rd o → o ≡ Outcome.Proposed n → Ticketed k e (world_then k e rd o) n
 ticket_comes k e rd o n came is =
     let w = k.world in let h = by_answer_alone k e rd o (ap is_plain is) (subst IsWhole (sym is) (refl, refl, refl)) came in
-    let a = outcome_ticket (answer_to w h.move) n (h.is ∙ ap (λ (z : Outcome). Some z) is) in
-    let own = ticket_is_own w h.move a.0 a.1 a.2 in
+    let a = outcome_ticket (answer_to w h.move) n (h.is ∙ ap (λ (z : Outcome). Some z) is) in let own = ticket_is_own w h.move a.0 a.1 a.2 in
     let c = own.0 in let t = own.1 in let m = own.2 in (
       c,
       t,
@@ -225,35 +206,27 @@ ticket_comes k e rd o n came is =
 
 -- ---- a stamp
 
-row_first : (t : Topic) (a : Stamp) (rows : List Stamp) (b : Bool) → (a.topic.0 == t.0) ≡ b → (has_ticket t rows ≡ true → (n : ℕ) × (row_at t rows ≡ Some n))
-    → has_ticket t (a ∷ rows) ≡ true → (n : ℕ) × (row_at t (a ∷ rows) ≡ Some n)
-row_first t a rows true is more h =
-    (a.n, ap (λ (b : Bool). option_map (λ (row : Stamp). row.n) (cond b (Some a) (find (λ (row : Stamp). row.topic.0 == t.0) rows))) is)
-row_first t a rows false is more h =
-    let later = more (ap (λ (b : Bool). b || has_ticket t rows) (sym is) ∙ h) in
-    (later.0, ap (λ (b : Bool). option_map (λ (row : Stamp). row.n) (cond b (Some a) (find (λ (row : Stamp). row.topic.0 == t.0) rows))) is ∙ later.1)
-
 -- a topic that gave a ticket has a row
 row_found : (t : Topic) (rows : List Stamp) → has_ticket t rows ≡ true → (n : ℕ) × (row_at t rows ≡ Some n)
 row_found t [] e = absurd (false≢true e)
-row_found t (a ∷ rows) e = row_first t a rows (a.topic.0 == t.0) refl (row_found t rows) e
+row_found t (a ∷ rows) e = (elim (a.topic.0 == t.0) as (λ (b : Bool). (a.topic.0 == t.0) ≡ b → (n : ℕ) × (row_at t (a ∷ rows) ≡ Some n)) [
+  | true ↦ λ is. (a.n, ap (λ (b : Bool). option_map (λ (row : Stamp). row.n) (cond b (Some a) (find (λ (row : Stamp). row.topic.0 == t.0) rows))) is)
+  | false ↦ λ is. (let later = (row_found t rows) (ap (λ (b : Bool). b || has_ticket t rows) (sym is) ∙ e) in (later.0, ap (λ (b : Bool). option_map (λ (row : Stamp). row.n) (cond b (Some a) (find (λ (row : Stamp). row.topic.0 == t.0) rows))) is ∙ later.1))
+]) refl
 
 -- where each of these topics gave one, they are those of the tickets
 topics_given : (ts : List Topic) (rows : List Stamp) → list_all (λ t. has_ticket t rows) ts ≡ true
     → map (λ (a : Stamp). a.topic) (ticket_rows (map (λ t. (t, row_at t rows)) ts)) ≡ ts
 topics_given [] rows e = refl
 topics_given (t ∷ ts) rows e =
-    let both = and_parts (has_ticket t rows) (list_all (λ u. has_ticket u rows) ts) e in
-    let here = row_found t rows both.0 in
+    let both = and_parts (has_ticket t rows) (list_all (λ u. has_ticket u rows) ts) e in let here = row_found t rows both.0 in
     ap (λ (o : Option ℕ). map (λ (a : Stamp). a.topic) (option_to_list (option_map (λ (m : ℕ). record { n = m; topic = t }) o) ++ ticket_rows (map (λ u. (u, row_at u rows)) ts))) here.1
     ∙ ap (λ (us : List Topic). t ∷ us) (topics_given ts rows both.1)
 
 stamp_given : (k : Core) (c : ℕ) (stamp : Stamp) → IsReached k → move_refusal k.world (Decides c) ≡ None → stamp ≡ greatest (undecided_at k.world c).given
     → GivesStamp k.world (decide_effect k.world c) c stamp
 stamp_given k c stamp reached n is =
-    let w = k.world in let s = speaker_number w c in let f = undecided_at w c in
-    let passed = checked w (Decides c) n in
-    let flying = in_flight w c passed.1.1.0 in
+    let w = k.world in let s = speaker_number w c in let f = undecided_at w c in let passed = checked w (Decides c) n in let flying = in_flight w c passed.1.1.0 in
     let flight : (sender_at w s).flight ≡ Some f = flying.is ∙ ap (λ (z : Undecided). Some z) (sym flying.at) in
     let complete : is_complete f ≡ true = not-false (is_complete f) passed.1.1.1.1.0 in
     let y : SenderState = record (speaker w c) { floor = greatest f.given; flight = None } in record {
@@ -289,8 +262,7 @@ stamp_comes : (k : Core) (e : Event) (rd : Reading) (o : Outcome) (stamp : Stamp
 stamp_comes k e rd o stamp cut reached (inl h) is = absurd (false≢true (sym (ap is_plain is) ∙ h.1))
 stamp_comes k e rd o stamp cut reached (inr (inl h)) is = absurd (false≢true (sym (ap is_faulted is) ∙ h.faulted))
 stamp_comes k e rd o stamp cut reached (inr (inr (inl h))) is =
-    let w = k.world in
-    let base = uncut_stamp h.base stamp cut (subst (λ z. (h.base ≡ z) ⊎ (cut_of h.base ≡ z)) is h.cut) in
+    let w = k.world in let base = uncut_stamp h.base stamp cut (subst (λ z. (h.base ≡ z) ⊎ (cut_of h.base ≡ z)) is h.cut) in
     let a = outcome_stamp (answer_to w h.move) stamp base.0 (h.is ∙ ap (λ (z : Outcome). Some z) base.1) in
     let own = subst (IsAnswer w h.move) a.1 (events_are_answered w h.move) in (
       own.0,
@@ -299,11 +271,9 @@ stamp_comes k e rd o stamp cut reached (inr (inr (inl h))) is =
           (stamp_after k own.0 a.0 stamp reached (ap (answer_to w) (sym own.1) ∙ a.1) own.3),
     )
 stamp_comes k e rd o stamp cut reached (inr (inr (inr (inl h)))) is =
-    let w = k.world in let c = h.connection in
-    let base = uncut_stamp h.base stamp cut (subst (λ z. (h.base ≡ z) ⊎ (cut_of h.base ≡ z)) is h.cut) in
+    let w = k.world in let c = h.connection in let base = uncut_stamp h.base stamp cut (subst (λ z. (h.base ≡ z) ⊎ (cut_of h.base ≡ z)) is h.cut) in
     let a = outcome_stamp (answer_to w (Decides c)) stamp base.0 (h.is ∙ ap (λ (z : Outcome). Some z) base.1) in
-    let own = subst (IsAnswer w (Decides c)) a.1 (events_are_answered w (Decides c)) in
-    let same : c ≡ own.0 = (let d = own.1 in cc) in
+    let own = subst (IsAnswer w (Decides c)) a.1 (events_are_answered w (Decides c)) in let same : c ≡ own.0 = (let d = own.1 in cc) in
     let greatest_is : stamp ≡ greatest (undecided_at w c).given = own.3 ∙ ap (λ d. greatest (undecided_at w d).given) (sym same) in
     (c, h.event, subst (λ v. GivesStamp w v c stamp) (sym h.world) (stamp_lost w (world_after w (Decides c)) c stamp (stamp_after k c a.0 stamp reached a.1 greatest_is)))
 stamp_comes k e rd o stamp cut reached (inr (inr (inr (inr h)))) is = absurd (false≢true (sym (ap has_effect is) ∙ h.effect))
@@ -333,8 +303,7 @@ Delivered k e v count = (s : ℕ) × (e ≡ Event.Take s) × DeliversNext k.worl
 item_comes : (k : Core) (e : Event) (rd : Reading) (o : Outcome) (count : ℕ) → Comes k e rd o → o ≡ Outcome.Handed count → Delivered k e (world_then k e rd o) count
 item_comes k e rd o count came is =
     let w = k.world in let h = by_answer_alone k e rd o (ap is_plain is) (subst IsWhole (sym is) (refl, refl, refl)) came in
-    let a = outcome_item (answer_to w h.move) count (h.is ∙ ap (λ (z : Outcome). Some z) is) in
-    let own = subst (IsAnswer w h.move) a.2 (events_are_answered w h.move) in
+    let a = outcome_item (answer_to w h.move) count (h.is ∙ ap (λ (z : Outcome). Some z) is) in let own = subst (IsAnswer w h.move) a.2 (events_are_answered w h.move) in
     let s = a.0 in (
       s,
       event_is e (Event.Take s) h.move (Takes s) refl refl h.own own.0,
@@ -394,8 +363,7 @@ made_run w ran = record {
 }
 
 move_ended : (w : World) → IsRun w → (mv : Move) (s : ℕ) (end : Stamp) → end_at w s ≡ None → end_at (world_after w mv) s ≡ Some end → Ended w mv s end
-move_ended w ran =
-    by_run (λ z. (mv : Move) (s : ℕ) (end : Stamp) → end_at z s ≡ None → end_at (world_after z mv) s ≡ Some end → Ended z mv s end) w ran run_ended
+move_ended w ran = by_run (λ z. (mv : Move) (s : ℕ) (end : Stamp) → end_at z s ≡ None → end_at (world_after z mv) s ≡ Some end → Ended z mv s end) w ran run_ended
 
 -- a move that is answered no end, and is no release and no turn, ends no span
 unended : (w : World) → IsRun w → (mv : Move) (s : ℕ) → ((end : Stamp) → answer_to w mv ≡ Answer.Unsubscribed s end → Prim.⊥)
@@ -448,8 +416,7 @@ ends_come k e rd o s end reached (inr (inr (inl h))) none some =
 ends_come k e rd o s end reached (inr (inr (inr (inl h)))) none some =
     none_some end (sym none ∙ (sym (lost_ends k.world h.connection s) ∙ (ap (λ (w : World). end_at w s) (sym h.world) ∙ some)))
 ends_come k e rd o s end reached (inr (inr (inr (inr h)))) none some =
-    let w = k.world in let ran = ran_to k reached in
-    let first = made_unended w ran s none in
+    let w = k.world in let ran = ran_to k reached in let first = made_unended w ran s none in
     elim h.then [
       | inl (is, plain) ↦ none_some end (sym first ∙ (ap (λ (z : World). end_at z s) (sym is) ∙ some))
       | inr (mv, own, topic, is, came) ↦ elim (move_ended (with_topic w) (made_run w ran) mv s end first (ap (λ (z : World). end_at z s) (sym is) ∙ some)) [
@@ -542,23 +509,16 @@ made_new w t low high =
     at_push_two IsNewTopic w.topics t.0 (new_topic (record { 0 = length w.topics }) w.log_limit 0) (new_topic t 0 0)
     (λ e. (refl, refl, refl, refl)) (λ ne. absurd (ne (let n = length_push w.topics (new_topic (record { 0 = length w.topics }) w.log_limit 0) in omega (arith, n, low, high))))
 
-closed_new : (w : World) (s : ℕ) (o : Option Entry) (t : Topic) → IsNew w t → IsNew (close_effect_of w s o) t
-closed_new w s None t h = h
-closed_new w s (Some e) t h =
-    at_set IsNewTopic w.topics (subscription_at w s).topic.0 t.0 _ (new_topic t 0 0)
-    (λ q. subst (λ (n : ℕ). IsNewTopic (topic_at w (record { 0 = n }))) q h) h
-
 -- a frame's move leaves it so
 frame_new : (w : World) (mv : Move) (t : Topic) → is_of_frame mv ≡ true → IsNew w t → IsNew (world_after w mv) t
-frame_new w (Commits c sends) t own h = by_refusal (λ v a. IsNew v t) w (Commits c sends) (λ why. h) (λ n. begun_new sends)
-  where
-    begun_new : (sends : List SentMessage) → IsNew (commit_effect w c sends) t
-    begun_new [] = h
-    begun_new (first ∷ others) = h
+frame_new w (Commits c sends) t own h = by_refusal (λ v a. IsNew v t) w (Commits c sends) (λ why. h) (λ n. elim sends as (λ (sends : List SentMessage). IsNew (commit_effect w c sends) t) [ [] ↦ h | first ∷ others ↦ h ])
 frame_new w (Subscribes c u) t own h = by_refusal (λ v a. IsNew v t) w (Subscribes c u) (λ why. h)
     (λ n. at_set IsNewTopic w.topics u.0 t.0 _ (new_topic t 0 0)
     (λ q. subst (λ (n : ℕ). IsNewTopic (topic_at w (record { 0 = n }))) q h) h)
-frame_new w (Unsubscribes c s) t own h = by_refusal (λ v a. IsNew v t) w (Unsubscribes c s) (λ why. h) (λ n. closed_new w s (entry_at w s) t h)
+frame_new w (Unsubscribes c s) t own h = by_refusal (λ v a. IsNew v t) w (Unsubscribes c s) (λ why. h) (λ n. (elim (entry_at w s) as (λ (o : Option Entry). IsNew (close_effect_of w s o) t) [
+  | None ↦ h
+  | Some e ↦ at_set IsNewTopic w.topics (subscription_at w s).topic.0 t.0 _ (new_topic t 0 0) (λ q. subst (λ (n : ℕ). IsNewTopic (topic_at w (record { 0 = n }))) q h) h
+]))
 frame_new w (Connects c claimed) t own h = by_refusal (λ v a. IsNew v t) w (Connects c claimed) (λ why. h) (λ n. h)
 frame_new w (Disconnects c) t own h = by_refusal (λ v a. IsNew v t) w (Disconnects c) (λ why. h) (λ n. h)
 frame_new w _ t own h = absurd (false≢true own)
@@ -576,8 +536,7 @@ own_adds _ mv own = ap adds_none own
 
 -- where there are as many topics, none was made
 none_made : (w v u : World) (t : Topic) → v ≡ u → length u.topics ≡ length w.topics → length w.topics ≤ t.0 → t.0 < length v.topics → IsNew v t
-none_made w v u t is same low high =
-    let n : length v.topics ≡ length u.topics = ap (λ (z : World). length z.topics) is in absurd (omega (arith, n, same, low, high))
+none_made w v u t is same low high = let n : length v.topics ≡ length u.topics = ap (λ (z : World). length z.topics) is in absurd (omega (arith, n, same, low, high))
 
 opened_comes : (k : Core) (e : Event) (rd : Reading) (o : Outcome) → Comes k e rd o → (t : Topic) → length k.world.topics ≤ t.0 → t.0 < length (world_then k e rd o).topics
     → IsNew (world_then k e rd o) t
@@ -604,13 +563,11 @@ opened_comes k e rd o (inr (inr (inr (inr h)))) t low high =
 abbrev AreNamed : World → Type 0
 AreNamed w = (c : ℕ) (a : Stamp) → In a (undecided_at w c).given → names a.topic (topics_of (undecided_at w c).txn.sends) ≡ true
 
-flight_named : (r : Run) (c : ℕ) (a : Stamp) (o : Option Undecided) → (speaker (final_world r) c).flight ≡ o → In a (undecided_or_none o).given
-    → names a.topic (topics_of (undecided_or_none o).txn.sends) ≡ true
-flight_named r c a None e i = absurd i
-flight_named r c a (Some f) e i = (given r (speaker_number (final_world r) c) f e).named a i
-
 are_named : (k : Core) → IsReached k → AreNamed k.world
-are_named k reached = by_world AreNamed k reached (λ r c a i. flight_named r c a (speaker (final_world r) c).flight refl i)
+are_named k reached = by_world AreNamed k reached (λ r c a i. ((elim (speaker (final_world r) c).flight as (λ (o : Option Undecided). (speaker (final_world r) c).flight ≡ o → In a (undecided_or_none o).given → names a.topic (topics_of (undecided_or_none o).txn.sends) ≡ true) [
+  | None ↦ λ e i. absurd i
+  | Some f ↦ λ e i. (given r (speaker_number (final_world r) c) f e).named a i
+]) refl i))
 
 abbrev AreBounded : World → Type 0
 AreBounded w = (s : ℕ) → s < length w.subscriptions → length (accepted_at w s) ≤ (subscription_at w s).taken + w.capacity

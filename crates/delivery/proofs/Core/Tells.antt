@@ -1,10 +1,6 @@
 -- What is told of the machine's answers, in the account's fewer words, and what a reader takes from it: the same as from the
 -- answers.
-use Rattle.delivery.proofs.Words.Std.{◌≡◌, ℕ, ◌+◌, ◌==◌, Bool, true, false, cond, inl, inr, List, [], ◌∷◌, ◌++◌, length, refl, sym, ap, subst, ◌∙◌, append_assoc, arith, length-append, take}
-use Rattle.delivery.proofs.Words.Topics.{Topic, Stamp, zero_stamp, CommitRow, In, Item, LogRow, last_stamp}
-use Rattle.delivery.proofs.Words.Lemmas.{In-append_left}
-use Rattle.delivery.proofs.Words.Machine.{Answer, txn_of_id, commits_of, delivered_items, released_at, agreed_rows}
-use Rattle.delivery.proofs.Words.Core.{Beginning, beginning_of, released_log, released_frontier, Told, committed, frontier_of, handed_count}
+use Rattle.delivery.proofs.Words.All.{◌≡◌, ℕ, ◌+◌, ◌==◌, Bool, true, false, cond, inl, inr, List, [], ◌∷◌, ◌++◌, length, refl, sym, ap, subst, ◌∙◌, append_assoc, arith, length-append, take, Topic, Stamp, zero_stamp, CommitRow, In, Item, LogRow, last_stamp, In-append_left, Answer, txn_of_id, commits_of, delivered_items, released_at, agreed_rows, beginning_of, released_log, released_frontier, Told, committed, frontier_of, handed_count}
 use Rattle.delivery.specs.Core.Answered.{begun_in as begun_answers}
 use Rattle.delivery.specs.Core.Delivery.{begun_in}
 use Rattle.delivery.specs.Core.Told.{released_count, told_log, owner_of}
@@ -66,14 +62,10 @@ handed_told s [] = refl
 handed_told s (Answer.Handed r item ∷ past) = one_more (r == s) (handed_count s (tell past)) (delivered_items s past) item (handed_told s past)
 handed_told s (_ ∷ past) = handed_told s past
 
-whose : (b : Bool) (c k : ℕ) (x y : Beginning) → c ≡ x.connection → k ≡ y.connection → cond b c k ≡ (cond b x y).connection
-whose true c k x y e d = e
-whose false c k x y e d = d
-
 pub owner_told : (s : ℕ) (past : List Answer) → owner_of s (tell past) ≡ (beginning_of s past).connection
 owner_told s [] = refl
 owner_told s (Answer.Subscribed r c t from ∷ past) =
-    whose (r == s) c (owner_of s (tell past)) (record { connection = c; topic = t; from = from }) (beginning_of s past) refl (owner_told s past)
+    elim (r == s) as (λ (b : Bool). cond b c (owner_of s (tell past)) ≡ (cond b (record { connection = c; topic = t; from = from }) (beginning_of s past)).connection) [ true ↦ refl | false ↦ (owner_told s past) ]
 owner_told s (_ ∷ past) = owner_told s past
 
 pub begun_told : (past : List Answer) → begun_in (tell past) ≡ begun_answers past
@@ -113,5 +105,4 @@ told_in x o (y ∷ past) h (inr i) = in_right x (tells y past) (tell past) (told
 pub tell_append : (later before : List Answer) → (told : List Told) × (tell (later ++ before) ≡ told ++ tell before)
 tell_append [] before = ([], refl)
 tell_append (o ∷ later) before =
-    let h = tell_append later before in let a = tells o (later ++ before) in
-    (a ++ h.0, ap (λ (z : List Told). a ++ z) h.1 ∙ sym (append_assoc a h.0 (tell before)))
+    let h = tell_append later before in let a = tells o (later ++ before) in (a ++ h.0, ap (λ (z : List Told). a ++ z) h.1 ∙ sym (append_assoc a h.0 (tell before)))

@@ -1,6 +1,5 @@
 -- What the refusals of a move say, where none of them holds.
-use Rattle.delivery.proofs.Words.Std.{◌≡◌, ℕ, ◌<◌, not, false, length, ltb, ltb-true, not-false}
-use Rattle.delivery.proofs.Words.Machine.{World}
+use Rattle.delivery.proofs.Words.All.{◌≡◌, ℕ, ◌<◌, not, false, length, ltb, ltb-true, not-false, World}
 
 -- its connection is there
 pub connection_there : (w : World) (c : ℕ) → not (ltb c (length w.connections)) ≡ false → c < length w.connections

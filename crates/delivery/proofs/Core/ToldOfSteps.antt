@@ -1,10 +1,5 @@
 -- What a run's steps tell is what is told of its account.
-use Rattle.delivery.proofs.Words.Std.{◌≡◌, ℕ, ◌+◌, ◌==◌, Bool, true, false, cond, ◌&&◌, List, [], ◌∷◌, ◌++◌, Option, Some, refl, sym, ap, ◌∙◌, eqb-true}
-use Rattle.delivery.proofs.Words.Topics.{TxnId, SentMessage, Transaction, same_id}
-use Rattle.delivery.proofs.Words.Frames.{RawFrame}
-use Rattle.delivery.proofs.Words.Lemmas.{id_same}
-use Rattle.delivery.proofs.Words.Machine.{Answer, txn_of_id, txn_count}
-use Rattle.delivery.proofs.Words.Core.{Event, Outcome, claims_of, sender_of, CoreStep, frame_in, accepted_of, names_after, account_of, account_of_step, Told, sends_by, told_of}
+use Rattle.delivery.proofs.Words.All.{◌≡◌, ℕ, ◌+◌, ◌==◌, Bool, true, false, cond, ◌&&◌, List, [], ◌∷◌, ◌++◌, Option, Some, refl, sym, ap, ◌∙◌, eqb-true, TxnId, SentMessage, Transaction, same_id, RawFrame, id_same, Answer, txn_of_id, txn_count, Event, Outcome, claims_of, sender_of, CoreStep, frame_in, accepted_of, names_after, account_of, account_of_step, Told, sends_by, told_of}
 use Rattle.delivery.specs.Core.Told.{last_by, told_by}
 use Rattle.delivery.proofs.Core.Tells.{tell, owner_told}
 
@@ -17,8 +12,7 @@ abbrev pub LastIs : List Answer → Type 0
 LastIs past = (s : ℕ) → ((last_by s (tell past)).id ≡ num s (txn_count s past)) × (txn_of_id (num s (txn_count s past)) past ≡ last_by s (tell past))
 
 -- so too once a sender has made its next one
-last_begun : (s : ℕ) (sends : List SentMessage) (past : List Answer) → LastIs past
-    → LastIs (Answer.Begun (record { id = num s (txn_count s past + 1); sends = sends }) ∷ past)
+last_begun : (s : ℕ) (sends : List SentMessage) (past : List Answer) → LastIs past → LastIs (Answer.Begun (record { id = num s (txn_count s past + 1); sends = sends }) ∷ past)
 last_begun s sends past h q = by (s == q) refl
   where
     txn : Transaction
@@ -49,10 +43,7 @@ step_told : (names : List (List ℕ)) (older : List CoreStep) (past : List Answe
     → Kept (told_by names older (tell past) e read o) (account_of_step names older past e read o) past
 step_told names older past (Event.Next c) (Some f) (Outcome.Flying id) h =
     let s = sender_of c (claims_of older) in let sends = sends_by f.command names (accepted_of c older) f in
-    record {
-      same = ap (λ (z : TxnId). Told.Begun (record { id = record z { seq = z.seq + 1 }; sends = sends }) ∷ tell past) (h s).0;
-      last = last_begun s sends past h;
-    }
+    record { same = ap (λ (z : TxnId). Told.Begun (record { id = record z { seq = z.seq + 1 }; sends = sends }) ∷ tell past) (h s).0; last = last_begun s sends past h }
 step_told names older past (Event.Propose c t) read (Outcome.Proposed n) h =
     record { same = ap (λ (z : TxnId). Told.Ticket z t ∷ tell past) (h (sender_of c (claims_of older))).0; last = h }
 step_told names older past (Event.Decide c) read (Outcome.Decided stamp true) h =
@@ -63,8 +54,7 @@ step_told names older past (Event.Withdraw c) read (Outcome.Withdrawn cut) h =
     record { same = ap (λ (z : Transaction). Told.Closed c ∷ Told.Withdrawn z ∷ tell past) (sym (h (sender_of c (claims_of older))).1); last = h }
 step_told names older past (Event.Cancel c t) read Outcome.Cancelled h =
     record { same = ap (λ (z : TxnId). Told.Cancelled z t ∷ tell past) (h (sender_of c (claims_of older))).0; last = h }
-step_told names older past (Event.Take s) read (Outcome.Faulted fault cut) h =
-    record { same = ap (λ (k : ℕ). Told.Closed k ∷ tell past) (owner_told s past); last = h }
+step_told names older past (Event.Take s) read (Outcome.Faulted fault cut) h = record { same = ap (λ (k : ℕ). Told.Closed k ∷ tell past) (owner_told s past); last = h }
 step_told names older past Event.Open read (Outcome.Opened c) h = record { same = refl; last = h }
 step_told names older past (Event.Next c) read (Outcome.Faulted fault cut) h = record { same = refl; last = h }
 step_told names older past (Event.Learn t id) read Outcome.Learnt h = record { same = refl; last = h }

@@ -1,9 +1,6 @@
 -- What is told of the machine's answers comes of one of them. So a topic that is settled, and a subscription that is silent, by what
 -- is told of the answers is so by the answers.
-use Rattle.delivery.proofs.Words.Std.{AllByRecursion, ◌≡◌, ◌⊎◌, ℕ, true, inl, inr, List, [], ◌∷◌, ◌++◌, refl, sym, ap, subst, ◌∙◌, eq-eqb}
-use Rattle.delivery.proofs.Words.Topics.{Topic, TxnId, Stamp, Transaction, In}
-use Rattle.delivery.proofs.Words.Machine.{Answer, txn_of_id}
-use Rattle.delivery.proofs.Words.Core.{Told}
+use Rattle.delivery.proofs.Words.All.{AllByRecursion, ◌≡◌, ◌⊎◌, ℕ, true, inl, inr, List, [], ◌∷◌, ◌++◌, refl, sym, ap, subst, ◌∙◌, eq-eqb, Topic, TxnId, Stamp, Transaction, In, Answer, txn_of_id, Told}
 use Rattle.delivery.specs.Theorem.Settled.{closes, SilentAfterClose, IsResolved as Resolved, AllResolved as Resolving, IsSettled as Settled, IsSilent as Silent}
 use Rattle.delivery.specs.Core.Told.{AllResolved, IsSettled, IsSilent}
 use Rattle.delivery.proofs.Machine.AnswerLemmas.{made_id}
@@ -44,9 +41,7 @@ means x o past i = all_in (λ (z : Told). Means z o past) (tells o past) (each_m
 
 -- an end that is told was answered
 pub end_from : (s : ℕ) (to : Stamp) (past : List Answer) → In (Told.Unsubscribed s to) (tell past) → In (Answer.Unsubscribed s to) past
-end_from s to past i =
-    let h = source (Told.Unsubscribed s to) past i in
-    subst (λ (o : Answer). In o past) (means (Told.Unsubscribed s to) h.by h.before h.says) h.stands
+end_from s to past i = let h = source (Told.Unsubscribed s to) past i in subst (λ (o : Answer). In o past) (means (Told.Unsubscribed s to) h.by h.before h.says) h.stands
 
 -- ---- settled topics
 
@@ -63,9 +58,7 @@ withdrawn_from txn past i =
     (m.1, subst (λ (o : Answer). In o past) (m.2 ∙ ap (λ (z : TxnId). Answer.Withdrawn z m.1) same) h.stands)
 
 cancelled_from : (id : TxnId) (t : Topic) (past : List Answer) → In (Told.Cancelled id t) (tell past) → In (Answer.Cancelled id t) past
-cancelled_from id t past i =
-    let h = source (Told.Cancelled id t) past i in
-    subst (λ (o : Answer). In o past) (means (Told.Cancelled id t) h.by h.before h.says) h.stands
+cancelled_from id t past i = let h = source (Told.Cancelled id t) past i in subst (λ (o : Answer). In o past) (means (Told.Cancelled id t) h.by h.before h.says) h.stands
 
 resolved_from : (t : Topic) (past : List Answer) (txn : Transaction)
     → ((stamp : Stamp) × In (Told.Decided txn stamp) (tell past)) ⊎ (In (Told.Withdrawn txn) (tell past) × (In (Told.Ticket txn.id t) (tell past) → In (Told.Cancelled txn.id t) (tell past)))
@@ -80,8 +73,7 @@ resolved_from t past txn (inr d) =
     )
 
 resolving_from : (t : Topic) (past : List Answer) → AllResolved t (tell past) → Resolving t past
-resolving_from t past h txn i named =
-    resolved_from t past txn (h txn (told_in (Told.Begun txn) (Answer.Begun txn) past (λ before. inl refl) i) named)
+resolving_from t past h txn i named = resolved_from t past txn (h txn (told_in (Told.Begun txn) (Answer.Begun txn) past (λ before. inl refl) i) named)
 
 -- a topic that is settled by what is told is settled by the answers
 pub settled_from : (t : Topic) (past : List Answer) → IsSettled t (tell past) → Settled t past
@@ -101,8 +93,7 @@ settled_from t (_ ∷ past) h = settled_from t past h
 silent_from : (s : ℕ) (past : List Answer) → IsSilent s (tell past) → Silent s past
 silent_from s past (inl k) = inl (k.0, end_from s k.0 past k.1)
 silent_from s past (inr k) =
-    let x = source (Told.Subscribed s k.0 k.1) past k.2 in let m = means (Told.Subscribed s k.0 k.1) x.by x.before x.says in
-    let y = source (Told.Closed k.0) past k.3 in
+    let x = source (Told.Subscribed s k.0 k.1) past k.2 in let m = means (Told.Subscribed s k.0 k.1) x.by x.before x.says in let y = source (Told.Closed k.0) past k.3 in
     inr (k.0, k.1, m.0, y.by, subst (λ (o : Answer). In o past) m.1 x.stands, y.stands, means (Told.Closed k.0) y.by y.before y.says)
 
 -- nothing is handed on of a subscription that was silent before, by what is told
@@ -122,6 +113,5 @@ silent_above s before (Told.Handed r ∷ xs) h k = silent_above s before xs h.1 
 silent_above s before (o ∷ xs) h k = silent_above s before xs h k
 
 -- so of each that is told
-pub silent_at : (past : List Answer) → SilentAfterClose past → (later before : List Told) (s : ℕ)
-    → tell past ≡ later ++ Told.Handed s ∷ before → IsSilent s before → Prim.⊥
+pub silent_at : (past : List Answer) → SilentAfterClose past → (later before : List Told) (s : ℕ) → tell past ≡ later ++ Told.Handed s ∷ before → IsSilent s before → Prim.⊥
 silent_at past h later before s e k = silent_above s before later (subst SilentAsTold e (silent_told past h)) k

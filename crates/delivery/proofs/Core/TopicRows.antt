@@ -1,6 +1,6 @@
 -- Worked rows of topics that are made on first use.
-use Rattle.delivery.proofs.Words.Std.{false, refl, ◌≡◌, List, [], ◌∷◌, ◌++◌, map, codes, range_with_len}
-use Rattle.delivery.proofs.Words.Core.{Event, Refusal, ConnectionFault, Core, new_core, names_at, report_of, Opened, Done, Subscribed, Flying, Proposed, Decided, Turned, Handed, Faulted, Refused}
+use Rattle.delivery.proofs.Words.All.{false, refl, ◌≡◌, List, [], ◌∷◌, ◌++◌, map, codes, range_with_len, Event, Refusal, ConnectionFault, Core, new_core, names_at, report_of, Flying, Proposed, Faulted}
+use Rattle.delivery.specs.declared.outcome.Outcome.TheVariants.{Opened, Done, Subscribed, Decided, Turned, Handed, Refused}
 use Rattle.stomp_frame.specs.declared.command.Command.TheVariants as commands
 use Rattle.stomp_session.specs.declared.fault.SessionFault.TheVariants as sessions
 use Rattle.delivery.proofs.Core.Agreement.{agreements, all_agree}
@@ -23,19 +23,13 @@ first_acts = opens 0 (
 abbrev pub first : Core
 first = played nothing first_acts
 
-first_outcomes : shown_outcomes first
+first_rows : (shown_outcomes first
     ≡ Opened 0 ∷ Done ∷ Subscribed 0 (stamp 0 0) ∷ Flying (id 0 1) ∷ Refused Refusal.NotNamed ∷ Proposed 1 ∷ Decided (stamp 1 1) false
-    ∷ Refused Refusal.NotNamed ∷ Turned 1 ∷ Faulted (ConnectionFault.Session sessions.BadDestination) false ∷ []
-first_outcomes = refl
-
-first_agrees : agreements nothing first_acts ≡ all_agree
-first_agrees = refl
-
-first_names : names_at first ≡ A ∷ B ∷ []
-first_names = refl
-
-first_outs : (report_of first).outs ≡ (greeting ++ codes "ERROR\nmessage:76 BadDestination\ncontent-length:0\n\n\0") ∷ []
-first_outs = refl
+    ∷ Refused Refusal.NotNamed ∷ Turned 1 ∷ Faulted (ConnectionFault.Session sessions.BadDestination) false ∷ [])
+    × (agreements nothing first_acts ≡ all_agree)
+    × (names_at first ≡ A ∷ B ∷ [])
+    × ((report_of first).outs ≡ (greeting ++ codes "ERROR\nmessage:76 BadDestination\ncontent-length:0\n\n\0") ∷ [])
+first_rows = (refl, refl, refl, refl)
 
 -- ---- an aborted transaction's topic stays; names differ by case; a frame that is refused makes none
 
@@ -54,19 +48,13 @@ aborted_acts = opens 0 (opens 1 (
 abbrev pub aborted : Core
 aborted = played one aborted_acts
 
-aborted_outcomes : shown_outcomes aborted
+aborted_rows : (shown_outcomes aborted
     ≡ Opened 0 ∷ Done ∷ Opened 1 ∷ Done ∷ Done ∷ Done ∷ Done ∷ Faulted (ConnectionFault.Session sessions.NoMemory) false
-    ∷ Subscribed 0 (stamp 0 0) ∷ Subscribed 1 (stamp 0 0) ∷ Subscribed 2 (stamp 0 0) ∷ Faulted (ConnectionFault.Session sessions.NoSuchTxn) false ∷ []
-aborted_outcomes = refl
-
-aborted_names : names_at aborted ≡ A ∷ codes "b" ∷ codes "d" ∷ B ∷ []
-aborted_names = refl
-
-aborted_topics : map (λ q. q.span.topic) (report_of aborted).subscriptions ≡ topic 2 ∷ topic 1 ∷ topic 3 ∷ []
-aborted_topics = refl
-
-aborted_agrees : agreements one aborted_acts ≡ all_agree
-aborted_agrees = refl
+    ∷ Subscribed 0 (stamp 0 0) ∷ Subscribed 1 (stamp 0 0) ∷ Subscribed 2 (stamp 0 0) ∷ Faulted (ConnectionFault.Session sessions.NoSuchTxn) false ∷ [])
+    × (names_at aborted ≡ A ∷ codes "b" ∷ codes "d" ∷ B ∷ [])
+    × (map (λ q. q.span.topic) (report_of aborted).subscriptions ≡ topic 2 ∷ topic 1 ∷ topic 3 ∷ [])
+    × (agreements one aborted_acts ≡ all_agree)
+aborted_rows = (refl, refl, refl, refl)
 
 -- ---- a transaction whose SENDs make topics while another connection makes others
 
@@ -79,17 +67,13 @@ mixed_acts = opens 0 (opens 1 (
     ∷ reads 1 (send (codes "w") []) ∷ propose 1 3 ∷ act (Event.Decide 1)
     ∷ reads 0 (commit (codes "x")) ∷ propose 0 0 ∷ propose 0 1 ∷ propose 0 2 ∷ act (Event.Decide 0) ∷ turn 1 ∷ act (Event.Take 0) ∷ []))
 
-mixed_outcomes : shown_outcomes (played nothing mixed_acts)
+mixed_rows : (shown_outcomes (played nothing mixed_acts)
     ≡ Opened 0 ∷ Done ∷ Opened 1 ∷ Done ∷ Done ∷ Done ∷ Subscribed 0 (stamp 0 0) ∷ Done ∷ Done
     ∷ Flying (id 1 1) ∷ Proposed 1 ∷ Decided (stamp 1 3) false
-    ∷ Flying (id 0 1) ∷ Proposed 1 ∷ Proposed 1 ∷ Proposed 1 ∷ Decided (stamp 1 2) false ∷ Turned 1 ∷ Handed 1 ∷ []
-mixed_outcomes = refl
-
-mixed_agrees : agreements nothing mixed_acts ≡ all_agree
-mixed_agrees = refl
-
-mixed_commits : (report_of (played nothing mixed_acts)).commits ≡ log_row 1 1 1 3 (3 ∷ []) ∷ log_row 0 1 1 2 (0 ∷ 1 ∷ 2 ∷ []) ∷ []
-mixed_commits = refl
+    ∷ Flying (id 0 1) ∷ Proposed 1 ∷ Proposed 1 ∷ Proposed 1 ∷ Decided (stamp 1 2) false ∷ Turned 1 ∷ Handed 1 ∷ [])
+    × (agreements nothing mixed_acts ≡ all_agree)
+    × ((report_of (played nothing mixed_acts)).commits ≡ log_row 1 1 1 3 (3 ∷ []) ∷ log_row 0 1 1 2 (0 ∷ 1 ∷ 2 ∷ []) ∷ [])
+mixed_rows = (refl, refl, refl)
 
 -- ---- 1,024 topics are there
 

@@ -1,11 +1,7 @@
 -- One whole delivery: a connection subscribes to two topics, commits a transaction to both, is delivered an item of the first,
 -- and unsubscribes from it; its queue of the second, which takes one item, lags as a second transaction comes.
-use Rattle.delivery.proofs.Words.Std.{inl, inr, refl, sym, ap, subst, ◌∙◌, arith, cond, ◌≡◌, ℕ, zero, suc, nat_lt, ◌==◌, ◌<◌, ◌≤◌, ◌+◌, ◌++◌, ◌||◌, length, map, take, Bool, true, false, if◌then◌else◌, slice_get, List, [], ◌∷◌, codes, Ok, Some, option_to_list, false≢true, true≢false}
-use Rattle.delivery.proofs.Words.Topics.{Topic, TxnId, Stamp, CommitRow, Transaction, committed_id, stamp_of, agreed, EachOnce, SenderOrder, In, Item, LogRow, names, topics_of, Asked, Lag}
-use Rattle.delivery.proofs.Words.Frames.{RawFrame}
-use Rattle.delivery.proofs.Words.Lemmas.{some_same, none_some}
-use Rattle.delivery.proofs.Words.Machine.{log_row, item_at, is_due, shared_marks, SilentAfterClose, Answer, commits_of, delivered_items}
-use Rattle.delivery.proofs.Words.Core.{Event, Outcome, TopicList, CoreStep, BeginsWithFrames, fed_octets, frames_of, frame_in, reader_limits, account_of, released_log, released_frontier, text_out, new_core, QueueReport, Report, report_of, log_in, out_in, Told, told_of, Delivery, IsAsAnswered, DeliversAnswers, Opened, Fed, Done, Subscribed, Unsubscribed, Flying, Proposed, Decided, Turned, Handed}
+use Rattle.delivery.proofs.Words.All.{inl, inr, refl, sym, ap, subst, ◌∙◌, arith, cond, ◌≡◌, ℕ, zero, suc, nat_lt, ◌==◌, ◌<◌, ◌≤◌, ◌+◌, ◌++◌, ◌||◌, length, map, take, Bool, true, false, if◌then◌else◌, slice_get, List, [], ◌∷◌, codes, Ok, Some, option_to_list, false≢true, true≢false, Topic, TxnId, Stamp, CommitRow, Transaction, committed_id, stamp_of, agreed, EachOnce, SenderOrder, In, Item, LogRow, names, topics_of, Asked, Lag, RawFrame, some_same, none_some, log_row, item_at, is_due, shared_marks, SilentAfterClose, Answer, commits_of, delivered_items, Event, Outcome, TopicList, CoreStep, BeginsWithFrames, fed_octets, frames_of, frame_in, reader_limits, account_of, released_log, released_frontier, text_out, new_core, QueueReport, Report, report_of, log_in, out_in, Told, told_of, Delivery, IsAsAnswered, DeliversAnswers, Fed, Flying, Proposed}
+use Rattle.delivery.specs.declared.outcome.Outcome.TheVariants.{Opened, Done, Subscribed, Unsubscribed, Decided, Turned, Handed}
 use Rattle.std.specs.Fmt.{digits}
 use Rattle.std.specs.Str.{is_utf8, chars}
 use Rattle.std.specs.Char.{encode_utf8}

@@ -1,23 +1,15 @@
 -- What stands in the list of outcomes.
-use Rattle.delivery.proofs.Words.Std.{◌≡◌, Bool, true, false, cond, inl, inr, List, [], ◌∷◌, ◌++◌, refl, sym, ap, subst, ◌∙◌, true≢false}
-use Rattle.delivery.proofs.Words.Topics.{stamp_lt, greatest, Transaction, CommitRow, same_id, In, TxnId, Stamp}
-use Rattle.delivery.proofs.Words.Lemmas.{id_equal, id_same, In-append_left, In-push, not_head}
-use Rattle.delivery.proofs.Words.Machine.{Answer, txn_of_id, commits_of, answers_of, final_world, Begun, Ticket, Decided}
+use Rattle.delivery.proofs.Words.All.{◌≡◌, Bool, true, false, cond, inl, inr, List, [], ◌∷◌, ◌++◌, refl, sym, ap, subst, ◌∙◌, true≢false, stamp_lt, greatest, CommitRow, same_id, In, TxnId, Stamp, id_equal, id_same, In-append_left, In-push, not_head, Answer, txn_of_id, commits_of, answers_of, final_world, Begun, Decided}
+use Rattle.delivery.specs.Machine.Moves.Answer.{Ticket}
 use Rattle.mcast_txn.proofs.Greatest.{is_greatest}
 use Rattle.delivery.specs.Machine.Runs.{tickets_of}
 use Rattle.delivery.specs.Theorem.Laws
-use Rattle.delivery.proofs.Machine.Invariant.{row}
-use Rattle.delivery.proofs.Machine.InvariantIsKept.{tickets}
-use Rattle.delivery.proofs.Theorem.AcceptedIsDue.{reached}
-
-made_case : (id : TxnId) (txn other : Transaction) (b : Bool) → same_id txn.id id ≡ b → other.id ≡ id → (cond b txn other).id ≡ id
-made_case id txn other true e ih = id_equal txn.id id e
-made_case id txn other false e ih = ih
+use Rattle.delivery.proofs.Words.Steps.{row, tickets, reached}
 
 -- what was made of an id has that id
 pub made_id : (id : TxnId) (past : List Answer) → (txn_of_id id past).id ≡ id
 made_id id [] = refl
-made_id id (Begun txn ∷ past) = made_case id txn (txn_of_id id past) (same_id txn.id id) refl (made_id id past)
+made_id id (Begun txn ∷ past) = (elim (same_id txn.id id) as (λ (b : Bool). same_id txn.id id ≡ b → (cond b txn (txn_of_id id past)).id ≡ id) [ true ↦ λ e. id_equal txn.id id e | false ↦ λ e. (made_id id past) ]) refl
 made_id id (o ∷ past) = made_id id past
 
 -- a ticket of this transaction
@@ -44,8 +36,7 @@ ticket_of id x (o ∷ past) k = ticket_of id x past k
 to_case : (id i : TxnId) (a : CommitRow) (ticket : Stamp) (past : List Answer) (b : Bool) → same_id i id ≡ b → (In a (tickets past) → In a.stamp (tickets_of id past)) → In a (row (txn_of_id i past) ticket ∷ tickets past) → a.txn.id ≡ id → In a.stamp (cond b (ticket ∷ tickets_of id past) (tickets_of id past))
 to_case id i a ticket past true e ih (inl d) n = inl (ap (λ (z : CommitRow). z.stamp) d)
 to_case id i a ticket past true e ih (inr k) n = inr (ih k)
-to_case id i a ticket past false e ih (inl d) n =
-    absurd (true≢false (sym (id_same i id (sym (made_id i past) ∙ (ap (λ (z : CommitRow). z.txn.id) d ∙ n))) ∙ e))
+to_case id i a ticket past false e ih (inl d) n = absurd (true≢false (sym (id_same i id (sym (made_id i past) ∙ (ap (λ (z : CommitRow). z.txn.id) d ∙ n))) ∙ e))
 to_case id i a ticket past false e ih (inr k) n = ih k
 
 -- each of the past's tickets of a transaction is among those that it was given
@@ -56,8 +47,7 @@ to_tickets id a (o ∷ past) k n = to_tickets id a past k n
 
 -- a ticket that was given stands in the list
 In-ticket_case : (a : CommitRow) (i : TxnId) (ticket : Stamp) (past : List Answer) → (In a (tickets past) → In (Ticket a.txn.id a.stamp) past) → In a (row (txn_of_id i past) ticket ∷ tickets past) → In (Ticket a.txn.id a.stamp) (Ticket i ticket ∷ past)
-In-ticket_case a i ticket past ih (inl d) =
-    inl (ap (λ z. Ticket z ticket) (sym (made_id i past)) ∙ ap (λ (z : CommitRow). Ticket z.txn.id z.stamp) d)
+In-ticket_case a i ticket past ih (inl d) = inl (ap (λ z. Ticket z ticket) (sym (made_id i past)) ∙ ap (λ (z : CommitRow). Ticket z.txn.id z.stamp) d)
 In-ticket_case a i ticket past ih (inr k) = inr (ih k)
 
 -- each of the past's tickets was answered as its transaction's
@@ -92,9 +82,7 @@ commit_of id stamp (o ∷ past) k = commit_of id stamp past (not_head (Decided i
 -- a decided transaction's stamp is the greatest of its tickets
 pub stamp_is_greatest : Laws.StampIsGreatest
 stamp_is_greatest r id stamp k =
-    let h = reached r in let past = answers_of r in
-    let c = commit_of id stamp past k in
-    let i : In c.it (final_world r).commits = subst (λ z. In c.it z) h.commits c.stands in
+    let h = reached r in let past = answers_of r in let c = commit_of id stamp past k in let i : In c.it (final_world r).commits = subst (λ z. In c.it z) h.commits c.stands in
     let t = h.inv.consistent.from_ticket c.it i in
     subst (λ z. z ≡ greatest (tickets_of id past)) c.stamp_is
     (is_greatest (tickets_of id past) c.it.stamp (to_tickets id c.it past t c.id_is)

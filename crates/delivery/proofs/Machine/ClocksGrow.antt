@@ -1,8 +1,6 @@
 -- No event lowers a topic's clock.
 use Rattle.std.proofs.Common.{◌≤◌, arith}
-use Rattle.delivery.proofs.Words.Topics.{Topic, TopicState}
-use Rattle.delivery.proofs.Words.Lemmas.{release_keeps, turn_keeps}
-use Rattle.delivery.proofs.Words.Machine.{World, topic_at, Move, world_after}
+use Rattle.delivery.proofs.Words.All.{Topic, TopicState, release_keeps, turn_keeps, World, topic_at, Move, world_after}
 use Rattle.delivery.proofs.Machine.TopicOfMove.{Steps, topic_after}
 
 abbrev Grows : TopicState → TopicState → Type 0

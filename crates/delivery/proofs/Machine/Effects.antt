@@ -1,6 +1,6 @@
 -- What one move makes: the world after it, and its answer.
 use Rattle.std.proofs.Common.{◌≡◌, Option, Some, None, ap}
-use Rattle.delivery.proofs.Words.Machine.{Objection, World, Move, Answer, world_after, answer_to, move_refusal, move_effect, move_answer}
+use Rattle.delivery.proofs.Words.All.{Objection, World, Move, Answer, world_after, answer_to, move_refusal, move_effect, move_answer}
 
 -- the world after a move that isn't refused
 pub made_world : (w : World) (e : Move) → move_refusal w e ≡ None → world_after w e ≡ move_effect w e

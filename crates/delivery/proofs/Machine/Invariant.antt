@@ -1,8 +1,6 @@
 -- What every world that a run leads to keeps.
 use Rattle.std.proofs.Common.{◌≡◌, ◌≢◌, ℕ, ◌<◌, ◌≤◌, true, false, ◌⊎◌, List, [], ◌∷◌, length, get_or, Some, None}
-use Rattle.delivery.proofs.Words.Topics.{stamp_lt, zero_stamp, part_at, TopicPart, topics_of, Transaction, CommitRow, stamp_of, same_id, In, names, Decision, Topic, TxnId, Stamp, LogRow, Item, IsSound, IsQueueOf, TopicState, Pending, Entry, EntryEnd, HasOneRowEach, new_topic, decided_stamp}
-use Rattle.delivery.proofs.Words.Lemmas.{Waits}
-use Rattle.delivery.proofs.Words.Machine.{log_row, item_at, World, Undecided, Leftover, SenderState, Subscription, new_sender, no_subscription}
+use Rattle.delivery.proofs.Words.All.{stamp_lt, zero_stamp, part_at, TopicPart, topics_of, Transaction, CommitRow, stamp_of, same_id, In, names, Decision, Topic, TxnId, Stamp, LogRow, Item, IsSound, IsQueueOf, TopicState, Pending, Entry, EntryEnd, HasOneRowEach, new_topic, decided_stamp, Waits, log_row, item_at, World, Undecided, Leftover, SenderState, Subscription, new_sender, no_subscription}
 use Rattle.mcast_txn.proofs.Sorting.{Apart}
 
 -- a row: a transaction with a stamp, which is its ticket or, in the commit list, its own

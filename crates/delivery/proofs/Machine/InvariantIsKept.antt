@@ -1,8 +1,5 @@
 -- Every event keeps the invariant, and the commit list of the past is the core's.
-use Rattle.delivery.proofs.Words.Std.{◌≡◌, ℕ, ◌+◌, ◌<◌, ◌≤◌, Bool, true, false, cond, not, inl, inr, List, [], ◌∷◌, ◌++◌, length, set, Option, Some, None, refl, sym, ap, subst, ◌∙◌, arith, option_or, option_map, is_some, true≢false, and_parts, ltb-true, not-false}
-use Rattle.delivery.proofs.Words.Topics.{greatest, part_at, topics_of, Transaction, CommitRow, same_id, In, names, Decision, Topic, TxnId, SentMessage, ProposeFault, LearnFault, first_refusal, Pending, Entry, propose_fault, is_pending, after_learn, due_part, after_release, after_turn, decided_stamp}
-use Rattle.delivery.proofs.Words.Lemmas.{id_equal, id_itself, at_set, NoneHolds, passes, some_same, none_some, not_true}
-use Rattle.delivery.proofs.Words.Machine.{Objection, World, Undecided, Leftover, SenderState, topic_at, new_sender, speaker, entry_at, speaker_number, Move, Answer, world_after, answer_to, move_refusal, move_effect, move_answer, undecided_at, undecided_or_none, find_leftover, find_verdict, verdict_in, has_ticket, next_txn, next_ticket, connect_effect, commit_effect, commit_answer, proposal_fault, propose_effect, propose_answer, decide_effect, withdraw_effect, cancel_effect, cancel_answer, learn_effect, learn_objection, release_answer, queue_has_room, close_effect, close_effect_of, or_out_of_memory, learn_objection_of, is_topic, move_refusals, topic_objection, txn_of_id, commits_of}
+use Rattle.delivery.proofs.Words.All.{◌≡◌, ℕ, ◌+◌, ◌<◌, ◌≤◌, Bool, true, false, cond, not, inl, inr, List, [], ◌∷◌, ◌++◌, length, set, Option, Some, None, refl, sym, ap, subst, ◌∙◌, arith, option_or, option_map, is_some, true≢false, and_parts, ltb-true, not-false, greatest, part_at, topics_of, Transaction, CommitRow, same_id, In, names, Decision, Topic, TxnId, SentMessage, ProposeFault, LearnFault, first_refusal, Pending, propose_fault, is_pending, after_learn, due_part, after_release, after_turn, decided_stamp, id_equal, id_itself, at_set, NoneHolds, passes, some_same, none_some, not_true, Objection, World, Undecided, Leftover, SenderState, topic_at, new_sender, speaker, speaker_number, Move, Answer, world_after, answer_to, move_refusal, move_effect, move_answer, undecided_at, undecided_or_none, find_leftover, find_verdict, verdict_in, has_ticket, next_txn, next_ticket, connect_effect, commit_effect, commit_answer, proposal_fault, propose_effect, propose_answer, decide_effect, withdraw_effect, cancel_effect, cancel_answer, learn_effect, learn_objection, release_answer, queue_has_room, or_out_of_memory, learn_objection_of, is_topic, move_refusals, topic_objection, txn_of_id, commits_of}
 use Rattle.mcast_group.specs.Machine.{propose_refusals}
 use Rattle.delivery.specs.Machine.Moves.Move.{AddsTopic, Connects, Commits, Subscribes, Unsubscribes, Leaves, Proposes, Decides, Withdraws, Cancels, Learns, Releases, Turns, Takes}
 use Rattle.delivery.specs.Machine.Moves.Answer.{Refused, Done, Begun, Ticket}
@@ -24,10 +21,6 @@ refusal_case P w e (Some why) h k = h why
 pub by_refusal : (P : World → Answer → Type 0) (w : World) (e : Move) → ((why : Objection) → P w (Refused why)) → (move_refusal w e ≡ None → P (move_effect w e) (move_answer w e)) → P (world_after w e) (answer_to w e)
 by_refusal P w e h k = refusal_case P w e (move_refusal w e) h k
 
-or_else_first : (a b : Option Objection) → option_or a b ≡ None → a ≡ None
-or_else_first None b e = refl
-or_else_first (Some why) b e = none_some why (sym e)
-
 -- where there is neither of two objections, there is no second one
 pub or_else_after : (a b : Option Objection) → option_or a b ≡ None → b ≡ None
 or_else_after None b e = e
@@ -35,7 +28,7 @@ or_else_after (Some why) b e = none_some why (sym e)
 
 -- what an event that isn't refused says
 pub checked : (w : World) (e : Move) → move_refusal w e ≡ None → NoneHolds (move_refusals w e)
-checked w e h = passes (move_refusals w e) (or_else_first (first_refusal (move_refusals w e)) (topic_objection w e) h)
+checked w e h = passes (move_refusals w e) ((elim (first_refusal (move_refusals w e)) as (λ (a : Option Objection). option_or a (topic_objection w e) ≡ None → a ≡ None) [ None ↦ λ e. refl | Some why ↦ λ e. none_some why (sym e) ]) h)
 
 -- the flight of an event that wants one
 pub record InFlight (w : World) (c : ℕ) : Type 0 where
@@ -71,21 +64,17 @@ pub record Reached (past : List Answer) (w : World) : Type 0 where
 
 -- ---- what is found
 
-find_verdict_case : (id : TxnId) (v u : Decision) (vs : List Decision) (b : Bool) → same_id v.id id ≡ b → (find_verdict id vs ≡ Some u → In u vs × (u.id ≡ id)) → cond b (Some v) (find_verdict id vs) ≡ Some u → In u (v ∷ vs) × (u.id ≡ id)
-find_verdict_case id v u vs true e ih d =
-    let same = some_same v u d in (inl same, subst (λ (z : Decision). z.id ≡ id) same (id_equal v.id id e))
-find_verdict_case id v u vs false e ih d = let h = ih d in (inr h.0, h.1)
-
 -- a verdict that is found is in the list, and has the id that was looked for
 pub verdict_found : (id : TxnId) (vs : List Decision) (u : Decision) → find_verdict id vs ≡ Some u → In u vs × (u.id ≡ id)
 verdict_found id [] u e = cc
-verdict_found id (v ∷ vs) u e = find_verdict_case id v u vs (same_id v.id id) refl (verdict_found id vs u) e
+verdict_found id (v ∷ vs) u e = (elim (same_id v.id id) as (λ (b : Bool). same_id v.id id ≡ b → cond b (Some v) (find_verdict id vs) ≡ Some u → In u (v ∷ vs) × (u.id ≡ id)) [
+  | true ↦ λ e d. (let same = some_same v u d in (inl same, subst (λ (z : Decision). z.id ≡ id) same (id_equal v.id id e)))
+  | false ↦ λ e d. (let h = (verdict_found id vs u) d in (inr h.0, h.1))
+]) refl e
 
 -- each verdict that the core finds is that of a committed row
 pub finds : (ts : List CommitRow) (w : World) → Holds ts w → Finds w.commits (verdict_in w)
-finds ts w inv id v e =
-    let f = verdict_found id w.verdicts v e in let k = inv.voted v f.0 in
-    record { row = k.row; stands = k.stands; id_is = k.id_is; stamp_is = k.stamp_is }
+finds ts w inv id v e = let f = verdict_found id w.verdicts v e in let k = inv.voted v f.0 in record { row = k.row; stands = k.stands; id_is = k.id_is; stamp_is = k.stamp_is }
 
 -- ---- the core keeps all, and its tickets stay, where no ticket is given
 
@@ -95,8 +84,7 @@ FewerFlights old new = (s : ℕ) (f : Undecided) → (sender_in new s).flight �
 
 -- flights are as they were made after a step for which FewerFlights holds
 pub flights_fewer : (past : List Answer) (old new : List SenderState) → FewerFlights old new → Flights past old → Flights past new
-flights_fewer past old new h k s f e =
-    let g = h s f e in subst (λ (z : Transaction). txn_of_id z.id past ≡ z) g.2 (k s g.0 g.1)
+flights_fewer past old new h k s f e = let g = h s f e in subst (λ (z : Transaction). txn_of_id z.id past ≡ z) g.2 (k s g.0 g.1)
 
 -- the same senders have no other flights
 pub same_flights : (senders : List SenderState) → FewerFlights senders senders
@@ -141,12 +129,10 @@ flown_reached past w c (first ∷ others) h =
 
     newer : (d : ℕ) (f : Undecided) → (sender_in w.senders d).flight ≡ Some f → (next_txn w c (first ∷ others)).id ≡ f.txn.id → Prim.⊥
     newer d f e k =
-        let g = (h.inv.serves d).flying f e in
-        let l : f.txn.id.seq ≤ (sender_in w.senders d).seq = g.seq_le in
+        let g = (h.inv.serves d).flying f e in let l : f.txn.id.seq ≤ (sender_in w.senders d).seq = g.seq_le in
         let m : (sender_in w.senders (speaker_number w c)).seq + 1 ≡ f.txn.id.seq = ap (λ (z : TxnId). z.seq) k in
         let n : speaker_number w c ≡ d = ap (λ (z : TxnId). z.sender.0) k ∙ g.sender in
-        let o : f.txn.id.seq ≤ (sender_in w.senders (speaker_number w c)).seq = subst (λ v. f.txn.id.seq ≤ (sender_in w.senders v).seq) (sym n) l in
-        omega arith
+        let o : f.txn.id.seq ≤ (sender_in w.senders (speaker_number w c)).seq = subst (λ v. f.txn.id.seq ≤ (sender_in w.senders v).seq) (sym n) l in omega arith
 
     old : (d : ℕ) (f : Undecided) → (sender_in w.senders d).flight ≡ Some f → txn_of_id f.txn.id (Begun (next_txn w c (first ∷ others)) ∷ past) ≡ f.txn
     old d f e =
@@ -156,11 +142,7 @@ flown_reached past w c (first ∷ others) h =
 
 -- where no ticket is given and nothing is decided or made, the past says no more of these
 quiet : (past : List Answer) (w v : World) → Reached past w → Inv (tickets past) v.commits v.verdicts v.topics v.senders v.subscriptions → FewerFlights w.senders v.senders → v.commits ≡ w.commits → Reached past v
-quiet past w v h inv few e = record {
-  inv = inv;
-  flights = flights_fewer past w.senders v.senders few h.flights;
-  commits = h.commits ∙ sym e;
-}
+quiet past w v h inv few e = record { inv = inv; flights = flights_fewer past w.senders v.senders few h.flights; commits = h.commits ∙ sym e }
 
 -- ---- propose
 
@@ -189,20 +171,12 @@ pub record Asks (w : World) (c : ℕ) (t : Topic) : Type 0 where
 -- a proposal that isn't refused is of a flight that names the topic and has no ticket of it
 pub asks_of : (w : World) (c : ℕ) (t : Topic) (memory : Bool) → move_refusal w (Proposes c t memory) ≡ None → Asks w c t
 asks_of w c t memory e =
-    let p = checked w (Proposes c t memory) e in
-    let n = and_parts (is_topic w t) (names t (topics_of (undecided_at w c).txn.sends)) (not-false _ p.1.1.1.1.0) in
+    let p = checked w (Proposes c t memory) e in let n = and_parts (is_topic w t) (names t (topics_of (undecided_at w c).txn.sends)) (not-false _ p.1.1.1.1.0) in
     record { flying = in_flight w c p.1.1.0; room = ltb-true t.0 (length w.topics) n.0; named = n.1; unheard = p.1.1.1.1.1.0 }
 
 -- so a proposal without a fault gets a new ticket
 pub new_ticket : (w : World) (c : ℕ) (t : Topic) (a : Asks w c t) → Room w c t → New w (speaker_number w c) t (undecided_at w c)
-new_ticket w c t a r = record {
-  flight = a.flying.is ∙ ap Some (sym a.flying.at);
-  room = a.room;
-  named = a.named;
-  unheard = a.unheard;
-  apart = r.apart;
-  limit = r.limit;
-}
+new_ticket w c t a r = record { flight = a.flying.is ∙ ap Some (sym a.flying.at); room = a.room; named = a.named; unheard = a.unheard; apart = r.apart; limit = r.limit }
 
 proposed_case : (past : List Answer) (w : World) (c : ℕ) (t : Topic) (memory : Bool) → Reached past w → Asks w c t → (o : Option ProposeFault) → proposal_fault w c t memory ≡ o → Reached (propose_answer w c t o ∷ past) (propose_effect w c t o)
 proposed_case past w c t memory h a None e =
@@ -242,24 +216,9 @@ withdrawn_reached past w c h e =
       commits = h.commits;
     }
 
-cancelled_case : (past : List Answer) (w : World) (c : ℕ) (t : Topic) → Reached past w → (o : Option Leftover) → find_leftover t (speaker w c).leftovers ≡ o → Reached (cancel_answer t o ∷ past) (cancel_effect w c t o)
-cancelled_case past w c t h None e = record { inv = h.inv; flights = h.flights; commits = h.commits }
-cancelled_case past w c t h (Some k) e =
-    let s = speaker_number w c in record {
-      inv = cancel_step (tickets past) w s t k h.inv e;
-      flights = flights_fewer past w.senders _ (one_kept w.senders s _ refl) h.flights;
-      commits = h.commits;
-    }
-
 no_learn_fault : (o : Option LearnFault) → option_map learn_objection_of o ≡ None → o ≡ None
 no_learn_fault None e = refl
 no_learn_fault (Some fault) e = none_some _ (sym e)
-
-learned_case : (past : List Answer) (w : World) (t : Topic) (id : TxnId) → Reached past w → (o : Option Decision) → find_verdict id w.verdicts ≡ o → learn_objection w t id o ≡ None → Holds (tickets past) (learn_effect w t id o)
-learned_case past w t id h None f e = none_some _ (sym e)
-learned_case past w t id h (Some v) f e =
-    topic_step (tickets past) w t (after_learn id (decided_stamp v) (topic_at w t)) h.inv
-    (Keeps-learned (tickets past) w.commits t (topic_at w t) id v (h.inv.tied t) (no_learn_fault _ e) (finds (tickets past) w h.inv id v f))
 
 -- a learn leaves the senders and the commit list
 pub learned_same : (w : World) (t : Topic) (id : TxnId) (o : Option Decision) → ((learn_effect w t id o).senders ≡ w.senders) × ((learn_effect w t id o).commits ≡ w.commits)
@@ -269,65 +228,52 @@ learned_same w t id (Some v) = (refl, refl)
 learned_reached : (past : List Answer) (w : World) (t : Topic) (id : TxnId) → Reached past w → move_refusal w (Learns t id) ≡ None → Reached past (move_effect w (Learns t id))
 learned_reached past w t id h e =
     let o = find_verdict id w.verdicts in let same = learned_same w t id o in record {
-      inv = learned_case past w t id h o refl (or_else_after (first_refusal (move_refusals w (Learns t id))) (learn_objection w t id o) e);
+      inv = (elim o as (λ (o : Option Decision). find_verdict id w.verdicts ≡ o → learn_objection w t id o ≡ None → Holds (tickets past) (learn_effect w t id o)) [
+        | None ↦ λ f e. none_some _ (sym e)
+        | Some v ↦ λ f e. topic_step (tickets past) w t (after_learn id (decided_stamp v) (topic_at w t)) h.inv (Keeps-learned (tickets past) w.commits t (topic_at w t) id v (h.inv.tied t) (no_learn_fault _ e) (finds (tickets past) w h.inv id v f))
+      ]) refl (or_else_after (first_refusal (move_refusals w (Learns t id))) (learn_objection w t id o) e);
       flights = subst (λ z. Flights past z) (sym same.0) h.flights;
       commits = h.commits ∙ sym same.1;
     }
 
-closed_case : (past : List Answer) (w : World) (s : ℕ) → Reached past w → (o : Option Entry) → entry_at w s ≡ o → Reached past (close_effect_of w s o)
-closed_case past w s h None e = h
-closed_case past w s h (Some entry) e = record { inv = end_step (tickets past) w s entry h.inv e; flights = h.flights; commits = h.commits }
-
-closed_reached : (past : List Answer) (w : World) (s : ℕ) → Reached past w → Reached past (close_effect w s)
-closed_reached past w s h = closed_case past w s h (entry_at w s) refl
-
 -- an outcome that says nothing of tickets, transactions and decisions
 unspoken : (past : List Answer) (w : World) (o : Answer) → tickets (o ∷ past) ≡ tickets past → ((id : TxnId) → txn_of_id id (o ∷ past) ≡ txn_of_id id past) → commits_of (o ∷ past) ≡ commits_of past → Reached past w → Reached (o ∷ past) w
-unspoken past w o a b c h = record {
-  inv = subst (λ z. Holds z w) (sym a) h.inv;
-  flights = λ s f e. b f.txn.id ∙ h.flights s f e;
-  commits = c ∙ h.commits;
-}
-
-released_unspoken : (past : List Answer) (w : World) (t : Topic) (o : Option Pending) → Reached past w → Reached (release_answer t o ∷ past) w
-released_unspoken past w t None h = record { inv = h.inv; flights = h.flights; commits = h.commits }
-released_unspoken past w t (Some p) h = record { inv = h.inv; flights = h.flights; commits = h.commits }
-
-connected_reached : (past : List Answer) (w : World) (c : ℕ) (claimed : Option ℕ) → Reached past w → Reached (Done ∷ past) (connect_effect w c claimed)
-connected_reached past w c None h = record {
-  inv = opened_step (tickets past) w h.inv;
-  flights = λ s f. at_push (λ (z : SenderState). z.flight ≡ Some f → txn_of_id f.txn.id past ≡ f.txn) w.senders s new_sender new_sender (λ d o. o) (h.flights s f);
-  commits = h.commits;
-}
-connected_reached past w c (Some s) h = record { inv = h.inv; flights = h.flights; commits = h.commits }
+unspoken past w o a b c h = record { inv = subst (λ z. Holds z w) (sym a) h.inv; flights = λ s f e. b f.txn.id ∙ h.flights s f e; commits = c ∙ h.commits }
 
 -- an event that isn't refused keeps Reached
 pub happens_reached : (past : List Answer) (w : World) (e : Move) → Reached past w → move_refusal w e ≡ None → Reached (move_answer w e ∷ past) (move_effect w e)
 happens_reached past w (AddsTopic clock) h e = record { inv = added_step (tickets past) w clock h.inv; flights = h.flights; commits = h.commits }
-happens_reached past w (Connects c claimed) h e = connected_reached past w c claimed h
+happens_reached past w (Connects c claimed) h e = elim claimed as (λ (claimed : Option ℕ). Reached (Done ∷ past) (connect_effect w c claimed)) [
+  | None ↦ record { inv = opened_step (tickets past) w h.inv; flights = λ s f. at_push (λ (z : SenderState). z.flight ≡ Some f → txn_of_id f.txn.id past ≡ f.txn) w.senders s new_sender new_sender (λ d o. o) (h.flights s f); commits = h.commits }
+  | Some s ↦ record { inv = h.inv; flights = h.flights; commits = h.commits }
+]
 happens_reached past w (Commits c sends) h e = flown_reached past w c sends h
 happens_reached past w (Subscribes c t) h e =
     let p = checked w (Subscribes c t) e in
-    record {
-      inv = subscribe_step (tickets past) w c t h.inv (ltb-true t.0 (length w.topics) (not-false _ p.1.1.1.0));
-      flights = h.flights;
-      commits = h.commits;
-    }
-happens_reached past w (Unsubscribes c s) h e = unspoken past (close_effect w s) _ refl (λ id. refl) refl (closed_reached past w s h)
+    record { inv = subscribe_step (tickets past) w c t h.inv (ltb-true t.0 (length w.topics) (not-false _ p.1.1.1.0)); flights = h.flights; commits = h.commits }
+happens_reached past w (Unsubscribes c s) h e =
+    by_found (λ v o. Reached (o ∷ past) v) w (Unsubscribes c s)
+    (record { inv = h.inv; flights = h.flights; commits = h.commits }, λ k. record { inv = end_step (tickets past) w s k.it h.inv k.is; flights = h.flights; commits = h.commits })
 happens_reached past w (Leaves c) h e =
-    by_found (λ v o. Reached (o ∷ past) v) w (Leaves c)
-    (record { inv = h.inv; flights = h.flights; commits = h.commits }, λ s. unspoken past (close_effect w s) _ refl (λ id. refl) refl (closed_reached past w s h))
+    by_found (λ v o. Reached (o ∷ past) v) w (Leaves c) (
+      record { inv = h.inv; flights = h.flights; commits = h.commits },
+      λ s. (
+        record { inv = h.inv; flights = h.flights; commits = h.commits },
+        λ k. record { inv = end_step (tickets past) w s.it k.it h.inv k.is; flights = h.flights; commits = h.commits },
+      ),
+    )
 happens_reached past w (Proposes c t memory) h e = proposed_case past w c t memory h (asks_of w c t memory e) (proposal_fault w c t memory) refl
 happens_reached past w (Decides c) h e = decided_reached past w c h e
 happens_reached past w (Withdraws c) h e = withdrawn_reached past w c h e
-happens_reached past w (Cancels c t) h e = cancelled_case past w c t h (find_leftover t (speaker w c).leftovers) refl
+happens_reached past w (Cancels c t) h e = (elim (find_leftover t (speaker w c).leftovers) as (λ (o : Option Leftover). find_leftover t (speaker w c).leftovers ≡ o → Reached (cancel_answer t o ∷ past) (cancel_effect w c t o)) [
+  | None ↦ λ e. record { inv = h.inv; flights = h.flights; commits = h.commits }
+  | Some k ↦ λ e. (let s = speaker_number w c in record { inv = cancel_step (tickets past) w s t k h.inv e; flights = flights_fewer past w.senders _ (one_kept w.senders s _ refl) h.flights; commits = h.commits })
+]) refl
 happens_reached past w (Learns t id) h e = unspoken past (move_effect w (Learns t id)) _ refl (λ id. refl) refl (learned_reached past w t id h e)
-happens_reached past w (Releases t) h e = released_unspoken past (move_effect w (Releases t)) t (due_part (topic_at w t)) (record {
-  inv = topic_step (tickets past) w t (after_release (queue_has_room w) (topic_at w t)) h.inv
-      (Keeps-release (tickets past) w.commits t (queue_has_room w) (topic_at w t) h.inv.consistent (h.inv.tied t));
-  flights = h.flights;
-  commits = h.commits;
-})
+happens_reached past w (Releases t) h e = (elim (due_part (topic_at w t)) as (λ (o : Option Pending). Reached past (move_effect w (Releases t)) → Reached (release_answer t o ∷ past) (move_effect w (Releases t))) [
+  | None ↦ λ h. record { inv = h.inv; flights = h.flights; commits = h.commits }
+  | Some p ↦ λ h. record { inv = h.inv; flights = h.flights; commits = h.commits }
+]) (record { inv = topic_step (tickets past) w t (after_release (queue_has_room w) (topic_at w t)) h.inv (Keeps-release (tickets past) w.commits t (queue_has_room w) (topic_at w t) h.inv.consistent (h.inv.tied t)); flights = h.flights; commits = h.commits })
 happens_reached past w (Turns t) h e = record {
   inv = topic_step (tickets past) w t (after_turn (queue_has_room w) (verdict_in w) (topic_at w t)) h.inv
       (Keeps-turned (tickets past) w.commits t (queue_has_room w) (verdict_in w) (topic_at w t) h.inv.consistent (finds (tickets past) w h.inv) (h.inv.tied t));

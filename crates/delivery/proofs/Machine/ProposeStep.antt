@@ -1,8 +1,5 @@
 -- A ticket is given.
-use Rattle.delivery.proofs.Words.Std.{◌≡◌, ◌≢◌, ℕ, ◌+◌, ◌<◌, ◌≤◌, ◌==◌, Bool, true, false, cond, inl, inr, List, [], ◌∷◌, length, set, Some, None, refl, sym, ap, subst, ◌∙◌, arith, ltb, true≢false, eq-eqb, cases_lt, get_or_past}
-use Rattle.delivery.proofs.Words.Topics.{stamp_lt, part_at, TopicPart, topics_of, Transaction, CommitRow, same_id, In, names, Decision, Topic, TxnId, Stamp, TopicState, Pending, new_topic, is_pending, next_number, after_propose}
-use Rattle.delivery.proofs.Words.Lemmas.{id_equal, id_same, same_topics, In-insert, In-insert_cases, insert_one, any_from, at_set_within, Waits, some_same, none_some}
-use Rattle.delivery.proofs.Words.Machine.{World, Undecided, Leftover, SenderState, new_sender, has_ticket, insert_ticket}
+use Rattle.delivery.proofs.Words.All.{◌≡◌, ◌≢◌, ℕ, ◌+◌, ◌<◌, ◌≤◌, ◌==◌, Bool, true, false, cond, inl, inr, List, [], ◌∷◌, length, set, Some, None, refl, sym, ap, subst, ◌∙◌, arith, ltb, true≢false, eq-eqb, cases_lt, get_or_past, stamp_lt, part_at, TopicPart, topics_of, Transaction, CommitRow, same_id, In, names, Decision, Topic, TxnId, Stamp, TopicState, Pending, new_topic, is_pending, next_number, after_propose, id_equal, id_same, same_topics, In-insert, In-insert_cases, insert_one, any_from, at_set_within, Waits, some_same, none_some, World, Undecided, Leftover, SenderState, new_sender, has_ticket, insert_ticket}
 use Rattle.mcast_txn.proofs.Orders.{lt_by_number, id_turned}
 use Rattle.mcast_group.proofs.Keeping.{Sound-proposed}
 use Rattle.delivery.proofs.Machine.Invariant.{row, Consistent, Uncommitted, Ticketed, Committed, Tied, topic_in, OneEach, Flies, IsLeft, Serves, sender_in, Voted, Inv, Holds}
@@ -26,8 +23,7 @@ cons_two P xs v old left right new x y i j =
 
 one_case : (a b : Stamp) (bs : List Stamp) (c : Bool) → ((g : Stamp) → In g (b ∷ bs) → a.topic.0 ≢ g.topic.0) → OneEach (b ∷ bs) → OneEach (insert_ticket a bs) → OneEach (cond c (a ∷ b ∷ bs) (b ∷ insert_ticket a bs))
 one_case a b bs true ne h ih = (ne, h)
-one_case a b bs false ne h ih =
-    ((λ g i. elim (In-insert_cases _ g a bs i) [ inl e ↦ (λ d. ne b (inl refl) (ap (λ (z : Stamp). z.topic.0) e ∙ sym d)) | inr k ↦ h.0 g k ]), ih)
+one_case a b bs false ne h ih = ((λ g i. elim (In-insert_cases _ g a bs i) [ inl e ↦ (λ d. ne b (inl refl) (ap (λ (z : Stamp). z.topic.0) e ∙ sym d)) | inr k ↦ h.0 g k ]), ih)
 
 -- no two tickets are of one topic after another topic's is inserted
 pub OneEach-insert : (a : Stamp) (bs : List Stamp) → ((g : Stamp) → In g bs → a.topic.0 ≢ g.topic.0) → OneEach bs → OneEach (insert_ticket a bs)
@@ -78,8 +74,7 @@ flies ts w s t f inv new = (inv.serves s).flying f new.flight
 
 new_stamp : (ts : List CommitRow) (w : World) (s : ℕ) (t : Topic) (b : CommitRow) → Holds ts w → In b ts → b.stamp ≡ ticket w s t → Prim.⊥
 new_stamp ts w s t b inv k e =
-    let l : b.stamp.n ≤ (topic_in w.topics t).clock = (inv.tied t).given b k (ap (λ (z : Stamp). z.topic) e) in
-    let m : b.stamp.n ≡ number w s t = ap (λ (z : Stamp). z.n) e in
+    let l : b.stamp.n ≤ (topic_in w.topics t).clock = (inv.tied t).given b k (ap (λ (z : Stamp). z.topic) e) in let m : b.stamp.n ≡ number w s t = ap (λ (z : Stamp). z.n) e in
     omega arith
 
 Consistent-enter : (ts : List CommitRow) (w : World) (s : ℕ) (t : Topic) (f : Undecided) → Holds ts w → New w s t f → Consistent (heard w s t f ∷ ts) w.commits
@@ -155,12 +150,7 @@ within_senders senders s f e = elim (cases_lt s (length senders)) [
 ]
 
 left_kept : (ts : List CommitRow) (w : World) (s d : ℕ) (t : Topic) (f : Undecided) (seq : ℕ) (k : Leftover) → IsLeft w.commits w.topics d seq k → IsLeft w.commits (set w.topics t.0 (topic_after w s t f)) d seq k
-left_kept ts w s d t f seq k h = record {
-  sender = h.sender;
-  seq_le = h.seq_le;
-  uncommitted = h.uncommitted;
-  waits = waits_kept w s t f k.id k.ticket.topic h.waits;
-}
+left_kept ts w s d t f seq k h = record { sender = h.sender; seq_le = h.seq_le; uncommitted = h.uncommitted; waits = waits_kept w s t f k.id k.ticket.topic h.waits }
 
 -- the sender whose transaction got the ticket
 Serves-here : (ts : List CommitRow) (w : World) (s : ℕ) (t : Topic) (f : Undecided) → Holds ts w → New w s t f → Serves (heard w s t f ∷ ts) w.commits (set w.topics t.0 (topic_after w s t f)) s (sender_after w s t f)

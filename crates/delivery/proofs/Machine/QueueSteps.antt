@@ -1,8 +1,5 @@
 -- How a topic's step moves the end and the queue of its subscriptions.
-use Rattle.delivery.proofs.Words.Std.{◌≡◌, ℕ, zero, suc, ◌+◌, ◌-◌, ◌<◌, ◌≤◌, ◌==◌, Bool, true, false, cond, List, [], ◌∷◌, ◌++◌, map, length, Option, Some, None, refl, sym, ap, subst, ◌∙◌, arith, eqb-true, ltb-true, true≢false, lt-ltb, length_push}
-use Rattle.delivery.proofs.Words.Topics.{Stamp, Item, TopicState, Pending, Entry, find_entry, entry_after, due_part, after_release, after_tries, after_releases, after_turn, item_of}
-use Rattle.delivery.proofs.Words.Lemmas.{none_some, after_release_if, tried_all_subs}
-use Rattle.delivery.proofs.Words.Machine.{World, subscription_at, entry_items, entry_to, queue_has_room, verdict_in}
+use Rattle.delivery.proofs.Words.All.{◌≡◌, ℕ, zero, suc, ◌+◌, ◌-◌, ◌<◌, ◌≤◌, ◌==◌, Bool, true, false, cond, List, [], ◌∷◌, ◌++◌, map, length, Option, Some, None, refl, sym, ap, subst, ◌∙◌, arith, eqb-true, ltb-true, true≢false, lt-ltb, length_push, Stamp, Item, TopicState, Pending, Entry, find_entry, entry_after, due_part, after_release, after_tries, after_releases, after_turn, item_of, none_some, after_release_if, tried_all_subs, World, subscription_at, entry_items, entry_to, queue_has_room, verdict_in}
 use Rattle.delivery.proofs.Machine.TopicSteps.{map_same, map_map}
 
 -- from one end and queue to the next: an end stays and its queue with it, the queue keeps its bound, and it is full where it ends
@@ -15,13 +12,7 @@ pub record Moves (taken capacity : ℕ) (to : Option Stamp) (xs : List Item) (en
 
 -- Moves holds where the end and the queue stay
 pub Moves-same : (taken capacity : ℕ) (to : Option Stamp) (xs : List Item) → Moves taken capacity to xs to xs
-Moves-same taken capacity to xs = record {
-  stays = λ s e. e;
-  kept = λ s e. refl;
-  grows = omega arith;
-  bound = λ l. l;
-  full = λ n s e l. none_some s (sym n ∙ e);
-}
+Moves-same taken capacity to xs = record { stays = λ s e. e; kept = λ s e. refl; grows = omega arith; bound = λ l. l; full = λ n s e l. none_some s (sym n ∙ e) }
 
 full_then : (taken capacity : ℕ) (a b c : Option Stamp) (xs ys zs : List Item) → Moves taken capacity a xs b ys → Moves taken capacity b ys c zs → a ≡ None → (s : Stamp) → c ≡ Some s → taken ≤ length xs → taken + capacity ≤ length zs
 full_then taken capacity a None c xs ys zs h k n s e l = k.full refl s e (let m = h.grows in omega arith)
@@ -75,11 +66,6 @@ number_given : (b : Bool) (e f : Entry) → e.number ≡ f.number → (cond b e 
 number_given true e f d = d
 number_given false e f d = refl
 
-number_case : (w : World) (frontier : Stamp) (item : Item) (number : ℕ) (from : Stamp) (to : Option Stamp) (accepted : List Item) → (entry_after (queue_has_room w) frontier item (entry_of number from to accepted)).number ≡ number
-number_case w frontier item number from None accepted =
-    number_given (queue_has_room w (entry_of number from None accepted)) (entry_of number from None (accepted ++ item ∷ [])) (entry_of number from (Some frontier) accepted) refl
-number_case w frontier item number from (Some end) accepted = refl
-
 -- ---- a topic
 
 -- the entries of y are those of x, each moved
@@ -113,7 +99,10 @@ released_goes w x None = Goes-same w x x refl
 released_goes w x (Some p) = record {
   step = entry_after (queue_has_room w) x.frontier (item_of p);
   are = refl;
-  number = λ e. number_case w x.frontier (item_of p) e.number e.from e.to e.accepted;
+  number = λ e. (elim e.to as (λ (to : Option Stamp). (entry_after (queue_has_room w) x.frontier (item_of p) (entry_of e.number e.from to e.accepted)).number ≡ e.number) [
+    | None ↦ number_given (queue_has_room w (entry_of e.number e.from None e.accepted)) (entry_of e.number e.from None (e.accepted ++ (item_of p) ∷ [])) (entry_of e.number e.from (Some x.frontier) e.accepted) refl
+    | Some end ↦ refl
+  ]);
   moves = λ e. delivered_case w x.frontier (item_of p) e.number e.from e.to e.accepted;
 }
 

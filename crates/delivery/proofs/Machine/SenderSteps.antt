@@ -1,14 +1,11 @@
 -- A transaction is made, is decided, is withdrawn, and its tickets are cancelled.
-use Rattle.delivery.proofs.Words.Std.{◌≡◌, ◌≢◌, ℕ, zero, suc, ◌+◌, ◌<◌, ◌≤◌, ◌==◌, Bool, true, false, cond, ◌⊎◌, inl, inr, List, [], ◌∷◌, ◌++◌, map, length, set, Some, None, refl, sym, ap, subst, ◌∙◌, arith, ltb, true≢false, eqb-true, eq-eqb}
-use Rattle.delivery.proofs.Words.Topics.{stamp_lt, greatest, topics_of, insert_topic, Transaction, CommitRow, stamp_of, same_id, In, names, Decision, Topic, TxnId, SentMessage, Stamp, Item, TopicState, new_topic, after_cancel}
-use Rattle.delivery.proofs.Words.Lemmas.{lt_irrefl, lt_asym, le_lt, id_equal, id_same, same_topics, In-append_left, In-push, In-map_cases, any_found, at_set, at_set_within, push_one, Waits, Waits-without, others, some_same, none_some}
-use Rattle.delivery.proofs.Words.Machine.{log_row, World, Undecided, Leftover, SenderState, Subscription, new_sender, has_ticket, is_complete, leftover, find_leftover, drop_leftover}
+use Rattle.delivery.proofs.Words.All.{◌≡◌, ◌≢◌, ℕ, zero, suc, ◌+◌, ◌<◌, ◌≤◌, ◌==◌, Bool, true, false, cond, ◌⊎◌, inl, inr, List, [], ◌∷◌, ◌++◌, map, length, set, Some, None, refl, sym, ap, subst, ◌∙◌, arith, ltb, true≢false, eqb-true, eq-eqb, stamp_lt, greatest, topics_of, insert_topic, Transaction, CommitRow, stamp_of, same_id, In, names, Decision, Topic, TxnId, SentMessage, Stamp, Item, TopicState, new_topic, after_cancel, lt_irrefl, lt_asym, le_lt, id_equal, id_same, same_topics, In-append_left, In-push, In-map_cases, any_found, at_set, at_set_within, push_one, Waits, Waits-without, others, some_same, none_some, log_row, World, Undecided, Leftover, SenderState, Subscription, new_sender, has_ticket, is_complete, leftover, find_leftover, drop_leftover}
 use Rattle.mcast_txn.proofs.Members.{all_at, push_two}
 use Rattle.mcast_txn.proofs.Sorting.{Apart-push}
 use Rattle.mcast_txn.proofs.Greatest.{greatest_in, greatest_past}
 use Rattle.mcast_group.proofs.Keeping.{Sound-cancelled}
 use Rattle.delivery.proofs.Machine.Invariant.{row, Consistent, Uncommitted, Committed, Itemed, Tied, topic_in, OneEach, LeftApart, Flies, IsLeft, Serves, sender_in, Voted, HasVote, sub_in, Subscribes, Inv, Holds}
-use Rattle.delivery.proofs.Machine.TopicSteps.{flies_uncommitted, Entries-same, at_topic, Subscribes-topic}
+use Rattle.delivery.proofs.Machine.TopicSteps.{flies_uncommitted, Entries-same, at_topic, Subscribes-topic, Serves-waiting}
 use Rattle.delivery.proofs.Machine.ProposeStep.{within_senders}
 
 -- ---- a change of one sender
@@ -51,17 +48,13 @@ new_flight s seq sends = record { txn = record { id = record { sender = record {
 
 none_yet : (ts cs : List CommitRow) (topics : List TopicState) (s : ℕ) (x : SenderState) (first : SentMessage) (others : List SentMessage) → Serves ts cs topics s x → (a : CommitRow) → In a ts → same_id a.txn.id (new_flight s (x.seq + 1) (first ∷ others)).txn.id ≡ true → Prim.⊥
 none_yet ts cs topics s x first others h a k e =
-    let d = id_equal a.txn.id (new_flight s (x.seq + 1) (first ∷ others)).txn.id e in
-    let l : a.txn.id.seq ≤ x.seq = h.used a k (ap (λ (z : TxnId). z.sender.0) d) in
-    let m : a.txn.id.seq ≡ x.seq + 1 = ap (λ (z : TxnId). z.seq) d in
-    omega arith
+    let d = id_equal a.txn.id (new_flight s (x.seq + 1) (first ∷ others)).txn.id e in let l : a.txn.id.seq ≤ x.seq = h.used a k (ap (λ (z : TxnId). z.sender.0) d) in
+    let m : a.txn.id.seq ≡ x.seq + 1 = ap (λ (z : TxnId). z.seq) d in omega arith
 
 -- making a transaction keeps the invariant
 pub flown_step : (ts : List CommitRow) (w : World) (s : ℕ) (first : SentMessage) (others : List SentMessage) → Holds ts w → let x = sender_in w.senders s in Inv ts w.commits w.verdicts w.topics (set w.senders s (record x { seq = x.seq + 1; flight = Some (new_flight s (x.seq + 1) (first ∷ others)) })) w.subscriptions
 flown_step ts w s first others inv =
-    let x = sender_in w.senders s in let h = inv.serves s in
-    let f = new_flight s (x.seq + 1) (first ∷ others) in
-    let none = none_yet ts w.commits w.topics s x first others h in
+    let x = sender_in w.senders s in let h = inv.serves s in let f = new_flight s (x.seq + 1) (first ∷ others) in let none = none_yet ts w.commits w.topics s x first others h in
     sender_step ts w s (record x { seq = x.seq + 1; flight = Some f }) inv (record {
       used = λ a k e. let l : a.txn.id.seq ≤ x.seq = h.used a k e in omega arith;
       floored = h.floored;
@@ -78,12 +71,7 @@ flown_step ts w s first others inv =
         some = first.topic;
         some_named = names_inserted first.topic (topics_of others);
       });
-      left = λ k i. let g = h.left k i in record {
-        sender = g.sender;
-        seq_le = let l : k.id.seq ≤ x.seq = g.seq_le in omega arith;
-        uncommitted = g.uncommitted;
-        waits = g.waits;
-      };
+      left = λ k i. let g = h.left k i in record { sender = g.sender; seq_le = let l : k.id.seq ≤ x.seq = g.seq_le in omega arith; uncommitted = g.uncommitted; waits = g.waits };
       left_older = λ k y i e. subst (λ (z : Undecided). k.id.seq < z.txn.id.seq) (some_same f y e)
           (let l : k.id.seq ≤ x.seq = (h.left k i).seq_le in omega arith);
       left_apart = h.left_apart;
@@ -161,8 +149,7 @@ record Deciding (ts : List CommitRow) (w : World) (s : ℕ) (f : Undecided) : Ty
 -- each named topic gave a complete flight a ticket
 pub complete_at : (ts : List CommitRow) (w : World) (s : ℕ) (f : Undecided) → Flies ts w.commits w.topics s (sender_in w.senders s).seq (sender_in w.senders s).floor f → is_complete f ≡ true → (t : Topic) → names t (topics_of f.txn.sends) ≡ true → TicketOf ts f.txn t
 complete_at ts w s f g all t n =
-    let q = any_found (λ (u : Topic). u.0 == t.0) (topics_of f.txn.sends) n in
-    let m = all_at (λ (u : Topic). has_ticket u f.given) q.it (topics_of f.txn.sends) all q.stands in
+    let q = any_found (λ (u : Topic). u.0 == t.0) (topics_of f.txn.sends) n in let m = all_at (λ (u : Topic). has_ticket u f.given) q.it (topics_of f.txn.sends) all q.stands in
     let v = any_found (λ (a : Stamp). a.topic.0 == q.it.0) f.given m in
     record {
       it = row f.txn v.it;
@@ -173,24 +160,15 @@ complete_at ts w s f g all t n =
 
 decision : (ts : List CommitRow) (w : World) (s : ℕ) (f : Undecided) → Holds ts w → Decides w s f → Deciding ts w s f
 decision ts w s f inv d =
-    let g = (inv.serves s).flying f d.flight in
-    let all = complete_at ts w s f g d.complete in
-    let some = all g.some g.some_named in
+    let g = (inv.serves s).flying f d.flight in let all = complete_at ts w s f g d.complete in let some = all g.some g.some_named in
     let i = there f.given some.it.stamp (g.given_all some.it some.stands some.txn_is) in
-    record {
-      flies = g;
-      ticket = g.given_in (stamp_by f) i;
-      given = i;
-      greatest = λ a k e. greatest_past f.given a.stamp (g.given_all a k e);
-      complete = all;
-    }
+    record { flies = g; ticket = g.given_in (stamp_by f) i; given = i; greatest = λ a k e. greatest_past f.given a.stamp (g.given_all a k e); complete = all }
   where
     there : (xs : List Stamp) (a : Stamp) → In a xs → In (greatest xs) xs
     there xs a i = elim (greatest_in xs) [ inl k ↦ k | inr e ↦ absurd (subst (λ z. In a z) e i) ]
 
 decided_past : (ts : List CommitRow) (w : World) (s : ℕ) (f : Undecided) (q : CommitRow) → Holds ts w → Deciding ts w s f → In q w.commits → q.txn.id.sender.0 ≡ s → stamp_lt q.stamp (stamp_by f) ≡ true
-decided_past ts w s f q inv dec k e =
-    le_lt q.stamp (sender_in w.senders s).floor (stamp_by f) ((inv.serves s).floored q k e) (dec.flies.higher (row_by f) dec.ticket refl)
+decided_past ts w s f q inv dec k e = le_lt q.stamp (sender_in w.senders s).floor (stamp_by f) ((inv.serves s).floored q k e) (dec.flies.higher (row_by f) dec.ticket refl)
 
 Consistent-decided : (ts : List CommitRow) (w : World) (s : ℕ) (f : Undecided) → Holds ts w → Deciding ts w s f → Consistent ts (w.commits ++ row_by f ∷ [])
 Consistent-decided ts w s f inv dec =
@@ -291,14 +269,7 @@ one_each (g ∷ rest) h a b (inr i) (inl j) e = absurd (h.0 a i (ap (λ (z : Sta
 one_each (g ∷ rest) h a b (inr i) (inr j) e = one_each rest h.1 a b i j e
 
 Voted-commits : (ts cs : List CommitRow) (v : Decision) (r : CommitRow) → Voted ts cs v → Voted ts (cs ++ r ∷ []) v
-Voted-commits ts cs v r h = record {
-  row = h.row;
-  stands = In-append_left h.row cs (r ∷ []) h.stands;
-  id_is = h.id_is;
-  stamp_is = h.stamp_is;
-  one_row = h.one_row;
-  all = h.all;
-}
+Voted-commits ts cs v r h = record { row = h.row; stands = In-append_left h.row cs (r ∷ []) h.stands; id_is = h.id_is; stamp_is = h.stamp_is; one_row = h.one_row; all = h.all }
 
 HasVote-more : (vs : List Decision) (v : Decision) (r : CommitRow) → HasVote vs r → HasVote (vs ++ v ∷ []) r
 HasVote-more vs v r h = record { verdict = h.verdict; stands = In-append_left h.verdict vs (v ∷ []) h.stands; id_is = h.id_is }
@@ -379,8 +350,7 @@ withdrawn_step ts w s f inv e =
       left_older = λ k y i n. none_some y n;
       left_apart = LeftApart-append x.leftovers (map (leftover f.txn.id) f.given) h.left_apart (LeftApart-given f.txn.id f.given g.given_apart)
           (λ k l i j d. let m = In-map_cases (leftover f.txn.id) l f.given j in
-          let a : k.id.seq < f.txn.id.seq = h.left_older k f i e in
-          let b : k.id.seq ≡ f.txn.id.seq = ap (λ (z : TxnId). z.seq) d ∙ ap (λ (z : Leftover). z.id.seq) (sym m.is) in
+          let a : k.id.seq < f.txn.id.seq = h.left_older k f i e in let b : k.id.seq ≡ f.txn.id.seq = ap (λ (z : TxnId). z.seq) d ∙ ap (λ (z : Leftover). z.id.seq) (sym m.is) in
           absurd (omega arith));
     })
 
@@ -391,16 +361,13 @@ pub record Taken (t : Topic) (k : Leftover) (ks : List Leftover) : Type 0 where
   pub stands : In k ks
   pub topic : k.ticket.topic ≡ t
 
-take_case : (t : Topic) (k l : Leftover) (ks : List Leftover) (b : Bool) → (k.ticket.topic.0 == t.0) ≡ b → (find_leftover t ks ≡ Some l → Taken t l ks) → cond b (Some k) (find_leftover t ks) ≡ Some l → Taken t l (k ∷ ks)
-take_case t k l ks true e ih d =
-    let same = some_same k l d in
-    record { stands = inl same; topic = subst (λ (z : Leftover). z.ticket.topic ≡ t) same (same_topics k.ticket.topic t (eqb-true k.ticket.topic.0 t.0 e)) }
-take_case t k l ks false e ih d = let h = ih d in record { stands = inr h.stands; topic = h.topic }
-
 -- a leftover ticket that is found is in the list, and is of this topic
 pub leftover_found : (t : Topic) (ks : List Leftover) (l : Leftover) → find_leftover t ks ≡ Some l → Taken t l ks
 leftover_found t [] l e = cc
-leftover_found t (k ∷ ks) l e = take_case t k l ks (k.ticket.topic.0 == t.0) refl (leftover_found t ks l) e
+leftover_found t (k ∷ ks) l e = (elim (k.ticket.topic.0 == t.0) as (λ (b : Bool). (k.ticket.topic.0 == t.0) ≡ b → cond b (Some k) (find_leftover t ks) ≡ Some l → Taken t l (k ∷ ks)) [
+  | true ↦ λ e d. (let same = some_same k l d in record { stands = inl same; topic = subst (λ (z : Leftover). z.ticket.topic ≡ t) same (same_topics k.ticket.topic t (eqb-true k.ticket.topic.0 t.0 e)) })
+  | false ↦ λ e d. (let h = (leftover_found t ks l) d in record { stands = inr h.stands; topic = h.topic })
+]) refl e
 
 drop_case : (t : Topic) (k l : Leftover) (ks : List Leftover) (b : Bool) → (In l (drop_leftover t ks) → In l ks) → In l (cond b ks (k ∷ drop_leftover t ks)) → In l (k ∷ ks)
 drop_case t k l ks true ih i = inr i
@@ -412,27 +379,21 @@ pub In-drop : (t : Topic) (l : Leftover) (ks : List Leftover) → In l (drop_lef
 In-drop t l [] i = i
 In-drop t l (k ∷ ks) i = drop_case t k l ks (k.ticket.topic.0 == t.0) (In-drop t l ks) i
 
-apart_case : (t : Topic) (k : Leftover) (ks : List Leftover) (b : Bool) → LeftApart (k ∷ ks) → LeftApart (drop_leftover t ks) → LeftApart (cond b ks (k ∷ drop_leftover t ks))
-apart_case t k ks true h ih = h.1
-apart_case t k ks false h ih = ((λ l i. h.0 l (In-drop t l ks i)), ih)
-
 LeftApart-drop : (t : Topic) (ks : List Leftover) → LeftApart ks → LeftApart (drop_leftover t ks)
 LeftApart-drop t [] h = tt
-LeftApart-drop t (k ∷ ks) h = apart_case t k ks (k.ticket.topic.0 == t.0) h (LeftApart-drop t ks h.1)
+LeftApart-drop t (k ∷ ks) h = elim (k.ticket.topic.0 == t.0) as (λ (b : Bool). LeftApart (cond b ks (k ∷ drop_leftover t ks))) [ true ↦ h.1 | false ↦ ((λ l i. h.0 l (In-drop t l ks i)), (LeftApart-drop t ks h.1)) ]
 
 -- what stays isn't of the cancelled transaction and topic
 dropped_case : (t : Topic) (k l x : Leftover) (ks : List Leftover) (b : Bool) → (x.ticket.topic.0 == t.0) ≡ b → LeftApart (x ∷ ks) → (find_leftover t ks ≡ Some k → In l (drop_leftover t ks) → l.id ≡ k.id → l.ticket.topic ≡ t → Prim.⊥) → cond b (Some x) (find_leftover t ks) ≡ Some k → In l (cond b ks (x ∷ drop_leftover t ks)) → l.id ≡ k.id → l.ticket.topic ≡ t → Prim.⊥
 dropped_case t k l x ks true e h ih f i same here =
-    let d = some_same x k f in
-    h.0 l i (ap (λ (z : Leftover). z.id) d ∙ sym same) (eqb-true x.ticket.topic.0 t.0 e ∙ ap (λ (z : Topic). z.0) (sym here))
+    let d = some_same x k f in h.0 l i (ap (λ (z : Leftover). z.id) d ∙ sym same) (eqb-true x.ticket.topic.0 t.0 e ∙ ap (λ (z : Topic). z.0) (sym here))
 dropped_case t k l x ks false e h ih f (inl d) same here =
     true≢false (sym (eq-eqb x.ticket.topic.0 t.0 (ap (λ (z : Leftover). z.ticket.topic.0) d ∙ ap (λ (z : Topic). z.0) here)) ∙ e)
 dropped_case t k l x ks false e h ih f (inr i) same here = ih f i same here
 
 dropped_apart : (t : Topic) (k l : Leftover) (ks : List Leftover) → LeftApart ks → find_leftover t ks ≡ Some k → In l (drop_leftover t ks) → l.id ≡ k.id → l.ticket.topic ≡ t → Prim.⊥
 dropped_apart t k l [] h f i same here = i
-dropped_apart t k l (x ∷ ks) h f i same here =
-    dropped_case t k l x ks (x.ticket.topic.0 == t.0) refl h (λ g j s u. dropped_apart t k l ks h.1 g j s u) f i same here
+dropped_apart t k l (x ∷ ks) h f i same here = dropped_case t k l x ks (x.ticket.topic.0 == t.0) refl h (λ g j s u. dropped_apart t k l ks h.1 g j s u) f i same here
 
 Tied-cancelled : (ts cs : List CommitRow) (t : Topic) (x : TopicState) (id : TxnId) → Uncommitted cs id → Tied ts cs t x → Tied ts cs t (after_cancel id x)
 Tied-cancelled ts cs t x id un h = record {
@@ -462,31 +423,9 @@ waits_on w t id other u ne v =
 
 -- the senders, each of whose parts waits on
 Serves-cancelled : (ts : List CommitRow) (w : World) (t : Topic) (id : TxnId) (d : ℕ) (x : SenderState) → ((f : Undecided) → x.flight ≡ Some f → f.txn.id ≡ id → Prim.⊥) → ((k : Leftover) → In k x.leftovers → k.id ≡ id → k.ticket.topic ≡ t → Prim.⊥) → Serves ts w.commits w.topics d x → Serves ts w.commits (set w.topics t.0 (after_cancel id (topic_in w.topics t))) d x
-Serves-cancelled ts w t id d x no_flight no_left h = record {
-  used = h.used;
-  floored = h.floored;
-  flying = λ f e. let g = h.flying f e in record {
-    sender = g.sender;
-    seq_le = g.seq_le;
-    newest = g.newest;
-    same = g.same;
-    higher = g.higher;
-    given_in = g.given_in;
-    given_all = g.given_all;
-    given_apart = g.given_apart;
-    waits = λ a k i. waits_on w t id f.txn.id a.stamp.topic (λ s u. no_flight f e s) (g.waits a k i);
-    some = g.some;
-    some_named = g.some_named;
-  };
-  left = λ k i. let g = h.left k i in record {
-    sender = g.sender;
-    seq_le = g.seq_le;
-    uncommitted = g.uncommitted;
-    waits = waits_on w t id k.id k.ticket.topic (no_left k i) g.waits;
-  };
-  left_older = h.left_older;
-  left_apart = h.left_apart;
-}
+Serves-cancelled ts w t id d x no_flight no_left =
+    Serves-waiting ts w.commits w.topics (set w.topics t.0 (after_cancel id (topic_in w.topics t))) d x
+    (λ f e g u. waits_on w t id f.txn.id u (λ s k. no_flight f e s)) (λ k i g. waits_on w t id k.id k.ticket.topic (no_left k i))
 
 Serves-dropped : (ts cs : List CommitRow) (topics : List TopicState) (s : ℕ) (x : SenderState) (t : Topic) → Serves ts cs topics s x → Serves ts cs topics s (record x { leftovers = drop_leftover t x.leftovers })
 Serves-dropped ts cs topics s x t h = record {

@@ -1,15 +1,8 @@
 -- What each event makes of subscriptions: where they begin and end, and how much their queues hold.
-use Rattle.delivery.proofs.Words.Std.{◌≡◌, ℕ, ◌+◌, ◌<◌, ◌≤◌, ◌==◌, nat_lt, Bool, true, false, cond, List, [], ◌∷◌, length, set, get_or, Option, Some, None, refl, sym, ap, subst, ◌∙◌, arith, length_push}
-use Rattle.delivery.proofs.Words.Topics.{part_at, Decision, Topic, TxnId, Stamp, ProposeFault, Item, TopicState, Entry, EntryEnd, find_entry, insert_entry, end_of, after_propose, after_cancel, after_learn, after_unsubscribe, decided_stamp}
-use Rattle.delivery.proofs.Words.Lemmas.{at_set, at_set_within, none_some}
-use Rattle.delivery.proofs.Words.Machine.{World, Leftover, Subscription, no_subscription, topic_at, speaker, subscription_at, entry_at, with_topic, entry_items, entry_to, accepted_at, end_at, Move, Answer, world_after, move_effect, find_leftover, find_verdict, oldest_live, commit_effect, proposal_fault, propose_effect, cancel_effect, learn_effect, take_effect, undecided_at, leave_effect, close_effect_of, AddsTopic, Commits, Subscribes, Unsubscribes, Leaves, Proposes, Cancels, Learns, Releases, Turns, Takes}
-use Rattle.delivery.proofs.Machine.Invariant.{topic_in, Owned}
-use Rattle.delivery.proofs.Machine.TopicSteps.{at_topic_from}
-use Rattle.delivery.proofs.Machine.SubscriptionSteps.{at_push_two, at_added, set_length, found_entry, new_subscription, new_entry, topic_with, taken_more}
-use Rattle.delivery.proofs.Machine.InvariantIsKept.{Reached, by_refusal}
-use Rattle.delivery.proofs.Theorem.HandedIsPrefix.{find_kept, find_inserted, ended_same, open_items}
+use Rattle.delivery.proofs.Words.All.{◌≡◌, ℕ, ◌+◌, ◌<◌, ◌≤◌, ◌==◌, nat_lt, Bool, true, false, cond, List, [], ◌∷◌, length, set, get_or, Option, Some, None, refl, sym, ap, subst, ◌∙◌, arith, length_push, is_some, Topic, Stamp, Item, TopicState, Entry, EntryEnd, find_entry, insert_entry, end_of, after_unsubscribe, at_set, at_set_within, none_some, World, Subscription, no_subscription, topic_at, subscription_at, entry_at, with_topic, entry_items, entry_to, accepted_at, end_at, Move, Answer, world_after, move_effect, take_effect, close_effect_of, AddsTopic, Subscribes, Unsubscribes, Leaves, Proposes, Cancels, Learns, Releases, Turns, Takes}
+use Rattle.delivery.proofs.Words.Steps.{topic_in, Owned, at_topic_from, at_push_two, at_added, set_length, found_entry, new_subscription, new_entry, topic_with, taken_more, Reached, by_refusal, end_by, items_by, by_found, Found, InEachCase, always}
+use Rattle.delivery.proofs.Theorem.HandedIsPrefix.{find_kept, find_inserted, ended_same, open_items, owned_entry}
 use Rattle.delivery.proofs.Machine.QueueSteps.{Moves, Moves-same, Goes, Goes-same, release_goes, turned_goes, entry_moves}
-use Rattle.delivery.proofs.Theorem.AcceptedIsDue.{end_by, items_by}
 
 -- where the span of subscription s ends, among these topics
 abbrev pub end_in : List TopicState → ℕ → Subscription → Option Stamp
@@ -23,14 +16,16 @@ items_in topics s x = items_by x.closed (find_entry s (topic_in topics x.topic).
 pub record Tell (capacity : ℕ) (x y : Subscription) (to end : Option Stamp) (xs ys : List Item) : Type 0 where
   pub topic : y.topic ≡ x.topic
   pub from : y.from ≡ x.from
+  pub owner : y.connection ≡ x.connection
+  pub closed : is_some x.closed ≡ true → is_some y.closed ≡ true
   pub stays : (s : Stamp) → to ≡ Some s → end ≡ Some s
   pub bound : length xs ≤ x.taken + capacity → length ys ≤ y.taken + capacity
 
-Tell-moves : (capacity : ℕ) (x : Subscription) (to end : Option Stamp) (xs ys : List Item) → Moves x.taken capacity to xs end ys → Tell capacity x x to end xs ys
-Tell-moves capacity x to end xs ys h = record { topic = refl; from = refl; stays = h.stays; bound = h.bound }
+Tell-moves : {capacity : ℕ} {x : Subscription} {to end : Option Stamp} {xs ys : List Item} → Moves x.taken capacity to xs end ys → Tell capacity x x to end xs ys
+Tell-moves h = record { topic = refl; from = refl; owner = refl; closed = λ e. e; stays = h.stays; bound = h.bound }
 
-Tell-same : (capacity : ℕ) (x : Subscription) (to : Option Stamp) (xs : List Item) → Tell capacity x x to to xs xs
-Tell-same capacity x to xs = record { topic = refl; from = refl; stays = λ s e. e; bound = λ l. l }
+Tell-same : {capacity : ℕ} {x : Subscription} {to : Option Stamp} {xs : List Item} → Tell capacity x x to to xs xs
+Tell-same = record { topic = refl; from = refl; owner = refl; closed = λ e. e; stays = λ s e. e; bound = λ l. l }
 
 -- of all of them; a new one has no end and no items
 pub record Tells (capacity : ℕ) (topics : List TopicState) (subs : List Subscription) (later : ℕ) (others : List TopicState) (all : List Subscription) : Type 0 where
@@ -45,12 +40,7 @@ TellsOf w v = Tells w.capacity w.topics w.subscriptions v.capacity v.topics v.su
 
 -- TellsOf holds from a core to itself
 pub Tells-same : (w : World) → TellsOf w w
-Tells-same w = record {
-  same = refl;
-  more = omega arith;
-  each = λ s l. Tell-same w.capacity (subscription_at w s) (end_at w s) (accepted_at w s);
-  fresh = λ s l m. absurd (omega arith);
-}
+Tells-same w = record { same = refl; more = omega arith; each = λ s l. Tell-same; fresh = λ s l m. absurd (omega arith) }
 
 -- ---- a step of one topic
 
@@ -77,12 +67,7 @@ pub moves_topic : (w : World) (t : Topic) (y : TopicState) → Goes w (topic_in 
 moves_topic w t y g s = moves_set w t y s (entry_moves w (topic_in w.topics t) y g s)
 
 Tells-topic : (w : World) (t : Topic) (y : TopicState) → Goes w (topic_in w.topics t) y → TellsOf w (with_topic w t y)
-Tells-topic w t y g = record {
-  same = refl;
-  more = omega arith;
-  each = λ s l. Tell-moves w.capacity (subscription_at w s) (end_at w s) (end_in (set w.topics t.0 y) s (subscription_at w s)) (accepted_at w s) (items_in (set w.topics t.0 y) s (subscription_at w s)) (moves_topic w t y g s);
-  fresh = λ s l m. absurd (omega arith);
-}
+Tells-topic w t y g = record { same = refl; more = omega arith; each = λ s l. Tell-moves (moves_topic w t y g s); fresh = λ s l m. absurd (omega arith) }
 
 Tells-added : (w : World) (clock : ℕ) → TellsOf w (move_effect w (AddsTopic clock))
 Tells-added w clock =
@@ -90,8 +75,7 @@ Tells-added w clock =
       same = refl;
       more = omega arith;
       each = λ s l. let x = subscription_at w s in
-          Tell-moves w.capacity x (end_at w s) (end_in v.topics s x) (accepted_at w s) (items_in v.topics s x)
-          (Moves-by x.taken w.capacity x.closed (entry_at w s) (find_entry s (topic_in v.topics x.topic).subscriptions)
+          Tell-moves (Moves-by x.taken w.capacity x.closed (entry_at w s) (find_entry s (topic_in v.topics x.topic).subscriptions)
           (at_added (λ u z. FoundMoves w s (find_entry s (topic_in w.topics u).subscriptions) (find_entry s z.subscriptions)) w.topics w.log_limit clock x.topic
           (λ k. k) (Moves-same x.taken w.capacity (entry_to (entry_at w s)) (entry_items (entry_at w s)))));
       fresh = λ s l m. absurd (omega arith);
@@ -102,17 +86,13 @@ Tells-added w clock =
 abbrev Empty : Option Entry → Type 0
 Empty o = (entry_to o ≡ None) × (entry_items o ≡ [])
 
-empty_case : (b : Bool) (e : Entry) (o p : Option Entry) → (Empty o → Empty p) → Empty (cond b (Some e) o) → Empty (cond b (Some e) p)
-empty_case true e o p ih h = h
-empty_case false e o p ih h = ih h
-
 empty_first : (b : Bool) (new : Entry) (o : Option Entry) → Empty (Some new) → Empty o → Empty (cond b (Some new) o)
 empty_first true new o k h = k
 empty_first false new o k h = h
 
 empty_inserted_case : (b : Bool) (n : ℕ) (e new : Entry) (es : List Entry) → Empty (Some new) → (Empty (find_entry n es) → Empty (find_entry n (insert_entry new es))) → Empty (find_entry n (e ∷ es)) → Empty (find_entry n (cond b (new ∷ e ∷ es) (e ∷ insert_entry new es)))
 empty_inserted_case true n e new es k ih h = empty_first (new.number == n) new (find_entry n (e ∷ es)) k h
-empty_inserted_case false n e new es k ih h = empty_case (e.number == n) e (find_entry n es) (find_entry n (insert_entry new es)) ih h
+empty_inserted_case false n e new es k ih h = (elim (e.number == n) as (λ (b : Bool). Empty (cond b (Some e) (find_entry n es)) → Empty (cond b (Some e) (find_entry n (insert_entry new es)))) [ true ↦ λ h. h | false ↦ λ h. ih h ]) h
 
 empty_inserted : (n : ℕ) (es : List Entry) (new : Entry) → Empty (Some new) → Empty (find_entry n es) → Empty (find_entry n (insert_entry new es))
 empty_inserted n [] new k h = empty_first (new.number == n) new None k (refl, refl)
@@ -137,8 +117,7 @@ Tells-begun past w c t r =
       each = λ s l. at_push_two (λ (z : Subscription). Tell w.capacity (subscription_at w s) z (end_at w s) (end_in v.topics s z) (accepted_at w s) (items_in v.topics s z)) w.subscriptions s (new_subscription w c t) no_subscription
           (λ k. absurd (omega arith))
           (λ ne. let x = subscription_at w s in
-          Tell-moves w.capacity x (end_at w s) (end_in v.topics s x) (accepted_at w s) (items_in v.topics s x)
-          (moves_set w t (topic_with w t) s
+          Tell-moves (moves_set w t (topic_with w t) s
           (Moves-equal x.taken w.capacity _ _ (find_inserted s (topic_in w.topics t).subscriptions (new_entry w t) (λ e. ne (sym e))))));
       fresh = λ s l k. at_push_two (λ (z : Subscription). (end_in v.topics s z ≡ None) × (items_in v.topics s z ≡ [])) w.subscriptions s (new_subscription w c t) no_subscription
           (λ e. at_topic_from (λ u z. Empty (find_entry s z.subscriptions)) w.topics t t (topic_with w t)
@@ -157,15 +136,11 @@ pub open_end : (closed : Option EntryEnd) (entry : Option Entry) → closed ≡ 
 open_end None entry e = refl
 open_end (Some end) entry e = none_some end (sym e)
 
-Tells-closed : (past : List Answer) (w : World) (s : ℕ) → Reached past w → (o : Option Entry) → entry_at w s ≡ o → TellsOf w (close_effect_of w s o)
-Tells-closed past w s r None e = Tells-same w
-Tells-closed past w s r (Some entry) e =
-    let t = (subscription_at w s).topic in let x = topic_in w.topics t in let y = after_unsubscribe s x in
-    let v = close_effect_of w s (Some entry) in let left = end_of x.frontier entry in
-    let new : Subscription = record (subscription_at w s) { closed = Some left } in
-    let f = found_entry s x.subscriptions entry e in
-    let own = subst (λ n. Owned w.subscriptions t n entry.from) f.is (r.inv.subscribes.owned t entry f.stands) in
-    let m = set_length w.subscriptions s new in
+Tells-closed : (past : List Answer) (w : World) (s : ℕ) → Reached past w → (k : Found (entry_at w s)) → TellsOf w (close_effect_of w s (Some k.it))
+Tells-closed past w s r k =
+    let entry = k.it in let e = k.is in let t = (subscription_at w s).topic in let x = topic_in w.topics t in let y = after_unsubscribe s x in
+    let v = close_effect_of w s (Some entry) in let left = end_of x.frontier entry in let new : Subscription = record (subscription_at w s) { closed = Some left } in
+    let own = owned_entry past w s r k in let m = set_length w.subscriptions s new in
     let to : end_at w s ≡ entry.to = open_end (subscription_at w s).closed (entry_at w s) own.closed ∙ ap entry_to e in
     let items : accepted_at w s ≡ entry.accepted = open_items (subscription_at w s).closed (entry_at w s) own.closed ∙ ap entry_items e in
     let kept : left.accepted ≡ entry.accepted = ended_same x.frontier entry.number entry.from entry.to entry.accepted in
@@ -177,56 +152,45 @@ Tells-closed past w s r (Some entry) e =
           (record {
             topic = refl;
             from = refl;
+            owner = refl;
+            closed = λ d. refl;
             stays = λ end d. ended_to x.frontier entry.number entry.from entry.to entry.accepted end (sym to ∙ d);
             bound = λ b. subst (λ (z : List Item). length z ≤ (subscription_at w s).taken + w.capacity) (items ∙ sym kept) b;
           }))
-          (λ ne. Tell-moves w.capacity (subscription_at w q) (end_at w q) (end_in v.topics q (subscription_at w q)) (accepted_at w q) (items_in v.topics q (subscription_at w q))
-          (moves_set w t y q (Moves-equal (subscription_at w q).taken w.capacity _ _ (find_kept s q x.subscriptions ne))));
+          (λ ne. Tell-moves (moves_set w t y q (Moves-equal (subscription_at w q).taken w.capacity _ _ (find_kept s q x.subscriptions ne))));
       fresh = λ q l k. absurd (omega arith);
     }
 
 -- ---- each event
 
-Tells-proposed : (w : World) (c : ℕ) (t : Topic) (o : Option ProposeFault) → TellsOf w (propose_effect w c t o)
-Tells-proposed w c t None =
-    let y = after_propose (speaker w c).floor (part_at (undecided_at w c).txn.id (undecided_at w c).txn.sends t) (topic_at w t) in Tells-topic w t y (Goes-same w (topic_at w t) y refl)
-Tells-proposed w c t (Some fault) = Tells-same w
+-- a topic whose subscriptions stay
+Tells-beside : (w : World) (t : Topic) (y : TopicState) → y.subscriptions ≡ (topic_at w t).subscriptions → TellsOf w (with_topic w t y)
+Tells-beside w t y same = Tells-topic w t y (Goes-same w (topic_at w t) y same)
 
-Tells-cancelled : (w : World) (c : ℕ) (t : Topic) (o : Option Leftover) → TellsOf w (cancel_effect w c t o)
-Tells-cancelled w c t None = Tells-same w
-Tells-cancelled w c t (Some k) = Tells-topic w t (after_cancel k.id (topic_at w t)) (Goes-same w (topic_at w t) (after_cancel k.id (topic_at w t)) refl)
-
-Tells-learned : (w : World) (t : Topic) (id : TxnId) (o : Option Decision) → TellsOf w (learn_effect w t id o)
-Tells-learned w t id None = Tells-same w
-Tells-learned w t id (Some v) = Tells-topic w t (after_learn id (decided_stamp v) (topic_at w t)) (Goes-same w (topic_at w t) (after_learn id (decided_stamp v) (topic_at w t)) refl)
-
-Tells-handed : (w : World) (s : ℕ) (o : Option Item) → TellsOf w (take_effect w s o)
-Tells-handed w s None = Tells-same w
-Tells-handed w s (Some item) =
+Tells-handed : (w : World) (s : ℕ) (item : Item) → TellsOf w (take_effect w s (Some item))
+Tells-handed w s item =
     let m = set_length w.subscriptions s (taken_more w s) in record {
       same = refl;
       more = omega arith;
       each = λ q l. at_set (λ (z : Subscription). Tell w.capacity (subscription_at w q) z (end_at w q) (end_in w.topics q z) (accepted_at w q) (items_in w.topics q z)) w.subscriptions s q (taken_more w s) no_subscription
           (λ k. subst (λ n. Tell w.capacity (subscription_at w n) (taken_more w s) (end_at w n) (end_in w.topics n (taken_more w s)) (accepted_at w n) (items_in w.topics n (taken_more w s))) (sym k)
-          (record { topic = refl; from = refl; stays = λ end d. d; bound = λ b. omega arith }))
-          (Tell-same w.capacity (subscription_at w q) (end_at w q) (accepted_at w q));
+          (record { topic = refl; from = refl; owner = refl; closed = λ d. d; stays = λ end d. d; bound = λ b. omega arith })) Tell-same;
       fresh = λ q l k. absurd (omega arith);
     }
 
-effect_tells : (past : List Answer) (w : World) (e : Move) → Reached past w → TellsOf w (move_effect w e)
-effect_tells past w (AddsTopic clock) r = Tells-added w clock
-effect_tells past w (Commits c sends) r = elim sends as (λ sends. TellsOf w (commit_effect w c sends)) [ [] ↦ Tells-same w | first ∷ others ↦ Tells-same w ]
-effect_tells past w (Subscribes c t) r = Tells-begun past w c t r
-effect_tells past w (Unsubscribes c s) r = Tells-closed past w s r (entry_at w s) refl
-effect_tells past w (Leaves c) r = elim (oldest_live c 0 w.subscriptions) as (λ o. TellsOf w (leave_effect w c o)) [ None ↦ Tells-same w | Some s ↦ Tells-closed past w s r (entry_at w s) refl ]
-effect_tells past w (Proposes c t memory) r = Tells-proposed w c t (proposal_fault w c t memory)
-effect_tells past w (Cancels c t) r = Tells-cancelled w c t (find_leftover t (speaker w c).leftovers)
-effect_tells past w (Learns t id) r = Tells-learned w t id (find_verdict id w.verdicts)
-effect_tells past w (Releases t) r = Tells-topic w t _ (release_goes w (topic_at w t))
-effect_tells past w (Turns t) r = Tells-topic w t _ (turned_goes w (topic_at w t))
-effect_tells past w (Takes s) r = Tells-handed w s _
-effect_tells past w _ r = Tells-same w
+effect_tells : (past : List Answer) (w : World) (e : Move) → Reached past w → InEachCase (λ v o. TellsOf w v) w e
+effect_tells past w (AddsTopic clock) r = always (Tells-added w clock)
+effect_tells past w (Subscribes c t) r = always (Tells-begun past w c t r)
+effect_tells past w (Unsubscribes c s) r = (Tells-same w, λ k. Tells-closed past w s r k)
+effect_tells past w (Leaves c) r = (Tells-same w, λ s. (Tells-same w, λ k. Tells-closed past w s.it r k))
+effect_tells past w (Proposes c t memory) r = (Tells-beside w t _ refl, λ k. Tells-same w)
+effect_tells past w (Cancels c t) r = (Tells-same w, λ k. Tells-beside w t _ refl)
+effect_tells past w (Learns t id) r = (Tells-same w, λ k. Tells-beside w t _ refl)
+effect_tells past w (Releases t) r = always (Tells-topic w t _ (release_goes w (topic_at w t)))
+effect_tells past w (Turns t) r = always (Tells-topic w t _ (turned_goes w (topic_at w t)))
+effect_tells past w (Takes s) r = (Tells-same w, λ k. Tells-handed w s k.it)
+effect_tells past w _ r = always (Tells-same w)
 
 -- each event leaves of every subscription its topic, its beginning, its end and its queue's bound
 pub step_tells : (past : List Answer) (w : World) (e : Move) → Reached past w → TellsOf w (world_after w e)
-step_tells past w e r = by_refusal (λ v o. TellsOf w v) w e (λ why. Tells-same w) (λ n. effect_tells past w e r)
+step_tells past w e r = by_refusal (λ v o. TellsOf w v) w e (λ why. Tells-same w) (λ n. by_found (λ v o. TellsOf w v) w e (effect_tells past w e r))

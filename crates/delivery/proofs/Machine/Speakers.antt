@@ -1,25 +1,17 @@
 -- Whom a connection speaks for, where a test says that it speaks for somebody, and whom it claims.
-use Rattle.delivery.proofs.Words.Std.{◌≡◌, ℕ, ◌<◌, true, false, length, get_or, Option, Some, None, refl, sym, ap, ◌∙◌, arith, set, subst, is_some, unwrap_or, true≢false, ltb-true, not-false}
-use Rattle.delivery.proofs.Words.Topics.{In}
-use Rattle.delivery.proofs.Words.Lemmas.{some_same, none_some}
-use Rattle.delivery.proofs.Words.Machine.{World, SenderState, new_sender, connection_at, sender_at, speaker, speaker_number, is_in_use, with_sender, Leftover, move_refusal, Connects}
+use Rattle.delivery.proofs.Words.All.{◌≡◌, ℕ, ◌<◌, true, false, length, get_or, Option, Some, None, refl, sym, ap, ◌∙◌, arith, set, subst, is_some, unwrap_or, true≢false, ltb-true, not-false, In, some_same, none_some, World, SenderState, new_sender, connection_at, sender_at, speaker, speaker_number, is_in_use, with_sender, Leftover, move_refusal, Connects}
 use Rattle.delivery.proofs.Machine.InvariantIsKept.{checked}
 use Rattle.delivery.proofs.Machine.SubscriptionSteps.{beyond, set_length}
 
-some_unwrapped : (o : Option ℕ) (d : ℕ) → is_some o ≡ true → o ≡ Some (unwrap_or o d)
-some_unwrapped None d e = absurd (true≢false (sym e))
-some_unwrapped (Some n) d e = refl
-
 -- a connection that has a sender speaks for the one of the speaker's number
 pub has_speaker : (w : World) (c : ℕ) → is_some (connection_at w c).sender ≡ true → (connection_at w c).sender ≡ Some (speaker_number w c)
-has_speaker w c e = some_unwrapped (connection_at w c).sender (length w.senders) e
+has_speaker w c e = (elim (connection_at w c).sender as (λ (o : Option ℕ). is_some o ≡ true → o ≡ Some (unwrap_or o (length w.senders))) [ None ↦ λ e. absurd (true≢false (sym e)) | Some n ↦ λ e. refl ]) e
 
 -- a sender that a claim goes on with is there, and isn't in use
 pub claim_there : (w : World) (c : ℕ) (claimed : Option ℕ) → move_refusal w (Connects c claimed) ≡ None → (s : ℕ) → claimed ≡ Some s → s < length w.senders
 claim_there w c None n s e = none_some s e
 claim_there w c (Some r) n s e =
-    let l : r < length w.senders = ltb-true r (length w.senders) (not-false _ (checked w (Connects c (Some r)) n).1.1.1.1.0) in
-    let d : r ≡ s = some_same r s e in omega arith
+    let l : r < length w.senders = ltb-true r (length w.senders) (not-false _ (checked w (Connects c (Some r)) n).1.1.1.1.0) in let d : r ≡ s = some_same r s e in omega arith
 
 pub claim_free : (w : World) (c : ℕ) (claimed : Option ℕ) → move_refusal w (Connects c claimed) ≡ None → (s : ℕ) → claimed ≡ Some s → is_in_use w s ≡ false
 claim_free w c None n s e = none_some s e
@@ -43,8 +35,7 @@ kept_speaker w c s y = ap (λ (n : ℕ). get_or (set w.senders s y) n new_sender
 
 -- a connection whose sender has something to cancel speaks for it
 pub cancelling_speaker : (w : World) (c : ℕ) (k : Leftover) → In k (speaker w c).leftovers → (connection_at w c).sender ≡ Some (speaker_number w c)
-cancelling_speaker w c k i = has_speaker w c (by (connection_at w c).sender i)
-  where
-    by : (o : Option ℕ) → In k (sender_at w (unwrap_or o (length w.senders))).leftovers → is_some o ≡ true
-    by None j = absurd (subst (λ (z : SenderState). In k z.leftovers) (beyond w.senders (length w.senders) new_sender (omega arith)) j)
-    by (Some s) j = refl
+cancelling_speaker w c k i = has_speaker w c ((elim (connection_at w c).sender as (λ (o : Option ℕ). In k (sender_at w (unwrap_or o (length w.senders))).leftovers → is_some o ≡ true) [
+  | None ↦ λ j. absurd (subst (λ (z : SenderState). In k z.leftovers) (beyond w.senders (length w.senders) new_sender (omega arith)) j)
+  | Some s ↦ λ j. refl
+]) i)

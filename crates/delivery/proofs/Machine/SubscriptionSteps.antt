@@ -1,8 +1,5 @@
 -- Subscriptions begin, end and are handed items; topics are added.
-use Rattle.delivery.proofs.Words.Std.{◌≡◌, ◌≢◌, ℕ, zero, suc, ◌+◌, ◌<◌, ◌≤◌, ◌==◌, Bool, true, false, cond, not, inl, inr, List, [], ◌∷◌, ◌++◌, length, get_or, set, Option, Some, None, refl, sym, ap, subst, ◌∙◌, arith, true≢false, not-true, eqb-true, eq-eqb, length_push, filter}
-use Rattle.delivery.proofs.Words.Topics.{CommitRow, In, Topic, Stamp, Item, IsSound, IsQueueOf, TopicState, Entry, EntryEnd, new_topic, find_entry, insert_entry, after_subscribe, end_of, after_unsubscribe}
-use Rattle.delivery.proofs.Words.Lemmas.{same_topics, In-insert, In-insert_cases, insert_one, In-filter, In-filter_cases, at_set, at_set_within, Waits, some_same, none_some, not_true, Sound-new}
-use Rattle.delivery.proofs.Words.Machine.{World, Subscription, SenderState, new_sender, no_subscription}
+use Rattle.delivery.proofs.Words.All.{◌≡◌, ◌≢◌, ℕ, zero, suc, ◌+◌, ◌<◌, ◌≤◌, ◌==◌, Bool, true, false, cond, not, inl, inr, List, [], ◌∷◌, ◌++◌, length, get_or, set, Option, Some, None, refl, sym, ap, subst, ◌∙◌, arith, true≢false, not-true, eqb-true, eq-eqb, length_push, filter, CommitRow, In, Topic, Stamp, Item, IsSound, IsQueueOf, TopicState, Entry, EntryEnd, new_topic, find_entry, insert_entry, after_subscribe, end_of, after_unsubscribe, same_topics, In-insert, In-insert_cases, insert_one, In-filter, In-filter_cases, at_set, at_set_within, Waits, some_same, none_some, not_true, Sound-new, World, Subscription, SenderState, new_sender, no_subscription}
 use Rattle.mcast_txn.proofs.Inserting.{insert_two}
 use Rattle.mcast_group.proofs.Queues.{Queue-ended}
 use Rattle.mcast_group.proofs.Keeping.{Sound-subscribed, Sound-unsubscribed}
@@ -146,16 +143,13 @@ pub record FoundEntry (n : ℕ) (es : List Entry) (e : Entry) : Type 0 where
   pub stands : In e es
   pub is : e.number ≡ n
 
-find_case : (n : ℕ) (x e : Entry) (es : List Entry) (b : Bool) → (x.number == n) ≡ b → (find_entry n es ≡ Some e → FoundEntry n es e) → cond b (Some x) (find_entry n es) ≡ Some e → FoundEntry n (x ∷ es) e
-find_case n x e es true k ih d =
-    let same = some_same x e d in
-    record { stands = inl same; is = ap (λ (z : Entry). z.number) (sym same) ∙ eqb-true x.number n k }
-find_case n x e es false k ih d = let h = ih d in record { stands = inr h.stands; is = h.is }
-
 -- an entry that is found is in the list, and has the number that was looked for
 pub found_entry : (n : ℕ) (es : List Entry) (e : Entry) → find_entry n es ≡ Some e → FoundEntry n es e
 found_entry n [] e d = cc
-found_entry n (x ∷ es) e d = find_case n x e es (x.number == n) refl (found_entry n es e) d
+found_entry n (x ∷ es) e d = (elim (x.number == n) as (λ (b : Bool). (x.number == n) ≡ b → cond b (Some x) (find_entry n es) ≡ Some e → FoundEntry n (x ∷ es) e) [
+  | true ↦ λ k d. (let same = some_same x e d in record { stands = inl same; is = ap (λ (z : Entry). z.number) (sym same) ∙ eqb-true x.number n k })
+  | false ↦ λ k d. (let h = (found_entry n es e) d in record { stands = inr h.stands; is = h.is })
+]) refl d
 
 -- an entry of this number is found
 pub record FindsEntry (n : ℕ) (es : List Entry) : Type 0 where
@@ -169,8 +163,7 @@ finds_case n x es false ih e = let h = ih refl in record { entry = h.entry; foun
 -- where the list has an entry of this number, one is found
 pub finds_entry : (n : ℕ) (es : List Entry) (e : Entry) → In e es → e.number ≡ n → FindsEntry n es
 finds_entry n [] e i d = absurd i
-finds_entry n (x ∷ es) e (inl k) d =
-    finds_case n x es true (λ f. absurd (true≢false f)) (eq-eqb x.number n (ap (λ (z : Entry). z.number) k ∙ d))
+finds_entry n (x ∷ es) e (inl k) d = finds_case n x es true (λ f. absurd (true≢false f)) (eq-eqb x.number n (ap (λ (z : Entry). z.number) k ∙ d))
 finds_entry n (x ∷ es) e (inr k) d = finds_case n x es (x.number == n) (λ f. finds_entry n es e k d) refl
 
 -- t without the entries of this number

@@ -1,28 +1,23 @@
 -- What a step at one topic keeps.
 use Rattle.std.proofs.Common.{◌≡◌, ℕ, ◌<◌, ◌≤◌, Bool, true, inl, inr, List, [], ◌∷◌, ◌++◌, map, set, Option, Some, None, refl, sym, ap, subst, ◌∙◌, arith}
-use Rattle.delivery.proofs.Words.Topics.{part_at, TopicPart, topics_of, Transaction, CommitRow, In, names, Decision, Topic, TxnId, Stamp, LogRow, Item, IsQueueOf, TopicState, Pending, Entry, new_topic, key, after_learn, learn_fault, entry_after, after_release_of, after_release, row_of, item_of, after_turn, decided_stamp}
-use Rattle.delivery.proofs.Words.Lemmas.{same_stamps, id_equal, id_same, same_topics, In-append_left, In-push, In-map, In-map_cases, at_set, push_one, Waits, Waits-without, others, some_same, delivered_number, More, More-same, release_keeps, turn_keeps}
-use Rattle.delivery.proofs.Words.Machine.{log_row, item_at, World, Undecided, SenderState, Subscription}
+use Rattle.delivery.proofs.Words.All.{part_at, TopicPart, topics_of, Transaction, CommitRow, In, names, Decision, Topic, TxnId, Stamp, LogRow, Item, IsQueueOf, TopicState, Pending, Entry, new_topic, key, after_learn, learn_fault, entry_after, after_release_of, after_release, row_of, item_of, after_turn, decided_stamp, same_stamps, id_equal, id_same, same_topics, In-append_left, In-push, In-map, In-map_cases, at_set, push_one, Waits, Waits-without, others, some_same, delivered_number, More, More-same, release_keeps, turn_keeps, log_row, item_at, World, Undecided, Leftover, SenderState, Subscription}
 use Rattle.mcast_group.specs.Machine.{parts_without}
 use Rattle.mcast_group.proofs.Parts.{Waits-told, each_told, Due, due_is}
 use Rattle.mcast_group.proofs.Queues.{Queue-closed, delivered_from, In-delivered_cases, More-then, More-delivered}
 use Rattle.mcast_group.proofs.Keeping.{Learns, learns_is, Sound-learned, Sound-released, next_of}
-use Rattle.delivery.proofs.Machine.Invariant.{row, Consistent, Uncommitted, Ticketed, Committed, Logged, Tied, topic_in, Flies, Serves, sender_in, sub_in, HasEntry, Owned, IsClosed, Subscribes, Inv, Holds}
+use Rattle.delivery.proofs.Machine.Invariant.{row, Consistent, Uncommitted, Ticketed, Committed, Logged, Tied, topic_in, Flies, IsLeft, Serves, sender_in, sub_in, HasEntry, Owned, IsClosed, Subscribes, Inv, Holds}
 
 -- ---- the commit list and the tickets
 
 -- a transaction is committed with one stamp
 pub one_row : (ts cs : List CommitRow) → Consistent ts cs → (r q : CommitRow) → In r cs → In q cs → r.txn ≡ q.txn → r ≡ q
 one_row ts cs all r q h k e =
-    let a = all.greatest r q h (all.from_ticket q k) (sym e) in
-    let b = all.greatest q r k (all.from_ticket r h) e in
-    let same = same_stamps r.stamp q.stamp a b in
+    let a = all.greatest r q h (all.from_ticket q k) (sym e) in let b = all.greatest q r k (all.from_ticket r h) e in let same = same_stamps r.stamp q.stamp a b in
     ap (λ (x : Transaction). row x r.stamp) e ∙ ap (row q.txn) same
 
 -- two committed rows of one id are the same row
 pub one_commit : (ts cs : List CommitRow) → Consistent ts cs → (r q : CommitRow) → In r cs → In q cs → r.txn.id ≡ q.txn.id → r ≡ q
-one_commit ts cs all r q h k e =
-    one_row ts cs all r q h k (all.one_id r q (all.from_ticket r h) (all.from_ticket q k) (id_same r.txn.id q.txn.id e))
+one_commit ts cs all r q h k e = one_row ts cs all r q h k (all.one_id r q (all.from_ticket r h) (all.from_ticket q k) (id_same r.txn.id q.txn.id e))
 
 -- the committed row of a pending part that has learnt, as its log row and its item
 pub record PartRow (cs : List CommitRow) (p : Pending) : Type 0 where
@@ -53,8 +48,7 @@ key_unlearnt p e = ap (λ (o : Option Stamp). key (record p { learnt = o })) e
 -- a pending part that has learnt a committed stamp has its committed row
 pub part_row : (ts cs : List CommitRow) (p : Pending) (s : Stamp) → Consistent ts cs → Ticketed ts p.part p.number → p.learnt ≡ Some s → Committed cs p.part.id s → PartRow cs p
 part_row ts cs p s all t e c =
-    let a = t.ticket.txn in
-    let ids : a.id ≡ c.row.txn.id = ap (λ (z : TopicPart). z.id) t.part_is ∙ sym c.id_is in
+    let a = t.ticket.txn in let ids : a.id ≡ c.row.txn.id = ap (λ (z : TopicPart). z.id) t.part_is ∙ sym c.id_is in
     let txn : a ≡ c.row.txn = all.one_id t.ticket c.row t.stands (all.from_ticket c.row c.stands) (id_same a.id c.row.txn.id ids) in
     let k : c.row.stamp ≡ key p = c.stamp_is ∙ sym (key_learnt p s e) in
     let part : part_at c.row.txn.id c.row.txn.sends p.part.topic ≡ p.part = ap (λ (z : Transaction). part_at z.id z.sends p.part.topic) (sym txn) ∙ t.part_is in
@@ -69,11 +63,9 @@ part_row ts cs p s all t e c =
 
 -- a pending part's key is a ticket of its own transaction
 key_case : (ts cs : List CommitRow) (p : Pending) → Consistent ts cs → (t : Ticketed ts p.part p.number) → ((s : Stamp) → p.learnt ≡ Some s → Committed cs p.part.id s) → (o : Option Stamp) → p.learnt ≡ o → In (row t.ticket.txn (key p)) ts
-key_case ts cs p all t c None e =
-    subst (λ z. In (row t.ticket.txn z) ts) (t.stamp_is ∙ sym (key_unlearnt p e)) t.stands
+key_case ts cs p all t c None e = subst (λ z. In (row t.ticket.txn z) ts) (t.stamp_is ∙ sym (key_unlearnt p e)) t.stands
 key_case ts cs p all t c (Some s) e =
-    let k = c s e in
-    let ids : t.ticket.txn.id ≡ k.row.txn.id = ap (λ (z : TopicPart). z.id) t.part_is ∙ sym k.id_is in
+    let k = c s e in let ids : t.ticket.txn.id ≡ k.row.txn.id = ap (λ (z : TopicPart). z.id) t.part_is ∙ sym k.id_is in
     let txn = all.one_id t.ticket k.row t.stands (all.from_ticket k.row k.stands) (id_same t.ticket.txn.id k.row.txn.id ids) in
     subst (λ z. In (row z (key p)) ts) (sym txn) (subst (λ z. In (row k.row.txn z) ts) (k.stamp_is ∙ sym (key_learnt p s e)) (all.from_ticket k.row k.stands))
 
@@ -166,8 +158,7 @@ Keeps-learned ts cs t x id v h e c = record {
 -- a topic is tied after the part that was due is released
 pub Tied-released : (ts cs : List CommitRow) (t : Topic) (x : TopicState) (takes : Entry → Bool) (p : Pending) → Consistent ts cs → Tied ts cs t x → Due p x → Tied ts cs t (after_release_of takes p x)
 Tied-released ts cs t x takes p all h due =
-    let i = due.least.stands in
-    let r = part_row ts cs p due.stamp all (h.ticketed p i) due.learnt (h.decided p i due.stamp due.learnt) in
+    let i = due.least.stands in let r = part_row ts cs p due.stamp all (h.ticketed p i) due.learnt (h.decided p i due.stamp due.learnt) in
     let here : p.part.topic ≡ t = h.sound.own p i ∙ h.topic in
     record {
       topic = h.topic;
@@ -219,8 +210,7 @@ Keeps-released ts cs t x takes p all h due = record {
 
 -- Keeps holds of a release
 pub Keeps-release : (ts cs : List CommitRow) (t : Topic) (takes : Entry → Bool) (x : TopicState) → Consistent ts cs → Tied ts cs t x → Keeps ts cs t x (after_release takes x)
-Keeps-release ts cs t takes x all h =
-    release_keeps (Keeps ts cs t x) takes x (Keeps-same ts cs t x h) (λ p e. Keeps-released ts cs t x takes p all h (due_is x p e))
+Keeps-release ts cs t takes x all h = release_keeps (Keeps ts cs t x) takes x (Keeps-same ts cs t x h) (λ p e. Keeps-released ts cs t x takes p all h (due_is x p e))
 
 -- what is found is a verdict of the commit list
 abbrev pub Finds : List CommitRow → (TxnId → Option Decision) → Type 0
@@ -238,8 +228,7 @@ Keeps-turned ts cs t takes find x all finds h =
 
 -- what is read of the topics after one was written
 pub at_topic : (P : Topic → TopicState → Type 0) (topics : List TopicState) (t u : Topic) (y : TopicState) → P t y → P u (topic_in topics u) → P u (topic_in (set topics t.0 y) u)
-at_topic P topics t u y h k =
-    at_set (P u) topics t.0 u.0 y (new_topic u 0 0) (λ e. subst (λ z. P z y) (sym (same_topics u t e)) h) k
+at_topic P topics t u y h k = at_set (P u) topics t.0 u.0 y (new_topic u 0 0) (λ e. subst (λ z. P z y) (sym (same_topics u t e)) h) k
 
 -- so too where what was there before is known
 pub at_topic_from : (P : Topic → TopicState → Type 0) (topics : List TopicState) (t u : Topic) (y : TopicState) → (P t (topic_in topics t) → P t y) → P u (topic_in topics u) → P u (topic_in (set topics t.0 y) u)
@@ -250,14 +239,15 @@ at_topic_from P topics t u y h k =
 -- an undecided transaction has no row in the commit list
 pub flies_uncommitted : (ts cs : List CommitRow) (topics : List TopicState) (s seq : ℕ) (floor : Stamp) (f : Undecided) → Flies ts cs topics s seq floor f → Uncommitted cs f.txn.id
 flies_uncommitted ts cs topics s seq floor f h r k e =
-    let d = id_equal r.txn.id f.txn.id e in
-    let l : r.txn.id.seq < f.txn.id.seq = h.newest r k (ap (λ (z : TxnId). z.sender.0) d ∙ h.sender) in
-    let m : r.txn.id.seq ≡ f.txn.id.seq = ap (λ (z : TxnId). z.seq) d in
-    absurd (omega arith)
+    let d = id_equal r.txn.id f.txn.id e in let l : r.txn.id.seq < f.txn.id.seq = h.newest r k (ap (λ (z : TxnId). z.sender.0) d ∙ h.sender) in
+    let m : r.txn.id.seq ≡ f.txn.id.seq = ap (λ (z : TxnId). z.seq) d in absurd (omega arith)
 
--- the senders, where no uncommitted part is lost
-pub Serves-topics : (ts cs : List CommitRow) (topics others : List TopicState) (s : ℕ) (x : SenderState) → ((id : TxnId) (t : Topic) → Uncommitted cs id → Waits id (topic_in topics t).pending → Waits id (topic_in others t).pending) → Serves ts cs topics s x → Serves ts cs others s x
-Serves-topics ts cs topics others s x keep h = record {
+-- a sender whose parts wait on
+pub Serves-waiting : (ts cs : List CommitRow) (topics others : List TopicState) (s : ℕ) (x : SenderState)
+    → ((f : Undecided) → x.flight ≡ Some f → Flies ts cs topics s x.seq x.floor f → (t : Topic) → Waits f.txn.id (topic_in topics t).pending → Waits f.txn.id (topic_in others t).pending)
+    → ((k : Leftover) → In k x.leftovers → IsLeft cs topics s x.seq k → Waits k.id (topic_in topics k.ticket.topic).pending → Waits k.id (topic_in others k.ticket.topic).pending)
+    → Serves ts cs topics s x → Serves ts cs others s x
+Serves-waiting ts cs topics others s x flight left h = record {
   used = h.used;
   floored = h.floored;
   flying = λ f e. let g = h.flying f e in record {
@@ -269,19 +259,19 @@ Serves-topics ts cs topics others s x keep h = record {
     given_in = g.given_in;
     given_all = g.given_all;
     given_apart = g.given_apart;
-    waits = λ a k d. keep f.txn.id a.stamp.topic (flies_uncommitted ts cs topics s x.seq x.floor f g) (g.waits a k d);
+    waits = λ a k d. flight f e g a.stamp.topic (g.waits a k d);
     some = g.some;
     some_named = g.some_named;
   };
-  left = λ k i. let g = h.left k i in record {
-    sender = g.sender;
-    seq_le = g.seq_le;
-    uncommitted = g.uncommitted;
-    waits = keep k.id k.ticket.topic g.uncommitted g.waits;
-  };
+  left = λ k i. let g = h.left k i in record { sender = g.sender; seq_le = g.seq_le; uncommitted = g.uncommitted; waits = left k i g g.waits };
   left_older = h.left_older;
   left_apart = h.left_apart;
 }
+
+-- the senders, where no uncommitted part is lost
+pub Serves-topics : (ts cs : List CommitRow) (topics others : List TopicState) (s : ℕ) (x : SenderState) → ((id : TxnId) (t : Topic) → Uncommitted cs id → Waits id (topic_in topics t).pending → Waits id (topic_in others t).pending) → Serves ts cs topics s x → Serves ts cs others s x
+Serves-topics ts cs topics others s x keep =
+    Serves-waiting ts cs topics others s x (λ f e g t. keep f.txn.id t (flies_uncommitted ts cs topics s x.seq x.floor f g)) (λ k i g. keep k.id k.ticket.topic g.uncommitted)
 
 entry_step : (x y : TopicState) (s : ℕ) (from : Stamp) → Entries x y → HasEntry s from x → HasEntry s from y
 entry_step x y s from en h = record {
@@ -300,8 +290,7 @@ owned_step subs t x y en h e i =
 
 one_step : (x y : TopicState) → Entries x y → ((e f : Entry) → In e x.subscriptions → In f x.subscriptions → e.number ≡ f.number → e ≡ f) → (e f : Entry) → In e y.subscriptions → In f y.subscriptions → e.number ≡ f.number → e ≡ f
 one_step x y en h e f i j d =
-    let m = In-map_cases en.step e x.subscriptions (subst (λ z. In e z) en.are i) in
-    let n = In-map_cases en.step f x.subscriptions (subst (λ z. In f z) en.are j) in
+    let m = In-map_cases en.step e x.subscriptions (subst (λ z. In e z) en.are i) in let n = In-map_cases en.step f x.subscriptions (subst (λ z. In f z) en.are j) in
     let a : m.from.number ≡ e.number = sym (en.number m.from) ∙ ap (λ (z : Entry). z.number) m.is in
     let b : n.from.number ≡ f.number = sym (en.number n.from) ∙ ap (λ (z : Entry). z.number) n.is in
     sym m.is ∙ (ap en.step (h m.from n.from m.stands n.stands (a ∙ (d ∙ sym b))) ∙ n.is)

@@ -1,15 +1,10 @@
 -- The verdict of a pending part is its own, and clashes with none.
-use Rattle.delivery.proofs.Words.Std.{◌≡◌, Bool, true, false, not, ◌&&◌, ◌⊎◌, inl, inr, List, [], ◌∷◌, Option, Some, None, refl, sym, ap, ◌∙◌, list_any, true≢false, not-true, and_parts, and_from, or_from}
-use Rattle.delivery.proofs.Words.Topics.{TopicPart, Transaction, CommitRow, same_id, In, Decision, Topic, TxnId, Stamp, LearnFault, TopicState, Pending, HasOneRowEach, key, find_pending, learn_fault, decided_stamp}
-use Rattle.delivery.proofs.Words.Lemmas.{id_same, any_found, any_from, found_part, not_true}
-use Rattle.delivery.proofs.Words.Machine.{World, verdict_in, find_verdict}
+use Rattle.delivery.proofs.Words.All.{◌≡◌, Bool, true, false, not, ◌&&◌, ◌⊎◌, inl, inr, List, [], ◌∷◌, Option, Some, None, refl, sym, ap, ◌∙◌, list_any, true≢false, not-true, and_parts, and_from, or_from, TopicPart, Transaction, CommitRow, same_id, In, Decision, Topic, TxnId, Stamp, LearnFault, TopicState, Pending, HasOneRowEach, key, find_pending, learn_fault, decided_stamp, id_same, any_found, any_from, found_part, not_true, World, verdict_in, find_verdict}
 use Rattle.mcast_txn.proofs.Orders.{same_stamp_is, same_stamp_from}
 use Rattle.mcast_group.specs.Fitting.{Fits, FoundHaveOneRowEach}
 use Rattle.mcast_group.specs.Machine.{has_row, is_foreign, has_learnt_other, clashes, learn_fault_of}
 use Rattle.mcast_txn.specs.Stamp.{same_stamp}
-use Rattle.delivery.proofs.Machine.Invariant.{row, topic_in, Holds}
-use Rattle.delivery.proofs.Machine.TopicSteps.{one_commit, key_ticket}
-use Rattle.delivery.proofs.Machine.InvariantIsKept.{verdict_found}
+use Rattle.delivery.proofs.Words.Steps.{row, topic_in, Holds, one_commit, key_ticket, verdict_found}
 
 -- the verdict of a pending part
 pub record OwnVerdict (v : Decision) (p : Pending) (x : TopicState) : Type 0 where
@@ -25,10 +20,8 @@ learnt_case v p h (Some s) e = rw (same_stamp_from s (decided_stamp v) (h s e)) 
 -- a verdict of a pending part's transaction is the part's own
 pub own_verdict : (ts : List CommitRow) (w : World) (t : Topic) (p : Pending) (v : Decision) → Holds ts w → In p (topic_in w.topics t).pending → In v w.verdicts → v.id ≡ p.part.id → OwnVerdict v p (topic_in w.topics t)
 own_verdict ts w t p v inv i j e =
-    let x = topic_in w.topics t in let k = inv.tied t in let all = inv.consistent in
-    let g = inv.voted v j in let a = k.ticketed p i in
-    let ids : a.ticket.txn.id ≡ g.row.txn.id = ap (λ (z : TopicPart). z.id) a.part_is ∙ (sym e ∙ sym g.id_is) in
-    let from = all.from_ticket g.row g.stands in
+    let x = topic_in w.topics t in let k = inv.tied t in let all = inv.consistent in let g = inv.voted v j in let a = k.ticketed p i in
+    let ids : a.ticket.txn.id ≡ g.row.txn.id = ap (λ (z : TopicPart). z.id) a.part_is ∙ (sym e ∙ sym g.id_is) in let from = all.from_ticket g.row g.stands in
     let txn : a.ticket.txn ≡ g.row.txn = all.one_id a.ticket g.row a.stands from (id_same a.ticket.txn.id g.row.txn.id ids) in
     let here : Stamp = record { n = p.number; topic = p.part.topic } in
     let found = any_from (same_stamp here) a.ticket.stamp v.rows (g.all a.ticket a.stands txn) (same_stamp_from here a.ticket.stamp (sym a.stamp_is)) in
@@ -43,8 +36,7 @@ own_verdict ts w t p v inv i j e =
           (learnt_case v p learnt p.learnt refl)
           (not_true (list_any (λ (q : Pending). not (same_id q.part.id p.part.id) && same_stamp (key q) (decided_stamp v)) x.pending) refl (λ n.
           let f = any_found (λ (q : Pending). not (same_id q.part.id p.part.id) && same_stamp (key q) (decided_stamp v)) x.pending n in
-          let parts = and_parts (not (same_id f.it.part.id p.part.id)) (same_stamp (key f.it) (decided_stamp v)) f.passes in
-          let b = k.ticketed f.it f.stands in
+          let parts = and_parts (not (same_id f.it.part.id p.part.id)) (same_stamp (key f.it) (decided_stamp v)) f.passes in let b = k.ticketed f.it f.stands in
           let same : b.ticket.txn ≡ g.row.txn = all.one_txn (row b.ticket.txn (key f.it)) g.row
           (key_ticket ts w.commits t x f.it all k f.stands) from (same_stamp_is (key f.it) (decided_stamp v) parts.1 ∙ sym g.stamp_is) in
           let d : f.it.part.id ≡ p.part.id = ap (λ (z : TopicPart). z.id) (sym b.part_is) ∙ (ap (λ (z : Transaction). z.id) same ∙ (g.id_is ∙ e)) in
@@ -56,15 +48,11 @@ own_verdict ts w t p v inv i j e =
 learn_found : (ts : List CommitRow) (w : World) (t : Topic) (id : TxnId) (v : Decision) → Holds ts w → In v w.verdicts → v.id ≡ id → (o : Option Pending) → find_pending id (topic_in w.topics t).pending ≡ o → (learn_fault_of v (topic_in w.topics t).pending o ≡ None) ⊎ (learn_fault_of v (topic_in w.topics t).pending o ≡ Some LearnFault.NotPending)
 learn_found ts w t id v inv i e None f = inr refl
 learn_found ts w t id v inv i e (Some p) f =
-    let k = found_part id (topic_in w.topics t).pending p f in
-    let o = own_verdict ts w t p v inv k.stands i (e ∙ sym k.is) in
-    inl (rw (o.own, o.alone) refl)
+    let k = found_part id (topic_in w.topics t).pending p f in let o = own_verdict ts w t p v inv k.stands i (e ∙ sym k.is) in inl (rw (o.own, o.alone) refl)
 
 -- a verdict that the core finds is learnt, or refused because nothing of it is pending
 pub learn_fault_is : (ts : List CommitRow) (w : World) (t : Topic) (id : TxnId) (v : Decision) → Holds ts w → verdict_in w id ≡ Some v → (learn_fault id v (topic_in w.topics t) ≡ None) ⊎ (learn_fault id v (topic_in w.topics t) ≡ Some LearnFault.NotPending)
-learn_fault_is ts w t id v inv e =
-    let f = verdict_found id w.verdicts v e in
-    learn_found ts w t id v inv f.0 f.1 (find_pending id (topic_in w.topics t).pending) refl
+learn_fault_is ts w t id v inv e = let f = verdict_found id w.verdicts v e in learn_found ts w t id v inv f.0 f.1 (find_pending id (topic_in w.topics t).pending) refl
 
 -- ---- where each pending part is committed, the verdicts fit
 
@@ -93,14 +81,11 @@ pub record HasCommit (cs : List CommitRow) (id : TxnId) : Type 0 where
 pub fits : (ts : List CommitRow) (w : World) (t : Topic) → Holds ts w → ((p : Pending) → In p (topic_in w.topics t).pending → HasCommit w.commits p.part.id) → Fits (verdict_in w) (topic_in w.topics t)
 fits ts w t inv all = record {
   each = λ p i.
-      let c = all p i in let vote = inv.counted c.row c.stands in
-      let f = finds_verdict p.part.id w.verdicts vote.verdict vote.stands (vote.id_is ∙ c.id_is) in
-      let g = verdict_found p.part.id w.verdicts f.verdict f.found in
-      let o = own_verdict ts w t p f.verdict inv i g.0 g.1 in
+      let c = all p i in let vote = inv.counted c.row c.stands in let f = finds_verdict p.part.id w.verdicts vote.verdict vote.stands (vote.id_is ∙ c.id_is) in
+      let g = verdict_found p.part.id w.verdicts f.verdict f.found in let o = own_verdict ts w t p f.verdict inv i g.0 g.1 in
       record { verdict = f.verdict; found = f.found; own = o.own; learnt = o.learnt };
   differ = λ p q v u i j e f s.
-      let a = verdict_found p.part.id w.verdicts v e in let b = verdict_found q.part.id w.verdicts u f in
-      let g = inv.voted v a.0 in let h = inv.voted u b.0 in
+      let a = verdict_found p.part.id w.verdicts v e in let b = verdict_found q.part.id w.verdicts u f in let g = inv.voted v a.0 in let h = inv.voted u b.0 in
       let txn = inv.consistent.one_txn g.row h.row (inv.consistent.from_ticket g.row g.stands) (inv.consistent.from_ticket h.row h.stands)
       (g.stamp_is ∙ (s ∙ sym h.stamp_is)) in
       id_same p.part.id q.part.id (sym a.1 ∙ (sym g.id_is ∙ (ap (λ (z : Transaction). z.id) txn ∙ (h.id_is ∙ b.1))));

@@ -1,8 +1,5 @@
 -- What follows of queues, the agreed sequence and stamps.
-use Rattle.delivery.proofs.Words.Std.{◌≡◌, ℕ, zero, suc, ◌+◌, ◌<◌, Bool, true, false, not, ◌&&◌, ◌⊎◌, inl, inr, List, [], ◌∷◌, map, length, get_or, Option, Some, None, refl, sym, ap, subst, ◌∙◌, arith, list_any, true≢false, not-true, and_parts, and_from, lt-ltb, cases_order, filter}
-use Rattle.delivery.proofs.Words.Topics.{stamp_lt, TopicPart, topics_of, CommitRow, committed_id, stamp_of, agreed, EachOnce, SenderOrder, same_id, In, Rises, names, Topic, TxnId, Stamp, Item, Span, in_span, last_stamp, item_stamp, IsQueueOf, TopicState, Entry, EntryEnd, new_topic, find_entry, key}
-use Rattle.delivery.proofs.Words.Lemmas.{lt_irrefl, lt_asym, lt_le, id_equal, id_same, In-map, In-map_cases, In-filter, In-filter_cases, any_found, any_from, In-sorted, In-sorted_cases, Rises-sorted, Rises-filter, Rises-map, same_rising, Waits, none_some, Sound-new}
-use Rattle.delivery.proofs.Words.Machine.{log_row, item_at, is_due, due, World, start, new_topics, subscription_at, entry_at, entry_items, entry_to, accepted_at, end_at, span_at, frontier_at, Move, Answer, world_after, answer_to, run, answers_from, Run, answers_of, final_world, shared_marks}
+use Rattle.delivery.proofs.Words.All.{◌≡◌, ℕ, zero, suc, ◌+◌, ◌<◌, Bool, true, false, not, ◌&&◌, ◌⊎◌, inl, inr, List, [], ◌∷◌, map, length, get_or, Option, Some, None, refl, sym, ap, subst, ◌∙◌, arith, list_any, true≢false, not-true, and_parts, and_from, lt-ltb, cases_order, filter, stamp_lt, TopicPart, topics_of, CommitRow, committed_id, stamp_of, agreed, EachOnce, SenderOrder, same_id, In, Rises, names, Topic, TxnId, Stamp, Item, Span, in_span, last_stamp, item_stamp, IsQueueOf, TopicState, Entry, EntryEnd, new_topic, find_entry, key, lt_irrefl, lt_asym, lt_le, id_equal, id_same, In-map, In-map_cases, In-filter, In-filter_cases, any_found, any_from, In-sorted, In-sorted_cases, Rises-sorted, Rises-filter, Rises-map, same_rising, Waits, none_some, Sound-new, log_row, item_at, is_due, due, World, start, new_topics, subscription_at, entry_at, entry_items, entry_to, accepted_at, end_at, span_at, frontier_at, Move, Answer, world_after, answer_to, run, answers_from, Run, answers_of, final_world, shared_marks}
 use Rattle.mcast_txn.specs.declared.id.Sender.{Sender}
 use Rattle.mcast_txn.specs.Span.{item_mark}
 use Rattle.delivery.specs.Theorem.Laws
@@ -94,9 +91,7 @@ span t from to = record { topic = t; from = from; to = to }
 pub in_log : (ts : List CommitRow) (w : World) (t : Topic) (r : CommitRow) → Holds ts w → In r w.commits → stamp_lt (topic_in w.topics t).frontier r.stamp ≡ false → In (log_row r) (topic_in w.topics t).held ⊎ Waits r.txn.id (topic_in w.topics t).pending → In (log_row r) (topic_in w.topics t).held
 in_log ts w t r inv i f (inl l) = l
 in_log ts w t r inv i f (inr v) =
-    let k = inv.tied t in let x = topic_in w.topics t in
-    let p = v.part in
-    let a = (k.ticketed p v.stands).ticket in
+    let k = inv.tied t in let x = topic_in w.topics t in let p = v.part in let a = (k.ticketed p v.stands).ticket in
     let ids : a.txn.id ≡ r.txn.id = ap (λ (z : TopicPart). z.id) (k.ticketed p v.stands).part_is ∙ v.is in
     let txn : a.txn ≡ r.txn = inv.consistent.one_id a r (k.ticketed p v.stands).stands (inv.consistent.from_ticket r i) (id_same a.txn.id r.txn.id ids) in
     let below = inv.consistent.greatest r (row a.txn (key p)) i (key_ticket ts w.commits t x p inv.consistent k v.stands) txn in
@@ -112,8 +107,7 @@ queue_is_due ts w t from to accepted inv h items =
   where
     to_due : (i : Item) → In i accepted → In i (due w.commits (span t from to) (topic_in w.topics t).frontier)
     to_due i k =
-        let x = topic_in w.topics t in let g = items i k in
-        let e : g.row.stamp ≡ i.stamp = ap (λ (z : Item). z.stamp) g.is in
+        let x = topic_in w.topics t in let g = items i k in let e : g.row.stamp ≡ i.stamp = ap (λ (z : Item). z.stamp) g.is in
         subst (λ z. In z (due w.commits (span t from to) x.frontier)) g.is
         (In-map (item_at t) g.row (filter (is_due (span t from to) x.frontier) (agreed w.commits))
         (In-filter (is_due (span t from to) x.frontier) g.row (agreed w.commits) (In-sorted stamp_of g.row w.commits g.stands)
@@ -123,17 +117,12 @@ queue_is_due ts w t from to accepted inv h items =
 
     from_due : (i : Item) → In i (due w.commits (span t from to) (topic_in w.topics t).frontier) → In i accepted
     from_due i k =
-        let x = topic_in w.topics t in
-        let m = In-map_cases (item_at t) i (filter (is_due (span t from to) x.frontier) (agreed w.commits)) k in
-        let n = In-filter_cases (is_due (span t from to) x.frontier) m.from (agreed w.commits) m.stands in
-        let r = m.from in
+        let x = topic_in w.topics t in let m = In-map_cases (item_at t) i (filter (is_due (span t from to) x.frontier) (agreed w.commits)) k in
+        let n = In-filter_cases (is_due (span t from to) x.frontier) m.from (agreed w.commits) m.stands in let r = m.from in
         let a = and_parts (names t (topics_of r.txn.sends) && in_span from to r.stamp) (not (stamp_lt x.frontier r.stamp)) n.passes in
-        let b = and_parts (names t (topics_of r.txn.sends)) (in_span from to r.stamp) a.0 in
-        let old = In-sorted_cases stamp_of r w.commits n.stands in
-        let l = in_log ts w t r inv old (not-true (stamp_lt x.frontier r.stamp) a.1) ((inv.tied t).placed r old b.0) in
-        let j = h.all_rows (log_row r) l b.1 in
-        let g = items j.item j.stands in
-        let same : g.row ≡ r = one_commit ts w.commits inv.consistent g.row r g.stands old (ap (λ (z : Item). z.id) g.is ∙ j.is.id) in
+        let b = and_parts (names t (topics_of r.txn.sends)) (in_span from to r.stamp) a.0 in let old = In-sorted_cases stamp_of r w.commits n.stands in
+        let l = in_log ts w t r inv old (not-true (stamp_lt x.frontier r.stamp) a.1) ((inv.tied t).placed r old b.0) in let j = h.all_rows (log_row r) l b.1 in
+        let g = items j.item j.stands in let same : g.row ≡ r = one_commit ts w.commits inv.consistent g.row r g.stands old (ap (λ (z : Item). z.id) g.is ∙ j.is.id) in
         subst (λ z. In z accepted) (sym g.is ∙ (ap (item_at t) same ∙ m.is)) j.stands
 
 -- what a queue has accepted: by what the closed subscription left, or by its entry
@@ -150,36 +139,29 @@ pub record Queued (w : World) (t : Topic) (from : Stamp) (to : Option Stamp) (ac
   pub items : (i : Item) → In i accepted → Itemed w.commits t i
 
 queued_entry : (ts : List CommitRow) (w : World) (s : ℕ) (t : Topic) (from : Stamp) → Holds ts w → (h : HasEntry s from (topic_in w.topics t)) → (o : Option Entry) → find_entry s (topic_in w.topics t).subscriptions ≡ o → Queued w t from (entry_to o) (entry_items o)
-queued_entry ts w s t from inv h None e =
-    let f = finds_entry s (topic_in w.topics t).subscriptions h.entry h.stands h.number in none_some f.entry (sym e ∙ f.found)
+queued_entry ts w s t from inv h None e = let f = finds_entry s (topic_in w.topics t).subscriptions h.entry h.stands h.number in none_some f.entry (sym e ∙ f.found)
 queued_entry ts w s t from inv h (Some entry) e =
-    let f = found_entry s (topic_in w.topics t).subscriptions entry e in
-    let same : entry ≡ h.entry = inv.subscribes.one t entry h.entry f.stands h.stands (f.is ∙ sym h.number) in
+    let f = found_entry s (topic_in w.topics t).subscriptions entry e in let same : entry ≡ h.entry = inv.subscribes.one t entry h.entry f.stands h.stands (f.is ∙ sym h.number) in
     subst (λ z. Queued w t z entry.to entry.accepted) (ap (λ (z : Entry). z.from) same ∙ h.from_is) (record {
       queue = (inv.tied t).sound.queues entry f.stands;
       items = (inv.tied t).items entry f.stands;
     })
 
-queued_case : (ts : List CommitRow) (w : World) (s : ℕ) → Holds ts w → s < length w.subscriptions → (o : Option EntryEnd) → (subscription_at w s).closed ≡ o → Queued w (subscription_at w s).topic (subscription_at w s).from (end_by o (entry_at w s)) (items_by o (entry_at w s))
-queued_case ts w s inv l None e =
-    queued_entry ts w s (subscription_at w s).topic (subscription_at w s).from inv (inv.subscribes.live s l e) (entry_at w s) refl
-queued_case ts w s inv l (Some end) e =
-    let k = inv.subscribes.closed s end e in record { queue = k.queue; items = k.items }
-
 -- what each subscription's queue has accepted is so
 pub queued : (ts : List CommitRow) (w : World) (s : ℕ) → Holds ts w → s < length w.subscriptions → Queued w (subscription_at w s).topic (subscription_at w s).from (end_at w s) (accepted_at w s)
-queued ts w s inv l = queued_case ts w s inv l (subscription_at w s).closed refl
+queued ts w s inv l = (elim (subscription_at w s).closed as (λ (o : Option EntryEnd). (subscription_at w s).closed ≡ o → Queued w (subscription_at w s).topic (subscription_at w s).from (end_by o (entry_at w s)) (items_by o (entry_at w s))) [
+  | None ↦ λ e. queued_entry ts w s (subscription_at w s).topic (subscription_at w s).from inv (inv.subscribes.live s l e) (entry_at w s) refl
+  | Some end ↦ λ e. (let k = inv.subscribes.closed s end e in record { queue = k.queue; items = k.items })
+]) refl
 
 -- the stamp of the last row of the log is the frontier
 pub frontier_is : (ts : List CommitRow) (w : World) (t : Topic) → Holds ts w → (topic_in w.topics t).frontier ≡ frontier_at w t
-frontier_is ts w t inv =
-    let k = inv.tied t in k.sound.frontier ∙ ap (λ z. last_stamp z (topic_in w.topics t).held) k.undrained
+frontier_is ts w t inv = let k = inv.tied t in k.sound.frontier ∙ ap (λ z. last_stamp z (topic_in w.topics t).held) k.undrained
 
 -- what a subscription's queue has accepted is what is due to it
 pub accepted_is_due : Laws.AcceptedIsDue
 accepted_is_due r s l =
-    let h = reached r in let w = final_world r in let t = (subscription_at w s).topic in
-    let q = queued (tickets (answers_of r)) w s h.inv l in
+    let h = reached r in let w = final_world r in let t = (subscription_at w s).topic in let q = queued (tickets (answers_of r)) w s h.inv l in
     queue_is_due (tickets (answers_of r)) w t (subscription_at w s).from (end_at w s) (accepted_at w s) h.inv q.queue q.items
     ∙ (ap (due w.commits (span_at w s)) (frontier_is (tickets (answers_of r)) w t h.inv)
     ∙ ap (λ z. due z (span_at w s) (frontier_at w t)) (sym h.commits))
@@ -253,11 +235,8 @@ place id stamp = record { id = id; stamp = stamp }
 -- what stands in both
 shared_to : (cs : List CommitRow) (ts : List CommitRow) (t u : Topic) (xs ys : List Item) → Consistent ts cs → ((i : Item) → In i xs → Itemed cs t i) → ((i : Item) → In i ys → Itemed cs u i) → (p : Mark) → In p (shared_marks xs ys) → In p (shared_marks ys xs)
 shared_to cs ts t u xs ys all hx hy p k =
-    let m = In-filter_cases (is_in ys) p (map item_mark xs) k in
-    let n = In-map_cases item_mark p xs m.stands in
-    let f = any_found (λ (i : Item). same_id i.id p.id) ys m.passes in
-    let a = hx n.from n.stands in let b = hy f.it f.stands in
-    let ida : a.row.txn.id ≡ p.id = ap (λ (z : Item). z.id) a.is ∙ ap (λ (z : Mark). z.id) n.is in
+    let m = In-filter_cases (is_in ys) p (map item_mark xs) k in let n = In-map_cases item_mark p xs m.stands in let f = any_found (λ (i : Item). same_id i.id p.id) ys m.passes in
+    let a = hx n.from n.stands in let b = hy f.it f.stands in let ida : a.row.txn.id ≡ p.id = ap (λ (z : Item). z.id) a.is ∙ ap (λ (z : Mark). z.id) n.is in
     let idb : b.row.txn.id ≡ p.id = ap (λ (z : Item). z.id) b.is ∙ id_equal f.it.id p.id f.passes in
     let same : b.row ≡ a.row = one_commit ts cs all b.row a.row b.stands a.stands (idb ∙ sym ida) in
     let stamp : f.it.stamp ≡ p.stamp = ap (λ (z : Item). z.stamp) (sym b.is) ∙ (ap stamp_of same ∙ (ap (λ (z : Item). z.stamp) a.is ∙ ap (λ (z : Mark). z.stamp) n.is)) in
@@ -272,8 +251,7 @@ shared_rises xs ys h = Rises-filter place_stamp (is_in ys) (map item_mark xs) (R
 -- two subscriptions have the transactions that they share in one order
 pub shared_in_one_order : Laws.SharedInOneOrder
 shared_in_one_order r s q l m =
-    let h = reached r in let w = final_world r in
-    let a = queued (tickets (answers_of r)) w s h.inv l in let b = queued (tickets (answers_of r)) w q h.inv m in
+    let h = reached r in let w = final_world r in let a = queued (tickets (answers_of r)) w s h.inv l in let b = queued (tickets (answers_of r)) w q h.inv m in
     let xs = accepted_at w s in let ys = accepted_at w q in
     same_rising place_stamp (shared_marks xs ys) (shared_marks ys xs) (shared_rises xs ys a.queue.rises) (shared_rises ys xs b.queue.rises)
     (shared_to w.commits (tickets (answers_of r)) (subscription_at w s).topic (subscription_at w q).topic xs ys h.inv.consistent a.items b.items)

@@ -1,16 +1,10 @@
 -- A subscription is closed as its event is answered, and what it left stays; an open span ends with its topic's frontier.
-use Rattle.delivery.proofs.Words.Std.{◌≡◌, ◌≢◌, ℕ, ◌+◌, ◌<◌, ◌==◌, true, not, ◌⊎◌, inl, inr, List, length, get_or, Option, Some, None, refl, sym, ap, subst, ◌∙◌, arith, ltb, is_some, ltb-true, and_parts, cases_order, not-false, not-true, get_or_past}
-use Rattle.delivery.proofs.Words.Topics.{zero_stamp, Topic, Stamp, Item, Entry, EntryEnd, end_of}
-use Rattle.delivery.proofs.Words.Lemmas.{at_set, at_set_within, some_same, none_some}
-use Rattle.delivery.proofs.Words.Machine.{World, Subscription, no_subscription, topic_at, subscription_at, entry_at, entry_items, entry_to, accepted_at, end_at, Move, Answer, world_after, answer_to, move_refusal, move_effect, move_answer, is_live, oldest_live, take_effect, take_answer, leave_effect, leave_answer, close_effect_of, Run, answers_of, final_world, cause_of, Subscribes, Unsubscribes, Leaves, Takes, Unsubscribed}
+use Rattle.delivery.proofs.Words.All.{◌≡◌, ◌≢◌, ℕ, ◌<◌, ◌⊎◌, inl, inr, List, length, get_or, Option, Some, None, refl, sym, ap, subst, ◌∙◌, arith, ltb, ltb-true, and_parts, cases_order, not-false, get_or_past, zero_stamp, Topic, Stamp, Item, Entry, EntryEnd, end_of, at_set, at_set_within, some_same, none_some, World, Subscription, no_subscription, topic_at, subscription_at, entry_at, entry_items, entry_to, accepted_at, end_at, Move, Answer, world_after, answer_to, move_refusal, move_effect, move_answer, is_live, oldest_live, take_effect, take_answer, leave_effect, leave_answer, close_effect_of, Run, answers_of, final_world, cause_of, Subscribes, Unsubscribes, Leaves, Takes, Unsubscribed}
 use Rattle.delivery.specs.Theorem.Spans
-use Rattle.delivery.proofs.Machine.SubscriptionSteps.{at_push_two, new_subscription, taken_more}
-use Rattle.delivery.proofs.Machine.InvariantIsKept.{Reached, by_refusal, checked}
-use Rattle.delivery.proofs.Machine.ByFound.{by_found}
-use Rattle.delivery.proofs.Theorem.AcceptedIsDue.{reached}
-use Rattle.delivery.proofs.Theorem.ClosedIsSilent.{oldest_found, none_of, no_entry}
+use Rattle.delivery.proofs.Words.Steps.{at_push_two, new_subscription, taken_more, Reached, by_refusal, checked, by_found, Found, reached, is_oldest}
+use Rattle.delivery.proofs.Theorem.SpansAsAnswered.{live_entry}
 use Rattle.delivery.proofs.Machine.SpanSteps.{open_end}
-use Rattle.delivery.proofs.Theorem.HandedIsPrefix.{open_items}
+use Rattle.delivery.proofs.Theorem.HandedIsPrefix.{open_items, owned_entry}
 use Rattle.delivery.proofs.Theorem.TopicsAreSound.{topics_are_sound}
 
 -- ---- what an event makes of what subscriptions left
@@ -61,24 +55,18 @@ closed_itself w q entry l unclosed e = record {
       (λ k. refl) (λ ne. absurd (ne refl));
 }
 
-closed_case : (past : List Answer) (w : World) (q s : ℕ) → Reached past w → q < length w.subscriptions → (subscription_at w q).closed ≡ None → (o : Option Entry) → entry_at w q ≡ o → StaysOrCloses w (close_effect_of w q o) (Unsubscribed q (elim o [ None ↦ zero_stamp | Some e ↦ (left_of w q e).to ])) s
-closed_case past w q s r l unclosed None e = absurd (no_entry past w q r l unclosed e)
-closed_case past w q s r l unclosed (Some entry) e = elim (cases_order s q) [
-  | inl d ↦ subst (λ n. StaysOrCloses w (close_effect_of w q (Some entry)) (Unsubscribed q (left_of w q entry).to) n) (sym d) (inr (closed_itself w q entry l unclosed e))
+closed_case : (past : List Answer) (w : World) (q s : ℕ) → Reached past w → Found (entry_at w q) → (o : Option Entry) → entry_at w q ≡ o → StaysOrCloses w (close_effect_of w q o) (Unsubscribed q (elim o [ None ↦ zero_stamp | Some e ↦ (left_of w q e).to ])) s
+closed_case past w q s r h None e = none_some h.it (sym e ∙ h.is)
+closed_case past w q s r h (Some entry) e = elim (cases_order s q) [
+  | inl d ↦ (let own = owned_entry past w q r h in
+      subst (λ n. StaysOrCloses w (close_effect_of w q (Some entry)) (Unsubscribed q (left_of w q entry).to) n) (sym d) (inr (closed_itself w q entry own.there own.closed e)))
   | inr (inl k) ↦ inl (closed_other w q s entry (λ d. omega arith))
   | inr (inr k) ↦ inl (closed_other w q s entry (λ d. omega arith))
 ]
 
--- a live subscription isn't closed
-pub live_unclosed : (c : ℕ) (x : Subscription) → is_live c x ≡ true → x.closed ≡ None
-live_unclosed c x e = none_of x.closed (not-true (is_some x.closed) (and_parts (x.connection == c) (not (is_some x.closed)) e).1)
-
 left_case : (past : List Answer) (w : World) (c s : ℕ) → Reached past w → (o : Option ℕ) → oldest_live c 0 w.subscriptions ≡ o → StaysOrCloses w (leave_effect w c o) (leave_answer w c o) s
 left_case past w c s r None f = same w (leave_effect w c None) (leave_answer w c None) s refl (λ i. i)
-left_case past w c s r (Some q) f =
-    let o = oldest_found c 0 q w.subscriptions f in let p : ℕ = o.place in let j : q ≡ 0 + p = o.is in let i : q ≡ p = omega arith in
-    closed_case past w q s r (let l : p < length w.subscriptions = o.there in omega arith)
-    (subst (λ n. (subscription_at w n).closed ≡ None) (sym i) (live_unclosed c (subscription_at w p) o.live)) (entry_at w q) refl
+left_case past w c s r (Some q) f = let o = is_oldest w c q f in closed_case past w q s r (live_entry past w c q r o.there o.live) (entry_at w q) refl
 
 -- ---- each event
 
@@ -101,7 +89,7 @@ effect_closes : (past : List Answer) (w : World) (e : Move) (s : ℕ) → Reache
 effect_closes past w (Subscribes c t) s r n = begun_case w c s t
 effect_closes past w (Unsubscribes c q) s r n =
     let k = and_parts (ltb q (length w.subscriptions)) (is_live c (subscription_at w q)) (not-false _ (checked w (Unsubscribes c q) n).1.1.1.0) in
-    closed_case past w q s r (ltb-true q (length w.subscriptions) k.0) (live_unclosed c (subscription_at w q) k.1) (entry_at w q) refl
+    closed_case past w q s r (live_entry past w c q r (ltb-true q (length w.subscriptions) k.0) k.1) (entry_at w q) refl
 effect_closes past w (Leaves c) s r n = left_case past w c s r (oldest_live c 0 w.subscriptions) refl
 effect_closes past w (Takes q) s r n = taken_case w q s _
 effect_closes past w e s r n =

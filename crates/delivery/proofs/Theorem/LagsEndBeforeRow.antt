@@ -1,16 +1,10 @@
 -- A span that lags ends with the frontier before the row for which its queue had no room.
-use Rattle.delivery.proofs.Words.Std.{◌≡◌, ℕ, ◌==◌, Bool, true, false, cond, ◌⊎◌, inl, inr, List, [], ◌∷◌, ◌++◌, map, Option, Some, None, refl, sym, ap, subst, ◌∙◌, append_assoc, append-nil}
-use Rattle.delivery.proofs.Words.Topics.{zero_stamp, Decision, TxnId, Stamp, LogRow, Item, last_stamp, TopicState, Pending, Entry, EntryEnd, find_entry, entry_after, after_release_of, after_release, after_turn, row_of, item_of}
-use Rattle.delivery.proofs.Words.Lemmas.{some_same, none_some, delivered_number, release_keeps, turn_keeps}
-use Rattle.delivery.proofs.Words.Machine.{World, topic_at, subscription_at, entry_at, with_topic, entry_to, end_at, log_at, Move, world_after, move_effect, queue_has_room, verdict_in, final_world, EndsBeforeRow, Releases, Turns}
+use Rattle.delivery.proofs.Words.All.{◌≡◌, ℕ, ◌==◌, Bool, true, false, cond, ◌⊎◌, inl, inr, List, [], ◌∷◌, ◌++◌, map, Option, Some, None, refl, sym, ap, subst, ◌∙◌, append_assoc, append-nil, zero_stamp, Decision, TxnId, Stamp, LogRow, Item, last_stamp, TopicState, Pending, Entry, EntryEnd, find_entry, entry_after, after_release_of, after_release, after_turn, row_of, item_of, some_same, none_some, delivered_number, release_keeps, turn_keeps, World, topic_at, subscription_at, entry_at, with_topic, entry_to, end_at, log_at, Move, world_after, move_effect, queue_has_room, verdict_in, final_world, EndsBeforeRow, Releases, Turns}
 use Rattle.mcast_group.proofs.Keeping.{last_push}
 use Rattle.delivery.specs.Theorem.Spans
-use Rattle.delivery.proofs.Machine.Invariant.{topic_in}
-use Rattle.delivery.proofs.Machine.TopicSteps.{at_topic}
-use Rattle.delivery.proofs.Machine.InvariantIsKept.{by_refusal}
+use Rattle.delivery.proofs.Words.Steps.{topic_in, at_topic, by_refusal, end_by}
 use Rattle.delivery.proofs.Theorem.EndsAreAnswered.{ends_are_told}
 use Rattle.delivery.proofs.Theorem.TopicsAreSound.{topics_are_sound}
-use Rattle.delivery.proofs.Theorem.AcceptedIsDue.{end_by}
 
 -- ---- one topic
 

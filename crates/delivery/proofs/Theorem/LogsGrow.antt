@@ -1,7 +1,6 @@
 -- What a topic's log has stays: each event adds to its end alone.
 use Rattle.std.proofs.Common.{refl}
-use Rattle.delivery.proofs.Words.Topics.{Topic, due_part}
-use Rattle.delivery.proofs.Words.Machine.{World, topic_at, Move, world_after}
+use Rattle.delivery.proofs.Words.All.{Topic, due_part, World, topic_at, Move, world_after}
 use Rattle.delivery.proofs.Machine.TopicOfMove.{Steps, topic_after}
 use Rattle.delivery.proofs.Theorem.TurnIsItsSteps.{Longer, Longer-same, released_longer, turned_longer}
 

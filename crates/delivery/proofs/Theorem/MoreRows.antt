@@ -1,8 +1,7 @@
 -- More worked rows: what comes of a decision after another's, of an ERROR and of single releases; what two queues share;
 -- a settled topic; a topic that is added; what a commit is refused for; a span, a flight and a turn beside their laws.
-use Rattle.delivery.proofs.Words.Std.{refl, inl, inr, ◌≡◌, ℕ, true, List, [], ◌∷◌, length, map, reverse, None, Some}
-use Rattle.delivery.proofs.Words.Topics.{SentMessage, Stamp, part_at, In, SubFault, LogRow, TopicState, Pending, Entry, subscribe_fault}
-use Rattle.delivery.proofs.Words.Machine.{Objection, World, topic_at, connection_at, subscription_at, log_at, accepted_at, end_at, span_at, frontier_at, Move, world_after, answer_to, run, answers_from, commits_of, delivered_items, IsSettled, IsSilent, AllResolved, Run, answers_of, final_world, shared_marks, AddsTopic, Opens, Connects, Commits, Subscribes, Disconnects, Errs, Lost, Leaves, Proposes, Decides, Learns, Releases, Turns, Takes, Refused, Done, Opened, Begun, Handed, Subscribed, Unsubscribed, Leaving, Error, Gone, Ticket, Decided, Withdrawn, Learnt, Released, Turned}
+use Rattle.delivery.proofs.Words.All.{refl, inl, inr, ◌≡◌, ℕ, true, List, [], ◌∷◌, length, map, reverse, None, Some, SentMessage, Stamp, part_at, In, SubFault, LogRow, TopicState, Pending, Entry, subscribe_fault, Objection, World, topic_at, connection_at, subscription_at, log_at, accepted_at, end_at, span_at, frontier_at, Move, world_after, answer_to, run, answers_from, commits_of, delivered_items, IsSettled, IsSilent, AllResolved, Run, answers_of, final_world, shared_marks, AddsTopic, Opens, Connects, Commits, Subscribes, Disconnects, Errs, Lost, Leaves, Proposes, Decides, Learns, Releases, Turns, Takes, Refused, Done, Opened, Begun, Handed, Subscribed, Unsubscribed, Leaving, Error, Gone, Decided, Withdrawn, Learnt, Released, Turned}
+use Rattle.delivery.specs.Machine.Moves.Answer.{Ticket}
 use Rattle.mcast_group.specs.Machine.{unsubscribe_fault}
 use Rattle.delivery.specs.Theorem.Examples.{topic, stamp, id, send, part, transaction, item, run_of, answers_in_order, log_stamps, to_a_and_b, withdrawal, one_send}
 use Rattle.delivery.proofs.Theorem.Rows.{ends, four_tickets}
@@ -21,14 +20,12 @@ leaves_two_answers = refl
 abbrev then_decided : Run
 then_decided = four_tickets (Decides 1 ∷ Turns (topic 0) ∷ Decides 0 ∷ Turns (topic 0) ∷ [])
 
-then_answers : answers_in_order then_decided
+then_rows : (answers_in_order then_decided
     ≡ Opened 0 ∷ Done ∷ Opened 1 ∷ Done ∷ Begun (transaction (id 0 1) to_a_and_b) ∷ Begun (transaction (id 1 1) to_a_and_b)
     ∷ Ticket (id 0 1) (stamp 1 0) ∷ Ticket (id 1 1) (stamp 1 1) ∷ Ticket (id 1 1) (stamp 2 0) ∷ Ticket (id 0 1) (stamp 2 1)
-    ∷ Decided (id 1 1) (stamp 2 0) ∷ Turned (topic 0) 0 ∷ Decided (id 0 1) (stamp 2 1) ∷ Turned (topic 0) 2 ∷ []
-then_answers = refl
-
-then_logs : log_stamps then_decided 0 ≡ stamp 2 0 ∷ stamp 2 1 ∷ []
-then_logs = refl
+    ∷ Decided (id 1 1) (stamp 2 0) ∷ Turned (topic 0) 0 ∷ Decided (id 0 1) (stamp 2 1) ∷ Turned (topic 0) 2 ∷ [])
+    × (log_stamps then_decided 0 ≡ stamp 2 0 ∷ stamp 2 1 ∷ [])
+then_rows = (refl, refl)
 
 -- two queues that share two transactions
 abbrev both_queues : Run
@@ -62,14 +59,12 @@ added = run_of (0 ∷ []) (
     ∷ Commits 0 (send 0 1 ∷ send 1 2 ∷ []) ∷ Proposes 0 (topic 0) true ∷ Proposes 0 (topic 1) true ∷ Decides 0
     ∷ Turns (topic 1) ∷ Takes 0 ∷ Turns (topic 0) ∷ [])
 
-added_answers : answers_in_order added
+added_rows : (answers_in_order added
     ≡ Opened 0 ∷ Done ∷ Refused Objection.NotNamed ∷ Refused Objection.NotNamed ∷ Done ∷ Subscribed 0 0 (topic 1) (stamp 0 0)
     ∷ Begun (transaction (id 0 1) (send 0 1 ∷ send 1 2 ∷ [])) ∷ Ticket (id 0 1) (stamp 1 0) ∷ Ticket (id 0 1) (stamp 5 1) ∷ Decided (id 0 1) (stamp 5 1)
-    ∷ Turned (topic 1) 1 ∷ Handed 0 (item (id 0 1) (stamp 5 1) (part 1 2 ∷ [])) ∷ Turned (topic 0) 1 ∷ []
-added_answers = refl
-
-added_logs : log_stamps added 0 ∷ log_stamps added 1 ∷ [] ≡ (stamp 5 1 ∷ []) ∷ (stamp 5 1 ∷ []) ∷ []
-added_logs = refl
+    ∷ Turned (topic 1) 1 ∷ Handed 0 (item (id 0 1) (stamp 5 1) (part 1 2 ∷ [])) ∷ Turned (topic 0) 1 ∷ [])
+    × (log_stamps added 0 ∷ log_stamps added 1 ∷ [] ≡ (stamp 5 1 ∷ []) ∷ (stamp 5 1 ∷ []) ∷ [])
+added_rows = (refl, refl)
 
 -- ---- what a commit is refused for: a topic that isn't there, and then a sender without numbers; of no SENDs neither
 
@@ -79,17 +74,11 @@ has_made seq = record (final_world (run_of (0 ∷ []) (Opens ∷ Connects 0 None
   senders = record { seq = seq; floor = stamp 0 0; flight = None; leftovers = [] } ∷ [];
 }
 
-last_is_made : answer_to (has_made 18446744073709551614) (Commits 0 (send 0 1 ∷ [])) ≡ Begun (transaction (id 0 18446744073709551615) (send 0 1 ∷ []))
-last_is_made = refl
-
-none_is_left : answer_to (has_made 18446744073709551615) (Commits 0 (send 0 1 ∷ [])) ≡ Refused Objection.SeqFull
-none_is_left = refl
-
-topic_is_first : answer_to (has_made 18446744073709551615) (Commits 0 (send 0 1 ∷ send 1 2 ∷ [])) ≡ Refused Objection.NotNamed
-topic_is_first = refl
-
-nothing_is_made : answer_to (has_made 18446744073709551615) (Commits 0 []) ≡ Done
-nothing_is_made = refl
+made_rows : (answer_to (has_made 18446744073709551614) (Commits 0 (send 0 1 ∷ [])) ≡ Begun (transaction (id 0 18446744073709551615) (send 0 1 ∷ [])))
+    × (answer_to (has_made 18446744073709551615) (Commits 0 (send 0 1 ∷ [])) ≡ Refused Objection.SeqFull)
+    × (answer_to (has_made 18446744073709551615) (Commits 0 (send 0 1 ∷ send 1 2 ∷ [])) ≡ Refused Objection.NotNamed)
+    × (answer_to (has_made 18446744073709551615) (Commits 0 []) ≡ Done)
+made_rows = (refl, refl, refl, refl)
 
 -- ---- an ERROR answers a frame with a fault: the item that wasn't taken isn't handed on, and no frame is read
 abbrev errs : Run
@@ -115,17 +104,13 @@ releases = run_of (0 ∷ []) (
     Opens ∷ Connects 0 None ∷ Subscribes 0 (topic 0) ∷ Commits 0 (send 0 1 ∷ []) ∷ Proposes 0 (topic 0) true ∷ Decides 0
     ∷ Releases (topic 0) ∷ Learns (topic 0) (id 0 1) ∷ Releases (topic 0) ∷ Releases (topic 0) ∷ Learns (topic 0) (id 0 1) ∷ [])
 
-releases_answers : answers_in_order releases
+releases_rows : (answers_in_order releases
     ≡ Opened 0 ∷ Done ∷ Subscribed 0 0 (topic 0) (stamp 0 0)
     ∷ Begun (transaction (id 0 1) (send 0 1 ∷ [])) ∷ Ticket (id 0 1) (stamp 1 0) ∷ Decided (id 0 1) (stamp 1 0)
-    ∷ Refused Objection.NothingDue ∷ Learnt (id 0 1) (topic 0) ∷ Released (topic 0) (id 0 1) ∷ Refused Objection.NothingDue ∷ Refused Objection.NotPending ∷ []
-releases_answers = refl
-
-releases_log : log_at (final_world releases) (topic 0) ≡ record { id = id 0 1; topics = topic 0 ∷ []; stamp = stamp 1 0 } ∷ []
-releases_log = refl
-
-releases_queue : accepted_at (final_world releases) 0 ≡ record { id = id 0 1; stamp = stamp 1 0; sends = part 0 1 ∷ [] } ∷ []
-releases_queue = refl
+    ∷ Refused Objection.NothingDue ∷ Learnt (id 0 1) (topic 0) ∷ Released (topic 0) (id 0 1) ∷ Refused Objection.NothingDue ∷ Refused Objection.NotPending ∷ [])
+    × (log_at (final_world releases) (topic 0) ≡ record { id = id 0 1; topics = topic 0 ∷ []; stamp = stamp 1 0 } ∷ [])
+    × (accepted_at (final_world releases) 0 ≡ record { id = id 0 1; stamp = stamp 1 0; sends = part 0 1 ∷ [] } ∷ [])
+releases_rows = (refl, refl, refl)
 
 -- ---- beside the laws: premises that hold, and what follows, computed
 
@@ -213,12 +198,10 @@ waiting decisions = final_world (four_tickets decisions)
 abbrev turn_steps : List Move
 turn_steps = Learns (topic 0) (id 0 1) ∷ Learns (topic 0) (id 1 1) ∷ Releases (topic 0) ∷ Releases (topic 0) ∷ []
 
-two_wait : map (λ p. p.part.id) (topic_at (waiting []) (topic 0)).pending ≡ id 0 1 ∷ id 1 1 ∷ []
-two_wait = refl
-
-steps_answers : reverse (answers_from turn_steps (waiting (Decides 0 ∷ Decides 1 ∷ [])) [])
-    ≡ Learnt (id 0 1) (topic 0) ∷ Learnt (id 1 1) (topic 0) ∷ Released (topic 0) (id 1 1) ∷ Released (topic 0) (id 0 1) ∷ []
-steps_answers = refl
+waiting_rows : (map (λ p. p.part.id) (topic_at (waiting []) (topic 0)).pending ≡ id 0 1 ∷ id 1 1 ∷ [])
+    × (reverse (answers_from turn_steps (waiting (Decides 0 ∷ Decides 1 ∷ [])) [])
+    ≡ Learnt (id 0 1) (topic 0) ∷ Learnt (id 1 1) (topic 0) ∷ Released (topic 0) (id 1 1) ∷ Released (topic 0) (id 0 1) ∷ [])
+waiting_rows = (refl, refl)
 
 -- topic 0 with these pending parts, rows and frontier
 abbrev pub turned_topic : List Pending → List LogRow → Stamp → TopicState
@@ -238,11 +221,9 @@ both_rows =
     record { id = id 1 1; topics = topic 0 ∷ topic 1 ∷ []; stamp = stamp 2 0 }
     ∷ record { id = id 0 1; topics = topic 0 ∷ topic 1 ∷ []; stamp = stamp 2 1 } ∷ []
 
-turn_of_both : topic_at (world_after (waiting (Decides 0 ∷ Decides 1 ∷ [])) (Turns (topic 0))) (topic 0) ≡ turned_topic [] both_rows (stamp 2 1)
-turn_of_both = refl
-
-steps_of_both : topic_at (run turn_steps (waiting (Decides 0 ∷ Decides 1 ∷ []))) (topic 0) ≡ turned_topic [] both_rows (stamp 2 1)
-steps_of_both = refl
+both_turned : (topic_at (world_after (waiting (Decides 0 ∷ Decides 1 ∷ [])) (Turns (topic 0))) (topic 0) ≡ turned_topic [] both_rows (stamp 2 1))
+    × (topic_at (run turn_steps (waiting (Decides 0 ∷ Decides 1 ∷ []))) (topic 0) ≡ turned_topic [] both_rows (stamp 2 1))
+both_turned = (refl, refl)
 
 -- so too where one of them is undecided: a learn and both releases are refused
 refused_answers : reverse (answers_from turn_steps (waiting (Decides 1 ∷ [])) [])
@@ -254,8 +235,6 @@ half_decided =
     record { part = part_at (id 0 1) to_a_and_b (topic 0); number = 1; learnt = None }
     ∷ record { part = part_at (id 1 1) to_a_and_b (topic 0); number = 2; learnt = Some (stamp 2 0) } ∷ []
 
-turn_of_one : topic_at (world_after (waiting (Decides 1 ∷ [])) (Turns (topic 0))) (topic 0) ≡ turned_topic half_decided [] (stamp 0 0)
-turn_of_one = refl
-
-steps_of_one : topic_at (run turn_steps (waiting (Decides 1 ∷ []))) (topic 0) ≡ turned_topic half_decided [] (stamp 0 0)
-steps_of_one = refl
+one_rows : (topic_at (world_after (waiting (Decides 1 ∷ [])) (Turns (topic 0))) (topic 0) ≡ turned_topic half_decided [] (stamp 0 0))
+    × (topic_at (run turn_steps (waiting (Decides 1 ∷ []))) (topic 0) ≡ turned_topic half_decided [] (stamp 0 0))
+one_rows = (refl, refl)

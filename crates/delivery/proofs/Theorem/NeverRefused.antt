@@ -1,15 +1,7 @@
 -- What a run's topics hold where the core looks for it: parts that are to be cancelled or proposed, and subscriptions' entries.
-use Rattle.delivery.proofs.Words.Std.{◌≡◌, ℕ, ◌<◌, Bool, true, false, cond, ◌⊎◌, inl, inr, List, [], ◌∷◌, length, Option, Some, None, refl, sym, ap, subst, ◌∙◌, arith, option_or, option_map, is_some}
-use Rattle.delivery.proofs.Words.Topics.{TopicPart, same_id, In, Topic, TxnId, SentMessage, Stamp, ProposeFault, CancelFault, SubFault, first_refusal, Item, TopicState, Pending, Entry, find_pending, is_pending, cancel_fault_of, due_part, find_entry}
-use Rattle.delivery.proofs.Words.Lemmas.{id_equal, id_same, any_found, Waits, finds_part}
-use Rattle.delivery.proofs.Words.Machine.{Objection, World, Leftover, Subscription, topic_at, speaker, subscription_at, start, speaker_number, Move, Answer, world_after, answer_to, move_refusal, move_refusals, or_out_of_memory, move_answer, undecided_at, find_leftover, oldest_live, commit_answer, proposal_fault, propose_answer, cancel_objection, cancel_objection_of, cancel_answer, release_answer, take_answer, leave_answer, answers_from, answers_of, final_world, Commits, Leaves, Proposes, Cancels, Releases, Takes, Refused, Failed}
+use Rattle.delivery.proofs.Words.All.{◌≡◌, ℕ, ◌<◌, Bool, true, false, cond, ◌⊎◌, inl, inr, List, [], ◌∷◌, length, Option, Some, None, refl, sym, ap, subst, ◌∙◌, arith, option_or, option_map, is_some, TopicPart, same_id, In, Topic, TxnId, Stamp, ProposeFault, CancelFault, SubFault, first_refusal, TopicState, Pending, Entry, find_pending, is_pending, cancel_fault_of, find_entry, id_equal, id_same, any_found, Waits, finds_part, Objection, World, Leftover, Subscription, topic_at, speaker, subscription_at, speaker_number, Move, Answer, answer_to, move_refusal, move_refusals, undecided_at, find_leftover, cancel_objection, cancel_objection_of, answers_of, final_world, Proposes, Cancels, Failed, Run}
 use Rattle.delivery.specs.Theorem.Laws
-use Rattle.delivery.proofs.Machine.Invariant.{topic_in, Owned}
-use Rattle.delivery.proofs.Machine.ProposeStep.{not_given}
-use Rattle.delivery.proofs.Machine.SenderSteps.{leftover_found}
-use Rattle.delivery.proofs.Machine.SubscriptionSteps.{found_entry, finds_entry}
-use Rattle.delivery.proofs.Machine.InvariantIsKept.{Reached, by_refusal, asks_of, Asks, step_reached}
-use Rattle.delivery.proofs.Theorem.AcceptedIsDue.{reached, start_reached}
+use Rattle.delivery.proofs.Words.Steps.{topic_in, Owned, not_given, leftover_found, found_entry, finds_entry, Reached, by_refusal, asks_of, Asks, reached, by_run, answer_as}
 use Rattle.delivery.proofs.Theorem.StepLaws.{no_answer, outcome_case}
 
 -- ---- a ticket that is to be cancelled
@@ -55,10 +47,8 @@ cancel_finds_its_part r c t e =
 -- the undecided transaction has no part at a topic that gave it no ticket
 not_waiting : (past : List Answer) (w : World) (c : ℕ) (t : Topic) → Reached past w → Asks w c t → is_pending (undecided_at w c).txn.id (topic_at w t).pending ≡ true → Prim.⊥
 not_waiting past w c t h a e =
-    let f = undecided_at w c in let s = speaker_number w c in
-    let p = any_found (λ (q : Pending). same_id q.part.id f.txn.id) (topic_at w t).pending e in
-    let tied = h.inv.tied t in let k = tied.ticketed p.it p.stands in
-    let g = (h.inv.serves s).flying f (a.flying.is ∙ ap Some (sym a.flying.at)) in
+    let f = undecided_at w c in let s = speaker_number w c in let p = any_found (λ (q : Pending). same_id q.part.id f.txn.id) (topic_at w t).pending e in
+    let tied = h.inv.tied t in let k = tied.ticketed p.it p.stands in let g = (h.inv.serves s).flying f (a.flying.is ∙ ap Some (sym a.flying.at)) in
     let own : k.ticket.txn.id ≡ f.txn.id = ap (λ (z : TopicPart). z.id) k.part_is ∙ id_equal p.it.part.id f.txn.id p.passes in
     let given = g.given_all k.ticket k.stands (g.same k.ticket k.stands (id_same k.ticket.txn.id f.txn.id own)) in
     let here : k.ticket.stamp.topic ≡ t = ap (λ (z : Stamp). z.topic) k.stamp_is ∙ (tied.sound.own p.it p.stands ∙ tied.topic) in
@@ -70,62 +60,21 @@ fault_case false true e n k = cc
 fault_case false false true n k = cc
 fault_case false false false n k = cc
 
-memory_case : (memory : Bool) (o : Option ProposeFault) → or_out_of_memory memory o ≡ Some ProposeFault.Twice → o ≡ Some ProposeFault.Twice
-memory_case true None e = cc
-memory_case false None e = cc
-memory_case memory (Some fault) e = e
-
-propose_once : (w : World) (c : ℕ) (t : Topic) (id : TxnId) (o : Option ProposeFault) → (o ≡ Some ProposeFault.Twice → Prim.⊥) → propose_answer w c t o ≡ Failed id ProposeFault.Twice → Prim.⊥
-propose_once w c t id None n e = cc
-propose_once w c t id (Some fault) n e = let d : fault ≡ ProposeFault.Twice = cc in n (ap Some d)
-
-flying_once : (w : World) (c : ℕ) (sends : List SentMessage) (id : TxnId) (why : ProposeFault) → commit_answer w c sends ≡ Failed id why → Prim.⊥
-flying_once w c [] id why e = cc
-flying_once w c (first ∷ others) id why e = cc
-
-cancel_once : (t : Topic) (o : Option Leftover) (id : TxnId) (why : ProposeFault) → cancel_answer t o ≡ Failed id why → Prim.⊥
-cancel_once t None id why e = cc
-cancel_once t (Some k) id why e = cc
-
-leave_once : (w : World) (c : ℕ) (o : Option ℕ) (id : TxnId) (why : ProposeFault) → leave_answer w c o ≡ Failed id why → Prim.⊥
-leave_once w c None id why e = cc
-leave_once w c (Some s) id why e = cc
-
-release_once : (t : Topic) (o : Option Pending) (id : TxnId) (why : ProposeFault) → release_answer t o ≡ Failed id why → Prim.⊥
-release_once t None id why e = cc
-release_once t (Some p) id why e = cc
-
-take_once : (w : World) (s : ℕ) (o : Option Item) (id : TxnId) (why : ProposeFault) → take_answer w s o ≡ Failed id why → Prim.⊥
-take_once w s None id why e = cc
-take_once w s (Some item) id why e = cc
-
-answer_once : (past : List Answer) (w : World) (e : Move) (id : TxnId) → Reached past w → move_refusal w e ≡ None → move_answer w e ≡ Failed id ProposeFault.Twice → Prim.⊥
-answer_once past w (Commits c sends) id h n e = flying_once w c sends id ProposeFault.Twice e
-answer_once past w (Leaves c) id h n e = leave_once w c (oldest_live c 0 w.subscriptions) id ProposeFault.Twice e
-answer_once past w (Proposes c t memory) id h n e =
-    propose_once w c t id (proposal_fault w c t memory)
-    (λ k. fault_case (is_pending (undecided_at w c).txn.id (topic_at w t).pending) _ _ (not_waiting past w c t h (asks_of w c t memory n)) (memory_case memory _ k)) e
-answer_once past w (Cancels c t) id h n e = cancel_once t (find_leftover t (speaker w c).leftovers) id ProposeFault.Twice e
-answer_once past w (Releases t) id h n e = release_once t (due_part (topic_at w t)) id ProposeFault.Twice e
-answer_once past w (Takes s) id h n e = take_once w s _ id ProposeFault.Twice e
-answer_once past w _ id h n e = cc
-
-outcome_once : (past : List Answer) (w : World) (e : Move) (id : TxnId) → Reached past w → answer_to w e ≡ Failed id ProposeFault.Twice → Prim.⊥
-outcome_once past w e id h =
-    by_refusal (λ v o. o ≡ Failed id ProposeFault.Twice → Prim.⊥) w e (λ why k. by why k) (λ n k. answer_once past w e id h n k)
-  where
-    by : (why : Objection) → Refused why ≡ Failed id ProposeFault.Twice → Prim.⊥
-    by why k = cc
-
-run_once : (es : List Move) (past : List Answer) (w : World) → Reached past w → ((id : TxnId) → In (Failed id ProposeFault.Twice) past → Prim.⊥) → (id : TxnId) → In (Failed id ProposeFault.Twice) (answers_from es w past) → Prim.⊥
-run_once [] past w h old = old
-run_once (e ∷ es) past w h old =
-    run_once es (answer_to w e ∷ past) (world_after w e) (step_reached past w e h)
-    (λ id i. elim i [ inl k ↦ outcome_once past w e id h k | inr k ↦ old id k ])
+-- no proposal is answered so
+outcome_once : (r : Run) (e : Move) (id : TxnId) → answer_to (final_world r) e ≡ Failed id ProposeFault.Twice → Prim.⊥
+outcome_once r e id a =
+    let w = final_world r in let h = answer_as w e a in let c = h.0 in let t = h.1 in let m = h.2 in
+    elim h.5 [
+      | inl k ↦ by_refusal (λ v o. o ≡ Failed id ProposeFault.Twice → Prim.⊥) w (Proposes c t m) (λ why d. cc)
+          (λ n d. fault_case (is_pending (undecided_at w c).txn.id (topic_at w t).pending) _ _ (not_waiting (answers_of r) w c t (reached r) (asks_of w c t m n)) k)
+          (ap (answer_to w) (sym h.3) ∙ a)
+      | inr k ↦ (let d = k.0 in cc)
+    ]
 
 -- no proposal fails because its transaction is pending there
 pub none_is_pending_twice : Laws.NoneIsPendingTwice
-none_is_pending_twice r = run_once r.events [] (start r.capacity r.log_limit r.clocks) (start_reached r.capacity r.log_limit r.clocks) (λ id i. i)
+none_is_pending_twice = by_run (λ past w. (id : TxnId) → In (Failed id ProposeFault.Twice) past → Prim.⊥) (λ capacity log_limit clocks id i. i)
+    (λ r e old id i. elim i [ inl k ↦ outcome_once r e id k | inr k ↦ old id k ])
 
 -- ---- subscriptions
 
@@ -145,10 +94,8 @@ numbers_are_free r t =
 -- a subscription that isn't closed has its entry at its topic
 pub entries_are_there : Laws.EntriesAreThere
 entries_are_there r s l unclosed =
-    let w = final_world r in let x = topic_at w (subscription_at w s).topic in
-    let h = (reached r).inv.subscribes.live s l unclosed in
-    let f = finds_entry s x.subscriptions h.entry h.stands h.number in
-    ap (λ (o : Option Entry). cond (is_some o) None (Some (record {}))) f.found
+    let w = final_world r in let x = topic_at w (subscription_at w s).topic in let h = (reached r).inv.subscribes.live s l unclosed in
+    let f = finds_entry s x.subscriptions h.entry h.stands h.number in ap (λ (o : Option Entry). cond (is_some o) None (Some (record {}))) f.found
 
 -- each entry of a topic is that of a subscription to it that isn't closed
 pub entries_are_owned : Laws.EntriesAreOwned

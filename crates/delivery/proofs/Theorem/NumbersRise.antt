@@ -1,13 +1,8 @@
 -- The numbers that a topic gives rise along a run, each above its opening clock.
-use Rattle.delivery.proofs.Words.Std.{◌≡◌, ℕ, zero, suc, ◌+◌, ◌<◌, ◌≤◌, ◌==◌, Bool, true, false, cond, ◌⊎◌, inl, inr, List, [], ◌∷◌, ◌++◌, length, get_or, max, Option, Some, None, refl, sym, ap, subst, ◌∙◌, arith, AllByRecursion, eqb-true, get_or_past, length_push}
-use Rattle.delivery.proofs.Words.Topics.{RisesBy, In, CommitRow, Topic, TxnId, Stamp, Item, TopicState, Entry, new_topic}
-use Rattle.delivery.proofs.Words.Lemmas.{same_topics, In-push_cases}
-use Rattle.delivery.proofs.Words.Machine.{World, topic_at, speaker, subscription_at, entry_at, start, new_topics, Move, Answer, world_after, answer_to, move_effect, find_leftover, find_verdict, oldest_live, commit_effect, proposal_fault, propose_effect, cancel_effect, learn_effect, take_effect, leave_effect, close_effect_of, run, answers_from, txn_of_id, Run, answers_of, final_world, added_clocks, AddsTopic, Commits, Subscribes, Unsubscribes, Leaves, Proposes, Cancels, Learns, Releases, Turns, Takes, Ticket}
+use Rattle.delivery.proofs.Words.All.{◌≡◌, ℕ, zero, suc, ◌+◌, ◌<◌, ◌≤◌, ◌==◌, Bool, true, false, cond, ◌⊎◌, inl, inr, List, [], ◌∷◌, ◌++◌, length, get_or, max, refl, sym, ap, subst, ◌∙◌, arith, AllByRecursion, eqb-true, get_or_past, length_push, RisesBy, In, CommitRow, Topic, TxnId, Stamp, TopicState, new_topic, same_topics, In-push_cases, World, topic_at, speaker, subscription_at, start, new_topics, Move, Answer, world_after, answer_to, run, answers_from, txn_of_id, Run, answers_of, final_world, added_clocks, AddsTopic, Subscribes, Unsubscribes, Leaves, Proposes, Cancels, Learns, Releases, Turns}
+use Rattle.delivery.specs.Machine.Moves.Answer.{Ticket}
 use Rattle.delivery.specs.Theorem.Tied.{numbers_at}
-use Rattle.delivery.proofs.Machine.Invariant.{row}
-use Rattle.delivery.proofs.Machine.SubscriptionSteps.{at_push_two, set_length}
-use Rattle.delivery.proofs.Machine.InvariantIsKept.{Reached, tickets, by_refusal, step_reached}
-use Rattle.delivery.proofs.Theorem.AcceptedIsDue.{start_reached}
+use Rattle.delivery.proofs.Words.Steps.{row, at_push_two, set_length, Reached, tickets, by_refusal, step_reached, start_reached, by_found, InEachCase, always}
 use Rattle.delivery.proofs.Theorem.StepLaws.{ticket_is_own}
 use Rattle.delivery.proofs.Machine.ClocksGrow.{clock_grows}
 
@@ -19,8 +14,7 @@ all_push P (x ∷ xs) n all h = (all.0, all_push P xs n all.1 h)
 
 rises_push : (xs : List ℕ) (n : ℕ) → RisesBy (λ m. m) xs → ((m : ℕ) → In m xs → m < n) → RisesBy (λ m. m) (xs ++ n ∷ [])
 rises_push [] n h below = (tt, tt)
-rises_push (x ∷ xs) n h below =
-    (all_push (λ m. x < m) xs n h.0 (below x (inl refl)), rises_push xs n h.1 (λ m i. below m (inr i)))
+rises_push (x ∷ xs) n h below = (all_push (λ m. x < m) xs n h.0 (below x (inl refl)), rises_push xs n h.1 (λ m i. below m (inr i)))
 
 -- ---- a topic's numbers are those of its tickets
 
@@ -48,8 +42,7 @@ number_of t n (o ∷ past) i = number_of t n past i
 
 -- each number is at most the topic's clock
 pub number_le : (past : List Answer) (w : World) (t : Topic) (n : ℕ) → Reached past w → In n (numbers_at t past) → n ≤ (topic_at w t).clock
-number_le past w t n h i =
-    let k = number_of t n past i in subst (λ m. m ≤ (topic_at w t).clock) k.number ((h.inv.tied t).given k.it k.stands k.topic)
+number_le past w t n h i = let k = number_of t n past i in subst (λ m. m ≤ (topic_at w t).clock) k.number ((h.inv.tied t).given k.it k.stands k.topic)
 
 -- ---- along a run
 
@@ -91,16 +84,13 @@ more_case past w t id ticket true h e high r =
 more_case past w t id ticket false h e high r = (r, λ n i. inl i)
 
 one_more : (past : List Answer) (w : World) (t : Topic) (o : Answer) → Reached past w → ((id : TxnId) (ticket : Stamp) → o ≡ Ticket id ticket → ticket.topic ≡ t → (topic_at w t).clock < ticket.n) → RisesBy (λ n. n) (numbers_at t past) → OneMore past w o t
-one_more past w t (Ticket id ticket) h high r =
-    let k = more_case past w t id ticket (ticket.topic.0 == t.0) h refl (high id ticket refl) r in record { rising = k.0; above = k.1 }
+one_more past w t (Ticket id ticket) h high r = let k = more_case past w t id ticket (ticket.topic.0 == t.0) h refl (high id ticket refl) r in record { rising = k.0; above = k.1 }
 one_more past w t o h high r = record { rising = r; above = λ n i. inl i }
 
 ticket_high : (w : World) (e : Move) (t : Topic) (id : TxnId) (ticket : Stamp) → answer_to w e ≡ Ticket id ticket → ticket.topic ≡ t → (topic_at w t).clock < ticket.n
 ticket_high w e t id ticket o d =
-    let (c, u, memory, is, own, named, at) = ticket_is_own w e id ticket o in
-    let here : u ≡ t = sym (ap (λ (z : Stamp). z.topic) at) ∙ d in
-    let n : ticket.n ≡ max (topic_at w u).clock (speaker w c).floor.n + 1 = ap (λ (z : Stamp). z.n) at in
-    let l : (topic_at w u).clock < ticket.n = omega arith in
+    let (c, u, memory, is, own, named, at) = ticket_is_own w e id ticket o in let here : u ≡ t = sym (ap (λ (z : Stamp). z.topic) at) ∙ d in
+    let n : ticket.n ≡ max (topic_at w u).clock (speaker w c).floor.n + 1 = ap (λ (z : Stamp). z.n) at in let l : (topic_at w u).clock < ticket.n = omega arith in
     subst (λ z. (topic_at w z).clock < ticket.n) here l
 
 -- a topic is added: no number was given by one that wasn't there
@@ -147,34 +137,24 @@ added_rising past opening w clock r h =
     }
 
 -- the number of topics, where none is added
-abbrev AddsNone : Move → Type 0
+abbrev pub AddsNone : Move → Type 0
 AddsNone (AddsTopic clock) = Prim.⊥
 AddsNone e = Unit {0}
 
-length_closed : (w : World) (s : ℕ) (o : Option Entry) → length (close_effect_of w s o).topics ≡ length w.topics
-length_closed w s None = refl
-length_closed w s (Some e) = set_length w.topics (subscription_at w s).topic.0 _
-
-length_handed : (w : World) (s : ℕ) (o : Option Item) → length (take_effect w s o).topics ≡ length w.topics
-length_handed w s None = refl
-length_handed w s (Some item) = refl
-
-length_effect : (w : World) (e : Move) → AddsNone e → length (move_effect w e).topics ≡ length w.topics
+length_effect : (w : World) (e : Move) → AddsNone e → InEachCase (λ v o. length v.topics ≡ length w.topics) w e
 length_effect w (AddsTopic clock) n = absurd n
-length_effect w (Commits c sends) n = elim sends as (λ sends. length (commit_effect w c sends).topics ≡ length w.topics) [ [] ↦ refl | first ∷ others ↦ refl ]
-length_effect w (Subscribes c t) n = set_length w.topics t.0 _
-length_effect w (Unsubscribes c s) n = length_closed w s (entry_at w s)
-length_effect w (Leaves c) n = elim (oldest_live c 0 w.subscriptions) as (λ o. length (leave_effect w c o).topics ≡ length w.topics) [ None ↦ refl | Some s ↦ length_closed w s (entry_at w s) ]
-length_effect w (Proposes c t memory) n = elim (proposal_fault w c t memory) as (λ o. length (propose_effect w c t o).topics ≡ length w.topics) [ None ↦ set_length w.topics t.0 _ | Some fault ↦ refl ]
-length_effect w (Cancels c t) n = elim (find_leftover t (speaker w c).leftovers) as (λ o. length (cancel_effect w c t o).topics ≡ length w.topics) [ None ↦ refl | Some k ↦ set_length w.topics t.0 _ ]
-length_effect w (Learns t id) n = elim (find_verdict id w.verdicts) as (λ o. length (learn_effect w t id o).topics ≡ length w.topics) [ None ↦ refl | Some v ↦ set_length w.topics t.0 _ ]
-length_effect w (Releases t) n = set_length w.topics t.0 _
-length_effect w (Turns t) n = set_length w.topics t.0 _
-length_effect w (Takes s) n = length_handed w s _
-length_effect w _ n = refl
+length_effect w (Subscribes c t) n = always (set_length w.topics t.0 _)
+length_effect w (Unsubscribes c s) n = (refl, λ k. set_length w.topics (subscription_at w s).topic.0 _)
+length_effect w (Leaves c) n = (refl, λ s. (refl, λ k. set_length w.topics (subscription_at w s.it).topic.0 _))
+length_effect w (Proposes c t memory) n = (set_length w.topics t.0 _, λ k. refl)
+length_effect w (Cancels c t) n = (refl, λ k. set_length w.topics t.0 _)
+length_effect w (Learns t id) n = (refl, λ k. set_length w.topics t.0 _)
+length_effect w (Releases t) n = always (set_length w.topics t.0 _)
+length_effect w (Turns t) n = always (set_length w.topics t.0 _)
+length_effect w _ n = (refl, λ k. refl)
 
-topics_stay : (w : World) (e : Move) → AddsNone e → length (world_after w e).topics ≡ length w.topics
-topics_stay w e n = by_refusal (λ v o. length v.topics ≡ length w.topics) w e (λ why. refl) (λ k. length_effect w e n)
+pub topics_stay : (w : World) (e : Move) → AddsNone e → length (world_after w e).topics ≡ length w.topics
+topics_stay w e n = by_refusal (λ v o. length v.topics ≡ length w.topics) w e (λ why. refl) (λ k. by_found (λ v o. length v.topics ≡ length w.topics) w e (length_effect w e n))
 
 step_rising : (past : List Answer) (opening : List ℕ) (w : World) (e : Move) → Reached past w → Rising past opening w → Rising (answer_to w e ∷ past) (opening_after opening e) (world_after w e)
 step_rising past opening w (AddsTopic clock) r h = added_rising past opening w clock r h

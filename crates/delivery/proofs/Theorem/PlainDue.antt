@@ -1,7 +1,5 @@
 -- The plain program of what is due.
-use Rattle.delivery.proofs.Words.Std.{◌≡◌, ℕ, suc, ◌+◌, ◌==◌, Bool, true, false, cond, ◌||◌, List, [], ◌∷◌, ◌++◌, map, length, refl, sym, ap, ◌∙◌, arith, ltb, append_assoc, list_any, eqb-true, filter}
-use Rattle.delivery.proofs.Words.Topics.{topics_of, insert_topic, part_of, names, Topic, SentMessage, PartMessage}
-use Rattle.delivery.proofs.Words.Lemmas.{or_third}
+use Rattle.delivery.proofs.Words.All.{◌≡◌, ℕ, suc, ◌+◌, ◌==◌, Bool, true, false, cond, ◌||◌, List, [], ◌∷◌, ◌++◌, map, length, refl, sym, ap, ◌∙◌, arith, ltb, append_assoc, list_any, eqb-true, filter, topics_of, insert_topic, part_of, names, Topic, SentMessage, PartMessage, or_third}
 use Rattle.mcast_txn.specs.Transaction.{part_from}
 
 -- ---- topics
@@ -55,9 +53,7 @@ part_last_from i t (x ∷ sends) s =
 
 -- the part at t of one SEND more
 pub part_last : (t : Topic) (sends : List SentMessage) (s : SentMessage) → part_of t (sends ++ s ∷ []) ≡ part_of t sends ++ last_part (length sends) t s
-part_last t sends s =
-    let k : 0 + length sends ≡ length sends = omega arith in
-    part_last_from 0 t sends s ∙ ap (λ n. part_of t sends ++ last_part n t s) k
+part_last t sends s = let k : 0 + length sends ≡ length sends = omega arith in part_last_from 0 t sends s ∙ ap (λ n. part_of t sends ++ last_part n t s) k
 
 -- what was gathered so far, behind what is left
 pub part_taken : (t : Topic) (sends : List SentMessage) (s : SentMessage) (done : List PartMessage) → (s.topic.0 == t.0) ≡ true → part_of t (sends ++ s ∷ []) ++ done ≡ part_of t sends ++ part_send (length sends) s ∷ done

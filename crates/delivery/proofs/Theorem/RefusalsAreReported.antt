@@ -1,9 +1,6 @@
 -- What refuses a move is reported by the core, but for a sender without sequence numbers, and for what stands against
 -- speaking for a sender.
-use Rattle.delivery.proofs.Words.Std.{◌≡◌, ℕ, Bool, true, false, cond, ◌⊎◌, inl, inr, List, [], ◌∷◌, Option, Some, None, refl, sym, subst, ◌∙◌, option_map, option_or, true≢false}
-use Rattle.delivery.proofs.Words.Topics.{first_refusal, Decision, Topic, TxnId, SentMessage, LearnFault, CancelFault, learn_fault, cancel_fault}
-use Rattle.delivery.proofs.Words.Lemmas.{some_same, none_some}
-use Rattle.delivery.proofs.Words.Machine.{Objection, World, Leftover, topic_at, speaker, Move, move_refusal, move_refusals, topic_objection, find_leftover, find_verdict, learn_objection, learn_objection_of, cancel_objection, cancel_objection_of, answers_of, final_world, is_odd, AddsTopic, Opens, Connects, Commits, Subscribes, Unsubscribes, Leaves, Proposes, Decides, Withdraws, Cancels, Learns, Releases, Turns}
+use Rattle.delivery.proofs.Words.All.{◌≡◌, ℕ, Bool, true, false, cond, ◌⊎◌, inl, inr, List, [], ◌∷◌, Option, Some, None, refl, sym, subst, ◌∙◌, option_map, option_or, true≢false, first_refusal, Decision, Topic, TxnId, SentMessage, LearnFault, CancelFault, learn_fault, cancel_fault, some_same, none_some, Objection, World, Leftover, topic_at, speaker, Move, move_refusal, move_refusals, topic_objection, find_leftover, find_verdict, learn_objection, learn_objection_of, cancel_objection, cancel_objection_of, answers_of, final_world, is_odd, AddsTopic, Opens, Connects, Commits, Subscribes, Unsubscribes, Leaves, Proposes, Decides, Withdraws, Cancels, Learns, Releases, Turns}
 use Rattle.delivery.specs.Machine.Objections.{is_reported}
 use Rattle.delivery.specs.Theorem.Laws
 use Rattle.delivery.specs.Theorem.Laws.{is_of_claim}
@@ -48,8 +45,7 @@ either_is P None b why f g e = g e
 either_is P (Some x) b why f g e = f e
 
 refused_is : (P : Objection → Type 0) (w : World) (e : Move) (why : Objection) → Each P (move_refusals w e) → (topic_objection w e ≡ Some why → P why) → move_refusal w e ≡ Some why → P why
-refused_is P w e why h k =
-    either_is P (first_refusal (move_refusals w e)) (topic_objection w e) why (first_is P (move_refusals w e) why h) k
+refused_is P w e why h k = either_is P (first_refusal (move_refusals w e)) (topic_objection w e) why (first_is P (move_refusals w e) why h) k
 
 -- ---- another's than the machine's own
 
@@ -93,10 +89,8 @@ abbrev OfClaim : Objection → Type 0
 OfClaim why = (is_reported why ≡ true) ⊎ (is_of_claim why ≡ true)
 
 claim_refused : (w : World) (c : ℕ) (claimed : Option ℕ) (why : Objection) → move_refusal w (Connects c claimed) ≡ Some why → OfClaim why
-claim_refused w c None why =
-    refused_is OfClaim w (Connects c None) why (inl refl, (inl refl, (inl refl, (inr refl, tt)))) (λ e. none_some why e)
-claim_refused w c (Some s) why =
-    refused_is OfClaim w (Connects c (Some s)) why (inl refl, (inl refl, (inl refl, (inr refl, (inr refl, (inr refl, tt)))))) (λ e. none_some why e)
+claim_refused w c None why = refused_is OfClaim w (Connects c None) why (inl refl, (inl refl, (inl refl, (inr refl, tt)))) (λ e. none_some why e)
+claim_refused w c (Some s) why = refused_is OfClaim w (Connects c (Some s)) why (inl refl, (inl refl, (inl refl, (inr refl, (inr refl, (inr refl, tt)))))) (λ e. none_some why e)
 
 -- ---- every move
 

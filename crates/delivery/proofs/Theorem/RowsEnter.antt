@@ -1,15 +1,9 @@
 -- What a topic's log gets, the queue of each subscription gets whose span has no end.
 use Rattle.std.proofs.Common.{◌≡◌, ℕ, ◌+◌, ◌<◌, Bool, true, false, cond, List, [], ◌∷◌, ◌++◌, map, length, set, Option, Some, None, refl, sym, ap, subst, ◌∙◌, length-append, arith}
-use Rattle.delivery.proofs.Words.Topics.{part_at, Decision, Topic, TxnId, Stamp, ProposeFault, LogRow, Item, TopicState, Pending, Entry, EntryEnd, new_topic, find_entry, entry_after, end_of, after_propose, after_cancel, after_learn, after_release_of, after_release, after_turn, after_unsubscribe, row_of, item_of, decided_stamp}
-use Rattle.delivery.proofs.Words.Lemmas.{at_set, at_set_within, none_some, delivered_number, release_keeps, turn_keeps}
-use Rattle.delivery.proofs.Words.Machine.{World, Subscription, no_subscription, topic_at, speaker, subscription_at, entry_at, with_topic, entry_to, entry_items, accepted_at, log_at, Move, Answer, world_after, move_effect, find_leftover, find_verdict, verdict_in, queue_has_room, oldest_live, commit_effect, proposal_fault, propose_effect, cancel_effect, learn_effect, take_effect, undecided_at, leave_effect, close_effect_of, Run, answers_of, final_world, AddsTopic, Commits, Subscribes, Unsubscribes, Leaves, Proposes, Cancels, Learns, Releases, Turns, Takes}
-use Rattle.delivery.proofs.Machine.Invariant.{topic_in, Owned}
-use Rattle.delivery.proofs.Machine.TopicSteps.{at_topic, map_same, map_map}
-use Rattle.delivery.proofs.Machine.SubscriptionSteps.{at_push_two, at_added, found_entry, finds_entry, new_subscription, new_entry, topic_with, taken_more}
-use Rattle.delivery.proofs.Machine.InvariantIsKept.{Reached, by_refusal}
+use Rattle.delivery.proofs.Words.All.{Decision, Topic, TxnId, Stamp, LogRow, Item, TopicState, Pending, Entry, EntryEnd, new_topic, find_entry, entry_after, end_of, after_release_of, after_release, after_turn, after_unsubscribe, row_of, item_of, at_set, at_set_within, none_some, delivered_number, release_keeps, turn_keeps, World, Subscription, no_subscription, topic_at, subscription_at, entry_at, with_topic, entry_to, entry_items, accepted_at, log_at, Move, Answer, world_after, move_effect, verdict_in, queue_has_room, take_effect, close_effect_of, Run, answers_of, final_world, AddsTopic, Subscribes, Unsubscribes, Leaves, Proposes, Cancels, Learns, Releases, Turns, Takes}
+use Rattle.delivery.proofs.Words.Steps.{topic_in, at_topic, map_same, map_map, at_push_two, at_added, new_subscription, new_entry, topic_with, taken_more, Reached, by_refusal, reached, items_by, end_by, by_found, Found, InEachCase, always}
 use Rattle.delivery.proofs.Machine.SpanSteps.{end_in, items_in}
-use Rattle.delivery.proofs.Theorem.AcceptedIsDue.{reached, items_by, end_by}
-use Rattle.delivery.proofs.Theorem.HandedIsPrefix.{find_kept, find_inserted}
+use Rattle.delivery.proofs.Theorem.HandedIsPrefix.{find_kept, find_inserted, owned_entry, unclosed_entry}
 use Rattle.delivery.proofs.Theorem.StepLaws.{find_stepped}
 
 -- ---- one topic
@@ -105,13 +99,6 @@ found_stepped w s u y h e found n =
     ap (λ (o : Option Entry). length (entry_items o) + length x.held) later
     ∙ (fills ∙ ap (λ (o : Option Entry). length (entry_items o) + length y.held) (sym found))
 
--- a subscription that isn't closed has its entry
-entry_there : (past : List Answer) (w : World) (s : ℕ) → Reached past w → s < length w.subscriptions → (subscription_at w s).closed ≡ None
-    → (e : Entry) × (entry_at w s ≡ Some e)
-entry_there past w s r l unclosed =
-    let h = r.inv.subscribes.live s l unclosed in
-    let f = finds_entry s (topic_in w.topics (subscription_at w s).topic).subscriptions h.entry h.stands h.number in (f.entry, f.found)
-
 -- so for the subscription, where its own topic's step is so
 enters_by : (past : List Answer) (w : World) (s : ℕ) (topics : List TopicState) → Reached past w → s < length w.subscriptions
     → FoundEnters w s (subscription_at w s).topic (topic_in topics (subscription_at w s).topic) → Enters w s topics (subscription_at w s)
@@ -123,11 +110,11 @@ enters_by past w s topics r l h = by_closed (subscription_at w s).closed refl
     by_closed : (closed : Option EntryEnd) → (subscription_at w s).closed ≡ closed → Enters w s topics (subscription_at w s)
     by_closed (Some end) is n = none_some end.to (sym n ∙ ap (λ (o : Option EntryEnd). end_by o (find_entry s (topic_in topics t).subscriptions)) is)
     by_closed None is n =
-        let e = entry_there past w s r l is in
+        let e = unclosed_entry past w s r l is in
         let unended : entry_to (find_entry s (topic_in topics t).subscriptions) ≡ None =
         ap (λ (o : Option EntryEnd). end_by o (find_entry s (topic_in topics t).subscriptions)) (sym is) ∙ n in
         ap (λ (o : Option EntryEnd). length (items_by o (find_entry s (topic_in topics t).subscriptions)) + length (log_at w t)) is
-        ∙ (h e.0 e.1 unended
+        ∙ (h e.it e.is unended
         ∙ ap (λ (o : Option EntryEnd). length (items_by o (entry_at w s)) + length (topic_in topics t).held) (sym is))
 
 -- a topic's step
@@ -144,11 +131,6 @@ Enter-beside past w t y r same held = Enter-topic past w t y r (λ s. found_stay
 
 -- ---- each event
 
-proposed_enter : (past : List Answer) (w : World) (c : ℕ) (t : Topic) (o : Option ProposeFault) → Reached past w → AllEnter w (propose_effect w c t o)
-proposed_enter past w c t None r =
-    Enter-beside past w t (after_propose (speaker w c).floor (part_at (undecided_at w c).txn.id (undecided_at w c).txn.sends t) (topic_at w t)) r refl refl
-proposed_enter past w c t (Some fault) r = Enter-same w
-
 begun_enter : (past : List Answer) (w : World) (c : ℕ) (t : Topic) → Reached past w → AllEnter w (move_effect w (Subscribes c t))
 begun_enter past w c t r s l =
     let v = move_effect w (Subscribes c t) in
@@ -159,13 +141,11 @@ begun_enter past w c t r s l =
     (found_stays w s t (topic_with w t) (find_inserted s (topic_in w.topics t).subscriptions (new_entry w t) (λ e. ne (sym e))) refl)
     (found_stays w s (subscription_at w s).topic (topic_in w.topics (subscription_at w s).topic) refl refl)))
 
-closed_enter : (past : List Answer) (w : World) (q : ℕ) → Reached past w → (o : Option Entry) → entry_at w q ≡ o → AllEnter w (close_effect_of w q o)
-closed_enter past w q r None e s l = Enter-same w s l
-closed_enter past w q r (Some entry) e s l =
-    let t = (subscription_at w q).topic in let x = topic_in w.topics t in
+closed_enter : (past : List Answer) (w : World) (q : ℕ) → Reached past w → (k : Found (entry_at w q)) → AllEnter w (close_effect_of w q (Some k.it))
+closed_enter past w q r k s l =
+    let entry = k.it in let t = (subscription_at w q).topic in let x = topic_in w.topics t in
     let v = close_effect_of w q (Some entry) in let left = end_of x.frontier entry in
-    let f = found_entry q x.subscriptions entry e in
-    let own = subst (λ n. Owned w.subscriptions t n entry.from) f.is (r.inv.subscribes.owned t entry f.stands) in
+    let own = owned_entry past w q r k in
     at_set_within (Enters w s v.topics) w.subscriptions q s (record (subscription_at w q) { closed = Some left }) no_subscription own.there
     (λ k n. none_some left.to (sym n))
     (λ ne. enters_by past w s v.topics r l
@@ -173,9 +153,8 @@ closed_enter past w q r (Some entry) e s l =
     (found_stays w s t (after_unsubscribe q x) (find_kept q s x.subscriptions ne) refl)
     (found_stays w s (subscription_at w s).topic (topic_in w.topics (subscription_at w s).topic) refl refl)))
 
-taken_enter : (w : World) (q : ℕ) (o : Option Item) → AllEnter w (take_effect w q o)
-taken_enter w q None s l = Enter-same w s l
-taken_enter w q (Some item) s l =
+taken_enter : (w : World) (q : ℕ) (item : Item) → AllEnter w (take_effect w q (Some item))
+taken_enter w q item s l =
     at_set (Enters w s w.topics) w.subscriptions q s (taken_more w q) no_subscription
     (λ k. subst (λ n. Enters w n w.topics (taken_more w q)) (sym k) (λ n. refl)) (λ n. refl)
 
@@ -187,23 +166,21 @@ added_enter past w clock r s l =
     (λ k h. found_stays w s t (new_topic t w.log_limit clock) h.1 h.0) (λ h. found_stays w s t (topic_in w.topics t) h.1 h.0)
     (at_added (λ u z. (z.held ≡ (topic_in w.topics u).held) × (find_entry s z.subscriptions ≡ find_entry s (topic_in w.topics u).subscriptions)) w.topics w.log_limit clock t (λ k. k) (refl, refl)))
 
-effect_enter : (past : List Answer) (w : World) (e : Move) → Reached past w → AllEnter w (move_effect w e)
-effect_enter past w (AddsTopic clock) r = added_enter past w clock r
-effect_enter past w (Commits c sends) r = elim sends as (λ sends. AllEnter w (commit_effect w c sends)) [ [] ↦ Enter-same w | first ∷ others ↦ Enter-same w ]
-effect_enter past w (Subscribes c t) r = begun_enter past w c t r
-effect_enter past w (Unsubscribes c s) r = closed_enter past w s r (entry_at w s) refl
-effect_enter past w (Leaves c) r = elim (oldest_live c 0 w.subscriptions) as (λ o. AllEnter w (leave_effect w c o)) [ None ↦ Enter-same w | Some q ↦ closed_enter past w q r (entry_at w q) refl ]
-effect_enter past w (Proposes c t memory) r = proposed_enter past w c t (proposal_fault w c t memory) r
-effect_enter past w (Cancels c t) r = elim (find_leftover t (speaker w c).leftovers) as (λ o. AllEnter w (cancel_effect w c t o)) [ None ↦ Enter-same w | Some k ↦ Enter-beside past w t (after_cancel k.id (topic_at w t)) r refl refl ]
-effect_enter past w (Learns t id) r = elim (find_verdict id w.verdicts) as (λ o. AllEnter w (learn_effect w t id o)) [ None ↦ Enter-same w | Some v ↦ Enter-beside past w t (after_learn id (decided_stamp v) (topic_at w t)) r refl refl ]
-effect_enter past w (Releases t) r =
-    Enter-topic past w t (after_release (queue_has_room w) (topic_at w t)) r (λ s. found_stepped w s t _ (release_fills (queue_has_room w) (topic_at w t)))
-effect_enter past w (Turns t) r =
-    Enter-topic past w t (after_turn (queue_has_room w) (verdict_in w) (topic_at w t)) r (λ s. found_stepped w s t _ (turn_fills (queue_has_room w) (verdict_in w) (topic_at w t)))
-effect_enter past w (Takes s) r = taken_enter w s _
-effect_enter past w _ r = Enter-same w
+effect_enter : (past : List Answer) (w : World) (e : Move) → Reached past w → InEachCase (λ v o. AllEnter w v) w e
+effect_enter past w (AddsTopic clock) r = always (added_enter past w clock r)
+effect_enter past w (Subscribes c t) r = always (begun_enter past w c t r)
+effect_enter past w (Unsubscribes c s) r = (Enter-same w, λ k. closed_enter past w s r k)
+effect_enter past w (Leaves c) r = (Enter-same w, λ s. (Enter-same w, λ k. closed_enter past w s.it r k))
+effect_enter past w (Proposes c t memory) r = (Enter-beside past w t _ r refl refl, λ k. Enter-same w)
+effect_enter past w (Cancels c t) r = (Enter-same w, λ k. Enter-beside past w t _ r refl refl)
+effect_enter past w (Learns t id) r = (Enter-same w, λ k. Enter-beside past w t _ r refl refl)
+effect_enter past w (Releases t) r = always (Enter-topic past w t _ r (λ s. found_stepped w s t _ (release_fills (queue_has_room w) (topic_at w t))))
+effect_enter past w (Turns t) r = always (Enter-topic past w t _ r (λ s. found_stepped w s t _ (turn_fills (queue_has_room w) (verdict_in w) (topic_at w t))))
+effect_enter past w (Takes s) r = (Enter-same w, λ k. taken_enter w s k.it)
+effect_enter past w _ r = (Enter-same w, λ k. Enter-same w)
 
 -- each event puts each row that it adds to a log into each queue of the topic whose span has no end then
 pub rows_enter : (r : Run) (e : Move) → AllEnter (final_world r) (world_after (final_world r) e)
 rows_enter r e =
-    by_refusal (λ v o. AllEnter (final_world r) v) (final_world r) e (λ why. Enter-same (final_world r)) (λ n. effect_enter (answers_of r) (final_world r) e (reached r))
+    let w = final_world r in
+    by_refusal (λ v o. AllEnter w v) w e (λ why. Enter-same w) (λ n. by_found (λ v o. AllEnter w v) w e (effect_enter (answers_of r) w e (reached r)))

@@ -1,14 +1,8 @@
 -- No two connections that are there speak for one sender, and a sender for which none speaks is idle. Who goes on as a
 -- sender has it as it was, and has it until the end.
-use Rattle.delivery.proofs.Words.Std.{◌≡◌, ℕ, zero, suc, ◌<◌, ◌==◌, Bool, true, false, not, ◌&&◌, ◌||◌, ◌⊎◌, List, [], ◌∷◌, ◌++◌, length, set, get_or, Option, Some, None, inl, inr, refl, sym, ap, subst, ◌∙◌, arith, ltb, list_any, is_some, option_map_or, unwrap_or, true≢false, and_parts, or_parts, eqb-true, eq-eqb, ltb-true, lt-ltb, not-false, length_push}
-use Rattle.delivery.proofs.Words.Lemmas.{at_set, at_set_within, some_same, none_some, not_true}
-use Rattle.delivery.proofs.Words.Machine.{Objection, World, Connection, Leftover, SenderState, Standing, Undecided, is_reading, is_gone, nobody, new_sender, connection_at, sender_at, speaker, speaker_number, speaks_for, is_in_use, subscription_at, start, Move, world_after, move_refusal, move_effect, drop_leftover, oldest_live, claimed_senders, connect_effect, leave_effect, run, Run, final_world, Opens, Connects, Commits, Disconnects, Errs, Lost, Leaves, Proposes, Decides, Withdraws, Cancels, Takes, Refused, Done}
+use Rattle.delivery.proofs.Words.All.{◌≡◌, ℕ, zero, suc, ◌<◌, ◌==◌, Bool, true, false, not, ◌&&◌, ◌||◌, ◌⊎◌, List, [], ◌∷◌, ◌++◌, length, set, get_or, Option, Some, None, inl, inr, refl, sym, ap, subst, ◌∙◌, arith, ltb, list_any, is_some, option_map_or, unwrap_or, true≢false, and_parts, or_parts, eqb-true, eq-eqb, ltb-true, lt-ltb, not-false, length_push, at_set, at_set_within, some_same, none_some, not_true, World, Connection, Leftover, SenderState, Standing, is_reading, is_gone, nobody, new_sender, connection_at, sender_at, speaker, speaker_number, speaks_for, is_in_use, subscription_at, Move, move_refusal, move_effect, drop_leftover, oldest_live, claimed_senders, connect_effect, leave_effect, Run, final_world, Opens, Connects, Commits, Disconnects, Errs, Lost, Leaves, Proposes, Decides, Withdraws, Cancels, Takes, Done, entry_at, close_effect_of}
 use Rattle.delivery.specs.Theorem.Reported
-use Rattle.delivery.proofs.Machine.Invariant.{sender_in}
-use Rattle.delivery.proofs.Machine.SubscriptionSteps.{at_push, at_end, set_length, beyond}
-use Rattle.delivery.proofs.Machine.InvariantIsKept.{by_refusal, checked}
-use Rattle.delivery.proofs.Machine.ByFound.{InEachCase, by_found, by_entry}
-use Rattle.delivery.proofs.Machine.Speakers.{has_speaker, flying_speaker, claim_there, claim_free}
+use Rattle.delivery.proofs.Words.Steps.{sender_in, at_push, at_end, set_length, beyond, by_refusal, checked, InEachCase, by_found, found, always, none_of, by_run, has_speaker, flying_speaker, claim_there, claim_free}
 
 -- the connection of this number in a list; beyond its end, nobody
 abbrev connection_in : List Connection → ℕ → Connection
@@ -30,13 +24,9 @@ pub record Speak (senders : List SenderState) (connections : List Connection) : 
 
 -- ---- speaking
 
-sender_case : (s : ℕ) (o : Option ℕ) → option_map_or (λ n. n == s) o false ≡ true → o ≡ Some s
-sender_case s None e = absurd (true≢false (sym e))
-sender_case s (Some n) e = ap Some (eqb-true n s e)
-
 -- who speaks for a sender has it
 pub spoken_sender : (s : ℕ) (x : Connection) → speaks_for s x ≡ true → x.sender ≡ Some s
-spoken_sender s x e = sender_case s x.sender (and_parts (not (is_gone x.standing)) _ e).1
+spoken_sender s x e = (elim x.sender as (λ (o : Option ℕ). option_map_or (λ n. n == s) o false ≡ true → o ≡ Some s) [ None ↦ λ e. absurd (true≢false (sym e)) | Some n ↦ λ e. ap Some (eqb-true n s e) ]) (and_parts (not (is_gone x.standing)) _ e).1
 
 -- who has a sender, and isn't gone, speaks for it
 pub speaks : (s : ℕ) (x : Connection) → is_gone x.standing ≡ false → x.sender ≡ Some s → speaks_for s x ≡ true
@@ -190,10 +180,6 @@ joined senders connections c s l room there none free h = record {
 abbrev pub Speaks : World → Type 0
 Speaks w = Speak w.senders w.connections
 
-is_none : (o : Option ℕ) → is_some o ≡ false → o ≡ None
-is_none None e = refl
-is_none (Some n) e = absurd (true≢false e)
-
 -- for the number of the next sender none speaks
 next_free : (w : World) → Speaks w → Unspoken w.connections (length w.senders)
 next_free w h c = not_true (speaks_for (length w.senders) (connection_at w c)) refl
@@ -206,32 +192,21 @@ connected w c claimed n h = by_claim claimed (claim_there w c claimed n) (claim_
     room = ltb-true c (length w.connections) (not-false _ (checked w (Connects c claimed) n).0)
 
     none : (connection_at w c).sender ≡ None
-    none = is_none (connection_at w c).sender (checked w (Connects c claimed) n).1.1.1.0
+    none = none_of (connection_at w c).sender (checked w (Connects c claimed) n).1.1.1.0
 
     by_claim : (o : Option ℕ) → ((s : ℕ) → o ≡ Some s → s < length w.senders) → ((s : ℕ) → o ≡ Some s → is_in_use w s ≡ false) → Speaks (connect_effect w c o)
     by_claim None there free =
         joined (w.senders ++ new_sender ∷ []) w.connections c (length w.senders) (let m = length_push w.senders new_sender in omega arith) room
         (checked w (Connects c claimed) n).1.0 none (next_free w h) (begun w.senders w.connections h)
-    by_claim (Some s) there free =
-        joined w.senders w.connections c s (there s refl) room (checked w (Connects c claimed) n).1.0 none (unspoken w s (free s refl)) h
+    by_claim (Some s) there free = joined w.senders w.connections c s (there s refl) room (checked w (Connects c claimed) n).1.0 none (unspoken w s (free s refl)) h
 
 -- a connection that is there has a sender with a transaction in flight, and speaks for it
 pub flying_speaks : (w : World) (c : ℕ) → is_gone (connection_at w c).standing ≡ false → not (is_some (speaker w c).flight) ≡ false → speaks_for (speaker_number w c) (connection_at w c) ≡ true
 flying_speaks w c there e = speaks (speaker_number w c) (connection_at w c) there (flying_speaker w c (not-false _ e))
 
-pub no_flight : (o : Option Undecided) → is_some o ≡ false → o ≡ None
-no_flight None e = refl
-no_flight (Some f) e = absurd (true≢false e)
-
 no_leftovers : (ks : List Leftover) → ltb 0 (length ks) ≡ false → ks ≡ []
 no_leftovers [] e = refl
 no_leftovers (k ∷ ks) e = absurd (true≢false (sym (lt-ltb 0 (length (k ∷ ks)) (omega arith)) ∙ e))
-
-left : (w : World) (c : ℕ) (o : Option ℕ) → (not (is_some o) && (is_some (speaker w c).flight || ltb 0 (length (speaker w c).leftovers))) ≡ false → Speaks w → Speaks (leave_effect w c o)
-left w c None idle h =
-    let k = or_parts (is_some (speaker w c).flight) (ltb 0 (length (speaker w c).leftovers)) idle in
-    departed w c (no_flight (speaker w c).flight k.0, no_leftovers (speaker w c).leftovers k.1) h
-left w c (Some s) idle h = by_entry Speaks w s h (λ k. h)
 
 -- each move keeps it
 pub effect_speaks : (w : World) (e : Move) → move_refusal w e ≡ None → Speaks w → Speaks (move_effect w e)
@@ -244,13 +219,15 @@ effect_speaks w (Commits c sends) n h =
 effect_speaks w (Disconnects c) n h = standing_kept w.senders w.connections c Standing.Leaving refl (checked w (Disconnects c) n).1.0 h
 effect_speaks w (Errs c) n h = standing_kept w.senders w.connections c Standing.Leaving refl (checked w (Errs c) n).1.0 h
 effect_speaks w (Lost c) n h = standing_kept w.senders w.connections c Standing.Leaving refl (checked w (Lost c) n).1.0 h
-effect_speaks w (Leaves c) n h = left w c (oldest_live c 0 w.subscriptions) (checked w (Leaves c) n).1.1.1.0 h
+effect_speaks w (Leaves c) n h = (elim (oldest_live c 0 w.subscriptions) as (λ (o : Option ℕ). (not (is_some o) && (is_some (speaker w c).flight || ltb 0 (length (speaker w c).leftovers))) ≡ false → Speaks (leave_effect w c o)) [
+  | None ↦ λ idle. (let k = or_parts (is_some (speaker w c).flight) (ltb 0 (length (speaker w c).leftovers)) idle in departed w c (none_of (speaker w c).flight k.0, no_leftovers (speaker w c).leftovers k.1) h)
+  | Some s ↦ λ idle. found (λ o. Speaks (close_effect_of w s o)) (entry_at w s) h (λ k. h)
+]) (checked w (Leaves c) n).1.1.1.0
 effect_speaks w (Proposes c t memory) n h =
     let p = checked w (Proposes c t memory) n in let own = flying_speaks w c p.1.0 p.1.1.0 in
     by_found (λ v o. Speaks v) w (Proposes c t memory)
     (sender_kept w.senders w.connections c (speaker_number w c) _ own h, λ fault. sender_kept w.senders w.connections c (speaker_number w c) _ own h)
-effect_speaks w (Decides c) n h =
-    let p = checked w (Decides c) n in sender_kept w.senders w.connections c (speaker_number w c) _ (flying_speaks w c p.1.0 p.1.1.0) h
+effect_speaks w (Decides c) n h = let p = checked w (Decides c) n in sender_kept w.senders w.connections c (speaker_number w c) _ (flying_speaks w c p.1.0 p.1.1.0) h
 effect_speaks w (Withdraws c) n h =
     let p = checked w (Withdraws c) n in
     standing_kept _ w.connections c Standing.Leaving refl p.1.0 (sender_kept w.senders w.connections c (speaker_number w c) _ (flying_speaks w c p.1.0 p.1.1.0) h)
@@ -262,32 +239,18 @@ effect_speaks w (Takes s) n h =
     by_found (λ v o. Speaks v) w (Takes s) (standing_kept w.senders w.connections c Standing.Leaving refl there h, λ k. h)
 effect_speaks w e n h = by_found (λ v o. Speaks v) w e (h, λ k. h)
 
--- so does each event
-pub step_speaks : (w : World) (e : Move) → Speaks w → Speaks (world_after w e)
-step_speaks w e h = by_refusal (λ v o. Speaks v) w e (λ why. h) (λ n. effect_speaks w e n h)
-
--- and each list of events
-pub run_speaks : (es : List Move) (w : World) → Speaks w → Speaks (run es w)
-run_speaks [] w h = h
-run_speaks (e ∷ es) w h = run_speaks es (world_after w e) (step_speaks w e h)
-
--- it holds at the start
-pub start_speaks : (capacity log_limit : ℕ) (clocks : List ℕ) → Speaks (start capacity log_limit clocks)
-start_speaks capacity log_limit clocks = record {
+-- so it holds after each run
+pub speak : (r : Run) → Speaks (final_world r)
+speak = by_run (λ past w. Speaks w) (λ capacity log_limit clocks. record {
   there = λ c s e. none_some s e;
   own = λ c d s e. absurd (true≢false (sym e));
   resting = λ s u. (refl, refl);
-}
-
--- so after each run
-pub speak : (r : Run) → Speaks (final_world r)
-speak r = run_speaks r.events (start r.capacity r.log_limit r.clocks) (start_speaks r.capacity r.log_limit r.clocks)
+}) (λ r e h. by_refusal (λ v o. Speaks v) (final_world r) e (λ why. h) (λ n. effect_speaks (final_world r) e n h))
 
 -- ---- the laws
 
 pub senders_are_own : Reported.SendersAreOwn
-senders_are_own r c d s e f =
-    let h = speak r in (h.own c d s e f, h.there c s (spoken_sender s (connection_at (final_world r) c) e))
+senders_are_own r c d s e f = let h = speak r in (h.own c d s e f, h.there c s (spoken_sender s (connection_at (final_world r) c) e))
 
 pub resting_are_idle : Reported.RestingAreIdle
 resting_are_idle r s e = (speak r).resting s (unspoken (final_world r) s e)
@@ -297,8 +260,7 @@ abbrev Keeps : World → List Connection → Type 0
 Keeps w connections = (c s : ℕ) → (connection_at w c).sender ≡ Some s → (connection_in connections c).sender ≡ Some s
 
 keeps_standing : (w : World) (c : ℕ) (standing : Standing) → Keeps w (set w.connections c (record { sender = (connection_at w c).sender; standing = standing }))
-keeps_standing w c standing d s e =
-    at_set (λ (z : Connection). z.sender ≡ Some s) w.connections c d _ nobody (λ k. subst (λ n. (connection_at w n).sender ≡ Some s) k e) e
+keeps_standing w c standing d s e = at_set (λ (z : Connection). z.sender ≡ Some s) w.connections c d _ nobody (λ k. subst (λ n. (connection_at w n).sender ≡ Some s) k e) e
 
 effect_keeps : (w : World) (e : Move) → move_refusal w e ≡ None → InEachCase (λ v o. Keeps w v.connections) w e
 effect_keeps w Opens n =
@@ -306,15 +268,15 @@ effect_keeps w Opens n =
 effect_keeps w (Connects c claimed) n =
     let new : Keeps w (move_effect w (Connects c claimed)).connections = λ d s e.
     at_set (λ (z : Connection). z.sender ≡ Some s) w.connections c d _ nobody
-    (λ k. none_some s (sym (is_none (connection_at w c).sender (checked w (Connects c claimed) n).1.1.1.0) ∙ subst (λ a. (connection_at w a).sender ≡ Some s) k e)) e in
-    (new, λ k. new)
-effect_keeps w (Disconnects c) n = (keeps_standing w c Standing.Leaving, λ k. keeps_standing w c Standing.Leaving)
-effect_keeps w (Errs c) n = (keeps_standing w c Standing.Leaving, λ k. keeps_standing w c Standing.Leaving)
-effect_keeps w (Lost c) n = (keeps_standing w c Standing.Leaving, λ k. keeps_standing w c Standing.Leaving)
-effect_keeps w (Leaves c) n = (keeps_standing w c Standing.Gone, λ q. by_entry (λ v. Keeps w v.connections) w q (λ c s e. e) (λ k c s e. e))
-effect_keeps w (Withdraws c) n = (keeps_standing w c Standing.Leaving, λ k. keeps_standing w c Standing.Leaving)
+    (λ k. none_some s (sym (none_of (connection_at w c).sender (checked w (Connects c claimed) n).1.1.1.0) ∙ subst (λ a. (connection_at w a).sender ≡ Some s) k e)) e in
+    always new
+effect_keeps w (Disconnects c) n = always (keeps_standing w c Standing.Leaving)
+effect_keeps w (Errs c) n = always (keeps_standing w c Standing.Leaving)
+effect_keeps w (Lost c) n = always (keeps_standing w c Standing.Leaving)
+effect_keeps w (Leaves c) n = (keeps_standing w c Standing.Gone, λ q. always (λ c s e. e))
+effect_keeps w (Withdraws c) n = always (keeps_standing w c Standing.Leaving)
 effect_keeps w (Takes r) n = (keeps_standing w (subscription_at w r).connection Standing.Leaving, λ k c s e. e)
-effect_keeps w _ n = ((λ c s e. e), λ k c s e. e)
+effect_keeps w _ n = always (λ c s e. e)
 
 pub senders_stay : Reported.SendersStay
 senders_stay w e = by_refusal (λ v o. Keeps w v.connections) w e (λ why c s k. k) (λ n. by_found (λ v o. Keeps w v.connections) w e (effect_keeps w e n))
@@ -322,8 +284,7 @@ senders_stay w e = by_refusal (λ v o. Keeps w v.connections) w e (λ why c s k.
 -- ---- going on
 
 abbrev GoesOn : World → ℕ → Option ℕ → World → Type 0
-GoesOn w c claimed v =
-    ((connection_at v c).sender ≡ Some (unwrap_or claimed (length w.senders))) × (speaker v c ≡ sender_at w (unwrap_or claimed (length w.senders)))
+GoesOn w c claimed v = ((connection_at v c).sender ≡ Some (unwrap_or claimed (length w.senders))) × (speaker v c ≡ sender_at w (unwrap_or claimed (length w.senders)))
 
 same_after : (w : World) (claimed : Option ℕ) → sender_in (claimed_senders w.senders claimed) (unwrap_or claimed (length w.senders)) ≡ sender_at w (unwrap_or claimed (length w.senders))
 same_after w None =
@@ -338,8 +299,4 @@ goes_on w c claimed n = (is, ap (λ (o : Option ℕ). sender_in (claimed_senders
         (ltb-true c (length w.connections) (not-false _ (checked w (Connects c claimed) n).0)) (λ k. refl) (λ ne. absurd (ne refl))
 
 pub claims_go_on : Reported.ClaimsGoOn
-claims_go_on w c claimed =
-    by_refusal (λ v o. o ≡ Done → GoesOn w c claimed v) w (Connects c claimed) (λ why k. absurd (by why k)) (λ n k. goes_on w c claimed n)
-  where
-    by : (why : Objection) → Refused why ≡ Done → Prim.⊥
-    by why k = cc
+claims_go_on w c claimed = by_refusal (λ v o. o ≡ Done → GoesOn w c claimed v) w (Connects c claimed) (λ why k. cc) (λ n k. goes_on w c claimed n)

@@ -1,21 +1,11 @@
 -- Each event keeps the run beside its core, and a settled topic's log leaves no row out.
-use Rattle.delivery.proofs.Words.Std.{◌≡◌, ℕ, ◌<◌, ◌≤◌, Bool, true, false, ◌⊎◌, inl, inr, List, [], ◌∷◌, set, Option, Some, None, refl, sym, ap, subst, ◌∙◌, arith, true≢false, false≢true}
-use Rattle.delivery.proofs.Words.Topics.{TopicPart, topics_of, CommitRow, same_id, In, names, Decision, Topic, TxnId, SentMessage, Stamp, ProposeFault, TopicState, Pending, Entry, decided_stamp, new_topic, after_learn, after_cancel, due_part, after_turn}
-use Rattle.delivery.proofs.Words.Lemmas.{id_equal, id_same, id_itself, at_set, at_set_within, Waits, others, not_true, none_some}
-use Rattle.delivery.proofs.Words.Machine.{log_row, World, Undecided, Leftover, SenderState, new_sender, topic_at, speaker, subscription_at, entry_at, start, new_topics, speaker_number, log_at, Move, Answer, world_after, answer_to, move_refusal, move_effect, move_answer, undecided_at, find_leftover, find_verdict, verdict_in, oldest_live, commit_effect, commit_answer, proposal_fault, propose_effect, propose_answer, withdraw_effect, cancel_effect, cancel_answer, learn_effect, release_answer, queue_has_room, take_answer, leave_effect, leave_answer, close_effect, close_effect_of, connect_effect, run, answers_from, commits_of, IsSettled, AllResolved, Run, answers_of, final_world}
+use Rattle.delivery.proofs.Words.All.{◌≡◌, ℕ, ◌<◌, ◌≤◌, Bool, true, false, ◌⊎◌, inl, inr, List, [], ◌∷◌, set, Option, Some, None, refl, sym, ap, subst, ◌∙◌, arith, true≢false, false≢true, TopicPart, topics_of, CommitRow, same_id, In, names, Decision, Topic, TxnId, SentMessage, Stamp, ProposeFault, TopicState, Pending, Entry, decided_stamp, new_topic, after_learn, after_cancel, due_part, after_turn, id_equal, id_same, id_itself, at_set, at_set_within, Waits, others, not_true, none_some, log_row, World, Undecided, Leftover, SenderState, new_sender, topic_at, speaker, subscription_at, entry_at, new_topics, speaker_number, log_at, Move, Answer, world_after, answer_to, move_refusal, move_effect, move_answer, undecided_at, find_leftover, find_verdict, verdict_in, oldest_live, commit_effect, commit_answer, proposal_fault, propose_effect, propose_answer, withdraw_effect, cancel_effect, cancel_answer, learn_effect, release_answer, queue_has_room, take_answer, leave_effect, leave_answer, close_effect, close_effect_of, connect_effect, commits_of, IsSettled, AllResolved, Run, answers_of, final_world}
 use Rattle.mcast_txn.proofs.Members.{at_set_same}
 use Rattle.mcast_group.specs.Machine.{turn_count}
 use Rattle.mcast_group.proofs.Turning.{turn_none}
 use Rattle.delivery.specs.Machine.Moves.Move.{AddsTopic, Connects, Commits, Subscribes, Unsubscribes, Leaves, Proposes, Decides, Withdraws, Cancels, Learns, Releases, Turns, Takes}
 use Rattle.delivery.specs.Machine.Moves.Answer.{Refused, Done, Gone, Failed, Decided, Learnt, Handed}
-use Rattle.delivery.proofs.Machine.Invariant.{row, topic_in, sender_in}
-use Rattle.delivery.proofs.Machine.TopicSteps.{flies_uncommitted}
-use Rattle.delivery.proofs.Machine.ProposeStep.{within_senders}
-use Rattle.delivery.proofs.Machine.SenderSteps.{leftover_found}
-use Rattle.delivery.proofs.Machine.SubscriptionSteps.{at_push, at_added}
-use Rattle.delivery.proofs.Machine.InvariantIsKept.{Reached, tickets, by_refusal, checked, in_flight, asks_of, Asks, new_ticket, no_fault, step_reached, same_flights, one_fewer, one_same, one_kept}
-use Rattle.delivery.proofs.Machine.ByFound.{by_found}
-use Rattle.delivery.proofs.Theorem.AcceptedIsDue.{at_new, start_reached}
+use Rattle.delivery.proofs.Words.Steps.{row, topic_in, sender_in, flies_uncommitted, within_senders, leftover_found, at_push, at_added, Reached, tickets, by_refusal, checked, in_flight, asks_of, Asks, new_ticket, no_fault, same_flights, one_fewer, one_same, one_kept, by_found, at_new, reached, by_run}
 use Rattle.delivery.proofs.Machine.AnswerLemmas.{In-ticket, commit_of}
 use Rattle.delivery.proofs.Machine.VerdictsFit.{fits, found_one_row, HasCommit}
 use Rattle.delivery.proofs.Theorem.SettledSteps.{Calm, Settling, Gone_to, Gone-same, Gone-learned, Gone-without, Gone-release, Gone-turned, Fewer, Fewer-same, Fewer-topic, Fewer-sender, Fewer-then, Settling-fewer, Quiet, note_quiet, note_withdrawn, note_cancelled, note_turned, flying_settling, ticket_settling}
@@ -37,8 +27,8 @@ quiet (Answer.Ticket id ticket) q = absurd (false≢true q)
 quiet (Answer.Withdrawn id c) q = absurd (false≢true q)
 quiet (Answer.Cancelled id t) q = absurd (false≢true q)
 quiet (Answer.Turned t count) q = absurd (false≢true q)
-quiet (Answer.Decided id stamp) q = record { flying = λ txn e. cc; tickets = λ past. refl; withdrawn = λ i d e. cc; cancelled = λ i t e. cc; settled = λ t past h. h.1 }
-quiet _ q = record { flying = λ txn e. cc; tickets = λ past. refl; withdrawn = λ i d e. cc; cancelled = λ i t e. cc; settled = λ t past h. h }
+quiet (Answer.Decided id stamp) q = record { tickets = λ past. refl; over = λ i k. k; settled = λ t past h. h.1 }
+quiet _ q = record { tickets = λ past. refl; over = λ i k. k; settled = λ t past h. h }
 
 -- a quiet outcome of an event after which there is less
 fewer_quiet : (past : List Answer) (w v : World) (o : Answer) → Quiet o → Fewer w.topics w.senders v.topics v.senders → Settling past w.topics w.senders → Settling (o ∷ past) v.topics v.senders
@@ -48,14 +38,11 @@ fewer_quiet past w v o q f h = note_quiet past v.topics v.senders o q (Settling-
 
 -- a transaction that was decided has a row in the core's commit list
 pub committed_of : (past : List Answer) (w : World) (id : TxnId) (stamp : Stamp) → Reached past w → In (Decided id stamp) past → HasCommit w.commits id
-committed_of past w id stamp h k =
-    let c = commit_of id stamp past k in
-    record { row = c.it; stands = subst (λ z. In c.it z) h.commits c.stands; id_is = c.id_is }
+committed_of past w id stamp h k = let c = commit_of id stamp past k in record { row = c.it; stands = subst (λ z. In c.it z) h.commits c.stands; id_is = c.id_is }
 
 pending_committed : (past : List Answer) (w : World) (t : Topic) → Reached past w → Settling past w.topics w.senders → AllResolved t past → (p : Pending) → In p (topic_in w.topics t).pending → HasCommit w.commits p.part.id
 pending_committed past w t h l all p i =
-    let k = h.inv.tied t in let a = k.ticketed p i in
-    let here : p.part.topic ≡ t = k.sound.own p i ∙ k.topic in
+    let k = h.inv.tied t in let a = k.ticketed p i in let here : p.part.topic ≡ t = k.sound.own p i ∙ k.topic in
     let id : a.ticket.txn.id ≡ p.part.id = ap (λ (z : TopicPart). z.id) a.part_is in
     elim (all a.ticket.txn (l.ticket_flew a.ticket a.stands) (subst (λ z. names z (topics_of a.ticket.txn.sends) ≡ true) here a.named)) [
       | inl d ↦ subst (λ z. HasCommit w.commits z) id (committed_of past w a.ticket.txn.id d.0 h d.1)
@@ -68,7 +55,7 @@ flights_still past w t h l all s f e = not_true (names t (topics_of f.txn.sends)
     elim (all f.txn (l.flew s f e) n) [
       | inl d ↦ (let c = committed_of past w f.txn.id d.0 h d.1 in
           flies_uncommitted (tickets past) w.commits w.topics s _ _ f ((h.inv.serves s).flying f e) c.row c.stands (id_same c.row.txn.id f.txn.id c.id_is))
-      | inr d ↦ true≢false (sym (id_itself f.txn.id) ∙ l.not_withdrawn s f f.txn.id d.0.0 e d.0.1)
+      | inr d ↦ true≢false (sym (id_itself f.txn.id) ∙ l.not_over s f f.txn.id (Answer.Withdrawn f.txn.id d.0.0) e d.0.1 refl)
     ])
 
 turn_settling : (past : List Answer) (w : World) (t : Topic) → Reached past w → Settling past w.topics w.senders → Settling (move_answer w (Turns t) ∷ past) (set w.topics t.0 (after_turn (queue_has_room w) (verdict_in w) (topic_at w t))) w.senders
@@ -90,8 +77,7 @@ turn_settling past w t h l =
 
 proposed_settling : (past : List Answer) (w : World) (c : ℕ) (t : Topic) (memory : Bool) → Reached past w → Settling past w.topics w.senders → Asks w c t → (o : Option ProposeFault) → proposal_fault w c t memory ≡ o → Settling (propose_answer w c t o ∷ past) (propose_effect w c t o).topics (propose_effect w c t o).senders
 proposed_settling past w c t memory h l a None e =
-    let s = speaker_number w c in let f = undecided_at w c in
-    let new = new_ticket w c t a (no_fault w c t memory _ refl e) in
+    let s = speaker_number w c in let f = undecided_at w c in let new = new_ticket w c t a (no_fault w c t memory _ refl e) in
     ticket_settling past w s t f h.inv new (h.flights s f new.flight) l
 proposed_settling past w c t memory h l a (Some fault) e =
     let s = speaker_number w c in let f = undecided_at w c in let k = a.flying.is ∙ ap Some (sym a.flying.at) in
@@ -100,8 +86,7 @@ proposed_settling past w c t memory h l a (Some fault) e =
 
 withdrawn_settling : (past : List Answer) (w : World) (c : ℕ) → Reached past w → Settling past w.topics w.senders → move_refusal w (Withdraws c) ≡ None → Settling (move_answer w (Withdraws c) ∷ past) (withdraw_effect w c).topics (withdraw_effect w c).senders
 withdrawn_settling past w c h l e =
-    let p = checked w (Withdraws c) e in let fl = in_flight w c p.1.1.0 in
-    let s = speaker_number w c in let f = undecided_at w c in let k = fl.is ∙ ap Some (sym fl.at) in
+    let p = checked w (Withdraws c) e in let fl = in_flight w c p.1.1.0 in let s = speaker_number w c in let f = undecided_at w c in let k = fl.is ∙ ap Some (sym fl.at) in
     let g = (h.inv.serves s).flying f k in let v = withdraw_effect w c in
     note_withdrawn past v.topics v.senders f.txn.id c
     (at_set (λ (z : SenderState). f.txn.id.seq ≤ z.seq) w.senders s f.txn.id.sender.0 _ new_sender (λ n. g.seq_le)
@@ -116,8 +101,7 @@ cancelled_settling : (past : List Answer) (w : World) (c : ℕ) (t : Topic) → 
 cancelled_settling past w c t h l None e = note_quiet past w.topics w.senders Done (quiet Done refl) l
 cancelled_settling past w c t h l (Some k) e =
     let s = speaker_number w c in let x = sender_in w.senders s in let v = cancel_effect w c t (Some k) in
-    let found = leftover_found t x.leftovers k e in let g = (h.inv.serves s).left k found.stands in
-    let y = after_cancel k.id (topic_in w.topics t) in
+    let found = leftover_found t x.leftovers k e in let g = (h.inv.serves s).left k found.stands in let y = after_cancel k.id (topic_in w.topics t) in
     note_cancelled past v.topics v.senders k.id t
     (at_set (λ (z : SenderState). k.id.seq ≤ z.seq) w.senders s k.id.sender.0 _ new_sender (λ n. g.seq_le)
     (subst (λ z. k.id.seq ≤ (sender_in w.senders z).seq) (sym g.sender) g.seq_le))
@@ -146,11 +130,6 @@ closed_fewer : (w : World) (s : ℕ) (o : Option Entry) → Fewer w.topics w.sen
 closed_fewer w s None = Fewer-same w.topics w.senders
 closed_fewer w s (Some e) = let t = (subscription_at w s).topic in Fewer-topic w.topics w.senders t _ (Gone-same (topic_at w t).pending)
 
-left_settling : (past : List Answer) (w : World) (c : ℕ) (o : Option ℕ) → Settling past w.topics w.senders → Settling (leave_answer w c o ∷ past) (leave_effect w c o).topics (leave_effect w c o).senders
-left_settling past w c None l = note_quiet past w.topics w.senders (Gone c) (quiet (Gone c) refl) l
-left_settling past w c (Some s) l =
-    fewer_quiet past w (close_effect w s) (leave_answer w c (Some s)) (quiet (leave_answer w c (Some s)) refl) (closed_fewer w s (entry_at w s)) l
-
 flown_settling : (past : List Answer) (w : World) (c : ℕ) (sends : List SentMessage) → Reached past w → Settling past w.topics w.senders → Settling (commit_answer w c sends ∷ past) (commit_effect w c sends).topics (commit_effect w c sends).senders
 flown_settling past w c [] h l = note_quiet past w.topics w.senders Done (quiet Done refl) l
 flown_settling past w c (first ∷ others) h l = flying_settling past w c first others h.inv l
@@ -177,7 +156,10 @@ happens_settling past w (Subscribes c t) h l e =
     (Fewer-topic w.topics w.senders t _ (Gone-same (topic_at w t).pending)) l
 happens_settling past w (Unsubscribes c s) h l e =
     fewer_quiet past w (close_effect w s) (move_answer w (Unsubscribes c s)) (quiet (move_answer w (Unsubscribes c s)) refl) (closed_fewer w s (entry_at w s)) l
-happens_settling past w (Leaves c) h l e = left_settling past w c (oldest_live c 0 w.subscriptions) l
+happens_settling past w (Leaves c) h l e = elim (oldest_live c 0 w.subscriptions) as (λ (o : Option ℕ). Settling (leave_answer w c o ∷ past) (leave_effect w c o).topics (leave_effect w c o).senders) [
+  | None ↦ note_quiet past w.topics w.senders (Gone c) (quiet (Gone c) refl) l
+  | Some s ↦ fewer_quiet past w (close_effect w s) (leave_answer w c (Some s)) (quiet (leave_answer w c (Some s)) refl) (closed_fewer w s (entry_at w s)) l
+]
 happens_settling past w (Proposes c t memory) h l e = proposed_settling past w c t memory h l (asks_of w c t memory e) (proposal_fault w c t memory) refl
 happens_settling past w (Decides c) h l e =
     fewer_quiet past w (move_effect w (Decides c)) (move_answer w (Decides c)) (quiet (move_answer w (Decides c)) refl)
@@ -192,7 +174,7 @@ happens_settling past w (Releases t) h l e =
 happens_settling past w (Turns t) h l e = turn_settling past w t h l
 happens_settling past w (Takes s) h l e =
     by_found (λ v o. Settling (o ∷ past) v.topics v.senders) w (Takes s)
-    (note_quiet past w.topics w.senders (take_answer w s None) (quiet (take_answer w s None) refl) l, λ item. note_quiet past w.topics w.senders (Handed s item) (quiet (Handed s item) refl) l)
+    (note_quiet past w.topics w.senders (take_answer w s None) (quiet (take_answer w s None) refl) l, λ k. note_quiet past w.topics w.senders (Handed s k.it) (quiet (Handed s k.it) refl) l)
 happens_settling past w e h l n = note_quiet past w.topics w.senders (move_answer w e) (quiet (move_answer w e) refl) l
 
 -- each event keeps Settling
@@ -203,35 +185,19 @@ step_settling past w e h l =
 
 -- ---- over a run
 
--- Reached and Settling together
-pub record Both (past : List Answer) (w : World) : Type 0 where
-  pub reached : Reached past w
-  pub settling : Settling past w.topics w.senders
-
-run_both : (es : List Move) (past : List Answer) (w : World) → Reached past w → Settling past w.topics w.senders → Both (answers_from es w past) (run es w)
-run_both [] past w h l = record { reached = h; settling = l }
-run_both (e ∷ es) past w h l = run_both es (answer_to w e ∷ past) (world_after w e) (step_reached past w e h) (step_settling past w e h l)
-
 no_parts : (log_limit : ℕ) (clocks : List ℕ) (t : Topic) (p : Pending) → In p (topic_in (new_topics 0 log_limit clocks) t).pending → Prim.⊥
 no_parts log_limit clocks t = at_new (λ z. (p : Pending) → In p z.pending → Prim.⊥) 0 log_limit clocks t.0 t (omega arith) (λ limit clock p i. i)
 
--- Settling holds at the start of a run
-pub start_settling : (log_limit : ℕ) (clocks : List ℕ) → Settling [] (new_topics 0 log_limit clocks) []
-start_settling log_limit clocks = record {
+-- a run beside the core that it leads to
+pub settling_run : (r : Run) → Settling (answers_of r) (final_world r).topics (final_world r).senders
+settling_run = by_run (λ past w. Settling past w.topics w.senders) (λ capacity log_limit clocks. record {
   gone = λ t p id i k. absurd k;
   flew = λ s f e. none_some f e;
   ticket_flew = λ a k. absurd k;
-  withdrawn_old = λ id c k. absurd k;
-  cancelled_old = λ id t k. absurd k;
-  not_withdrawn = λ s f id c e k. absurd k;
-  not_cancelled = λ s f id t e k. absurd k;
+  over_old = λ id o k. absurd k;
+  not_over = λ s f id o e k. absurd k;
   calm = λ t e. record { none = no_parts log_limit clocks t; still = λ s f n. none_some f n };
-}
-
--- a run beside the core that it leads to
-pub settling_run : (r : Run) → Settling (answers_of r) (final_world r).topics (final_world r).senders
-settling_run r =
-    (run_both r.events [] (start r.capacity r.log_limit r.clocks) (start_reached r.capacity r.log_limit r.clocks) (start_settling r.log_limit r.clocks)).settling
+}) (λ r e h. step_settling (answers_of r) (final_world r) e (reached r) h)
 
 logged_of : (w : World) (t : Topic) (r : CommitRow) → Calm w.topics w.senders t → In (log_row r) (topic_in w.topics t).held ⊎ Waits r.txn.id (topic_in w.topics t).pending → In (log_row r) (topic_in w.topics t).held
 logged_of w t r k (inl i) = i
@@ -241,6 +207,4 @@ logged_of w t r k (inr v) = absurd (k.none v.part v.stands)
 pub settled_in_log : (r : Run) (t : Topic) (row : CommitRow) → IsSettled t (answers_of r) → In row (commits_of (answers_of r)) → names t (topics_of row.txn.sends) ≡ true
     → In (log_row row) (log_at (final_world r) t)
 settled_in_log r t row settled i n =
-    let w = final_world r in
-    let b = run_both r.events [] (start r.capacity r.log_limit r.clocks) (start_reached r.capacity r.log_limit r.clocks) (start_settling r.log_limit r.clocks) in
-    logged_of w t row (b.settling.calm t settled) ((b.reached.inv.tied t).placed row (subst (λ z. In row z) b.reached.commits i) n)
+    let w = final_world r in let h = reached r in logged_of w t row ((settling_run r).calm t settled) ((h.inv.tied t).placed row (subst (λ z. In row z) h.commits i) n)

@@ -1,28 +1,27 @@
 -- A settled topic's log leaves no row out.
-use Rattle.delivery.proofs.Words.Std.{◌≡◌, ℕ, ◌+◌, ◌≤◌, Bool, false, inl, inr, List, [], ◌∷◌, set, Option, Some, None, refl, sym, ap, subst, ◌∙◌, arith, true≢false}
-use Rattle.delivery.proofs.Words.Topics.{TopicPart, topics_of, Transaction, CommitRow, same_id, In, names, Decision, Topic, TxnId, SentMessage, Stamp, TopicState, Pending, Entry, with_stamp, after_learn, after_cancel, after_release, after_turn, decided_stamp}
-use Rattle.delivery.proofs.Words.Lemmas.{id_equal, In-insert_cases, In-map_cases, at_set, Waits, others, not_true, some_same, release_keeps, turn_keeps}
-use Rattle.delivery.proofs.Words.Machine.{World, Undecided, SenderState, new_sender, speaker, speaker_number, Answer, next_txn, commit_effect, txn_of_id, AllResolved, IsSettled, Begun, Ticket, Withdrawn, Cancelled, Turned}
+use Rattle.delivery.proofs.Words.All.{◌≡◌, ℕ, ◌+◌, ◌≤◌, Bool, false, inl, inr, List, [], ◌∷◌, set, Option, Some, None, refl, sym, ap, subst, ◌∙◌, arith, true≢false, TopicPart, topics_of, Transaction, CommitRow, same_id, In, names, Decision, Topic, TxnId, SentMessage, Stamp, TopicState, Pending, Entry, with_stamp, after_learn, after_cancel, after_release, after_turn, decided_stamp, id_equal, In-insert_cases, In-map_cases, at_set, Waits, others, not_true, some_same, release_keeps, turn_keeps, World, Undecided, SenderState, new_sender, speaker, speaker_number, Answer, next_txn, commit_effect, txn_of_id, AllResolved, IsSettled, Begun, Withdrawn, Cancelled, Turned}
+use Rattle.delivery.specs.Machine.Moves.Answer.{Ticket}
 use Rattle.mcast_group.proofs.Parts.{told_how}
-use Rattle.delivery.proofs.Machine.Invariant.{row, topic_in, sender_in, Holds}
-use Rattle.delivery.proofs.Machine.TopicSteps.{at_topic_from}
-use Rattle.delivery.proofs.Machine.ProposeStep.{New, heard, cons_one, topic_after, sender_after, flight_after}
-use Rattle.delivery.proofs.Machine.InvariantIsKept.{tickets, FewerFlights, same_flights}
+use Rattle.delivery.proofs.Words.Steps.{row, topic_in, sender_in, Holds, at_topic_from, New, heard, cons_one, topic_after, sender_after, flight_after, tickets, FewerFlights, same_flights}
 
 -- nothing is pending at t, and no undecided transaction names it
 pub record Calm (topics : List TopicState) (senders : List SenderState) (t : Topic) : Type 0 where
   pub none : (p : Pending) → In p (topic_in topics t).pending → Prim.⊥
   pub still : (s : ℕ) (f : Undecided) → (sender_in senders s).flight ≡ Some f → names t (topics_of f.txn.sends) ≡ false
 
+-- the answer says that this transaction is over: it was withdrawn, or a ticket of it was cancelled
+abbrev pub IsOver : TxnId → Answer → Type 0
+IsOver id (Withdrawn i c) = i ≡ id
+IsOver id (Cancelled i t) = i ≡ id
+IsOver id o = Prim.⊥
+
 -- the run beside the core that it leads to
 pub record Settling (past : List Answer) (topics : List TopicState) (senders : List SenderState) : Type 0 where
   pub gone : (t : Topic) (p : Pending) (id : TxnId) → In p (topic_in topics t).pending → In (Cancelled id t) past → same_id p.part.id id ≡ false
   pub flew : (s : ℕ) (f : Undecided) → (sender_in senders s).flight ≡ Some f → In (Begun f.txn) past
   pub ticket_flew : (a : CommitRow) → In a (tickets past) → In (Begun a.txn) past
-  pub withdrawn_old : (id : TxnId) (c : ℕ) → In (Withdrawn id c) past → id.seq ≤ (sender_in senders id.sender.0).seq
-  pub cancelled_old : (id : TxnId) (t : Topic) → In (Cancelled id t) past → id.seq ≤ (sender_in senders id.sender.0).seq
-  pub not_withdrawn : (s : ℕ) (f : Undecided) (id : TxnId) (c : ℕ) → (sender_in senders s).flight ≡ Some f → In (Withdrawn id c) past → same_id f.txn.id id ≡ false
-  pub not_cancelled : (s : ℕ) (f : Undecided) (id : TxnId) (t : Topic) → (sender_in senders s).flight ≡ Some f → In (Cancelled id t) past → same_id f.txn.id id ≡ false
+  pub over_old : (id : TxnId) (o : Answer) → In o past → IsOver id o → id.seq ≤ (sender_in senders id.sender.0).seq
+  pub not_over : (s : ℕ) (f : Undecided) (id : TxnId) (o : Answer) → (sender_in senders s).flight ≡ Some f → In o past → IsOver id o → same_id f.txn.id id ≡ false
   pub calm : (t : Topic) → IsSettled t past → Calm topics senders t
 
 -- ---- parts that only go
@@ -100,10 +99,8 @@ Settling-fewer past topics senders nt ns f h = record {
   gone = λ t q id i k. let p = f.parts t q i in subst (λ z. same_id z id ≡ false) p.is (h.gone t p.part id p.stands k);
   flew = λ s g e. let k = f.flights s g e in subst (λ z. In (Begun z) past) k.2 (h.flew s k.0 k.1);
   ticket_flew = h.ticket_flew;
-  withdrawn_old = λ id c k. let a = h.withdrawn_old id c k in let b = f.seqs id.sender.0 in omega arith;
-  cancelled_old = λ id t k. let a = h.cancelled_old id t k in let b = f.seqs id.sender.0 in omega arith;
-  not_withdrawn = λ s g id c e i. let k = f.flights s g e in subst (λ (z : Transaction). same_id z.id id ≡ false) k.2 (h.not_withdrawn s k.0 id c k.1 i);
-  not_cancelled = λ s g id t e i. let k = f.flights s g e in subst (λ (z : Transaction). same_id z.id id ≡ false) k.2 (h.not_cancelled s k.0 id t k.1 i);
+  over_old = λ id o k v. let a = h.over_old id o k v in let b = f.seqs id.sender.0 in omega arith;
+  not_over = λ s g id o e i v. let k = f.flights s g e in subst (λ (z : Transaction). same_id z.id id ≡ false) k.2 (h.not_over s k.0 id o k.1 i v);
   calm = λ t e. let k = h.calm t e in record {
     none = λ q i. let p = f.parts t q i in k.none p.part p.stands;
     still = λ s g d. let l = f.flights s g d in subst (λ (z : Transaction). names t (topics_of z.sends) ≡ false) l.2 (k.still s l.0 l.1);
@@ -112,84 +109,73 @@ Settling-fewer past topics senders nt ns f h = record {
 
 -- ---- one more outcome
 
+-- what one more answer, which gives no ticket, has to be for that
+record Adds (past : List Answer) (topics : List TopicState) (senders : List SenderState) (o : Answer) : Type 0 where
+  tickets : tickets (o ∷ past) ≡ tickets past
+  gone : (t : Topic) (p : Pending) (id : TxnId) → In p (topic_in topics t).pending → o ≡ Cancelled id t → same_id p.part.id id ≡ false
+  old : (id : TxnId) → IsOver id o → id.seq ≤ (sender_in senders id.sender.0).seq
+  over : (s : ℕ) (f : Undecided) (id : TxnId) → (sender_in senders s).flight ≡ Some f → IsOver id o → same_id f.txn.id id ≡ false
+  calm : (t : Topic) → IsSettled t (o ∷ past) → Calm topics senders t
+
+note : {past : List Answer} {topics : List TopicState} {senders : List SenderState} {o : Answer} → Adds past topics senders o → Settling past topics senders → Settling (o ∷ past) topics senders
+note a h = record {
+  gone = λ t p id i k. elim k [ inl e ↦ a.gone t p id i e | inr j ↦ h.gone t p id i j ];
+  flew = λ s f e. inr (h.flew s f e);
+  ticket_flew = λ b k. inr (h.ticket_flew b (subst (λ z. In b z) a.tickets k));
+  over_old = λ id p k v. elim k [ inl e ↦ a.old id (subst (IsOver id) (sym e) v) | inr j ↦ h.over_old id p j v ];
+  not_over = λ s f id p e k v. elim k [ inl d ↦ a.over s f id e (subst (IsOver id) (sym d) v) | inr j ↦ h.not_over s f id p e j v ];
+  calm = a.calm;
+}
+
 -- an outcome that makes nothing, gives no ticket, and withdraws and cancels nothing
 pub record Quiet (o : Answer) : Type 0 where
-  pub flying : (txn : Transaction) → o ≡ Begun txn → Prim.⊥
   pub tickets : (past : List Answer) → tickets (o ∷ past) ≡ tickets past
-  pub withdrawn : (id : TxnId) (c : ℕ) → o ≡ Withdrawn id c → Prim.⊥
-  pub cancelled : (id : TxnId) (t : Topic) → o ≡ Cancelled id t → Prim.⊥
+  pub over : (id : TxnId) → IsOver id o → Prim.⊥
   pub settled : (t : Topic) (past : List Answer) → IsSettled t (o ∷ past) → IsSettled t past
 
 -- Settling stays with one more quiet answer
 pub note_quiet : (past : List Answer) (topics : List TopicState) (senders : List SenderState) (o : Answer) → Quiet o → Settling past topics senders → Settling (o ∷ past) topics senders
-note_quiet past topics senders o q h = record {
-  gone = λ t p id i k. elim k [ inl e ↦ absurd (q.cancelled id t e) | inr j ↦ h.gone t p id i j ];
-  flew = λ s f e. inr (h.flew s f e);
-  ticket_flew = λ a k. inr (h.ticket_flew a (subst (λ z. In a z) (q.tickets past) k));
-  withdrawn_old = λ id c k. elim k [ inl e ↦ absurd (q.withdrawn id c e) | inr j ↦ h.withdrawn_old id c j ];
-  cancelled_old = λ id t k. elim k [ inl e ↦ absurd (q.cancelled id t e) | inr j ↦ h.cancelled_old id t j ];
-  not_withdrawn = λ s f id c e k. elim k [ inl d ↦ absurd (q.withdrawn id c d) | inr j ↦ h.not_withdrawn s f id c e j ];
-  not_cancelled = λ s f id t e k. elim k [ inl d ↦ absurd (q.cancelled id t d) | inr j ↦ h.not_cancelled s f id t e j ];
+note_quiet past topics senders o q h = note (record {
+  tickets = q.tickets past;
+  gone = λ t p id i e. absurd (q.over id (subst (IsOver id) (sym e) refl));
+  old = λ id k. absurd (q.over id k);
+  over = λ s f id e k. absurd (q.over id k);
   calm = λ t e. h.calm t (q.settled t past e);
-}
+}) h
 
 -- Settling stays with a withdrawal, where its id was used and has no flight any more
 pub note_withdrawn : (past : List Answer) (topics : List TopicState) (senders : List SenderState) (id : TxnId) (c : ℕ) → id.seq ≤ (sender_in senders id.sender.0).seq → ((s : ℕ) (f : Undecided) → (sender_in senders s).flight ≡ Some f → same_id f.txn.id id ≡ false) → Settling past topics senders → Settling (Withdrawn id c ∷ past) topics senders
-note_withdrawn past topics senders id c old apart h = record {
-  gone = λ t p i j k. elim k [ inl e ↦ cc | inr l ↦ h.gone t p i j l ];
-  flew = λ s f e. inr (h.flew s f e);
-  ticket_flew = λ a k. inr (h.ticket_flew a k);
-  withdrawn_old = λ i d k. elim k [
-    | inl e ↦ (let n : id ≡ i = cc in subst (λ (z : TxnId). z.seq ≤ (sender_in senders z.sender.0).seq) n old)
-    | inr j ↦ h.withdrawn_old i d j
-  ];
-  cancelled_old = λ i t k. elim k [ inl e ↦ absurd (cc) | inr j ↦ h.cancelled_old i t j ];
-  not_withdrawn = λ s f i d e k. elim k [
-    | inl n ↦ (let m : id ≡ i = cc in subst (λ z. same_id f.txn.id z ≡ false) m (apart s f e))
-    | inr j ↦ h.not_withdrawn s f i d e j
-  ];
-  not_cancelled = λ s f i t e k. elim k [ inl n ↦ cc | inr j ↦ h.not_cancelled s f i t e j ];
+note_withdrawn past topics senders id c old apart h = note (record {
+  tickets = refl;
+  gone = λ t p j i e. cc;
+  old = λ j n. subst (λ (z : TxnId). z.seq ≤ (sender_in senders z.sender.0).seq) n old;
+  over = λ s f j e n. subst (λ z. same_id f.txn.id z ≡ false) n (apart s f e);
   calm = λ t e. h.calm t e.1;
-}
+}) h
 
 -- Settling stays with a cancelling, where its id was used, has no flight and isn't pending there
 pub note_cancelled : (past : List Answer) (topics : List TopicState) (senders : List SenderState) (id : TxnId) (u : Topic) → id.seq ≤ (sender_in senders id.sender.0).seq → ((s : ℕ) (f : Undecided) → (sender_in senders s).flight ≡ Some f → same_id f.txn.id id ≡ false) → ((p : Pending) → In p (topic_in topics u).pending → same_id p.part.id id ≡ false) → Settling past topics senders → Settling (Cancelled id u ∷ past) topics senders
-note_cancelled past topics senders id u old apart none h = record {
-  gone = λ t p i j k. elim k [
-    | inl e ↦ (let n : id ≡ i = cc in let m : u ≡ t = cc in
-        subst (λ z. same_id p.part.id z ≡ false) n (none p (subst (λ z. In p (topic_in topics z).pending) (sym m) j)))
-    | inr l ↦ h.gone t p i j l
-  ];
-  flew = λ s f e. inr (h.flew s f e);
-  ticket_flew = λ a k. inr (h.ticket_flew a k);
-  withdrawn_old = λ i d k. elim k [ inl e ↦ absurd (cc) | inr j ↦ h.withdrawn_old i d j ];
-  cancelled_old = λ i t k. elim k [
-    | inl e ↦ (let n : id ≡ i = cc in subst (λ (z : TxnId). z.seq ≤ (sender_in senders z.sender.0).seq) n old)
-    | inr j ↦ h.cancelled_old i t j
-  ];
-  not_withdrawn = λ s f i d e k. elim k [ inl n ↦ cc | inr j ↦ h.not_withdrawn s f i d e j ];
-  not_cancelled = λ s f i t e k. elim k [
-    | inl n ↦ (let m : id ≡ i = cc in subst (λ z. same_id f.txn.id z ≡ false) m (apart s f e))
-    | inr j ↦ h.not_cancelled s f i t e j
-  ];
+note_cancelled past topics senders id u old apart none h = note (record {
+  tickets = refl;
+  gone = λ t p j i e. (let n : id ≡ j = cc in let m : u ≡ t = cc in
+      subst (λ z. same_id p.part.id z ≡ false) n (none p (subst (λ z. In p (topic_in topics z).pending) (sym m) i)));
+  old = λ j n. subst (λ (z : TxnId). z.seq ≤ (sender_in senders z.sender.0).seq) n old;
+  over = λ s f j e n. subst (λ z. same_id f.txn.id z ≡ false) n (apart s f e);
   calm = λ t e. h.calm t e.1;
-}
+}) h
 
 -- Settling stays with a turn, where the topic is calm if all there is resolved
 pub note_turned : (past : List Answer) (topics : List TopicState) (senders : List SenderState) (u : Topic) (count : ℕ) → (AllResolved u past → Calm topics senders u) → Settling past topics senders → Settling (Turned u count ∷ past) topics senders
-note_turned past topics senders u count now h = record {
-  gone = λ t p i j k. elim k [ inl e ↦ cc | inr l ↦ h.gone t p i j l ];
-  flew = λ s f e. inr (h.flew s f e);
-  ticket_flew = λ a k. inr (h.ticket_flew a k);
-  withdrawn_old = λ i d k. elim k [ inl e ↦ absurd (cc) | inr j ↦ h.withdrawn_old i d j ];
-  cancelled_old = λ i t k. elim k [ inl e ↦ absurd (cc) | inr j ↦ h.cancelled_old i t j ];
-  not_withdrawn = λ s f i d e k. elim k [ inl n ↦ cc | inr j ↦ h.not_withdrawn s f i d e j ];
-  not_cancelled = λ s f i t e k. elim k [ inl n ↦ cc | inr j ↦ h.not_cancelled s f i t e j ];
+note_turned past topics senders u count now h = note (record {
+  tickets = refl;
+  gone = λ t p j i e. cc;
+  old = λ id k. absurd k;
+  over = λ s f id e k. absurd k;
   calm = λ t e. elim e [
     | inl r ↦ subst (λ z. Calm topics senders z) r.0 (now (subst (λ z. AllResolved z past) (sym r.0) r.1))
     | inr k ↦ h.calm t k
   ];
-}
+}) h
 
 -- ---- a transaction is made
 
@@ -200,14 +186,13 @@ flying_settling past w c first others inv h = record {
   flew = λ d f. moved (λ (z : SenderState). z.flight ≡ Some f → In (Begun f.txn) (Begun txn ∷ past)) d
       (λ k. inl (ap Begun (ap (λ (z : Undecided). z.txn) (some_same new_flight f k)))) (λ k. inr (h.flew d f k));
   ticket_flew = λ a k. inr (h.ticket_flew a k);
-  withdrawn_old = λ id d k. elim k [ inl e ↦ absurd (cc) | inr j ↦ older id (h.withdrawn_old id d j) ];
-  cancelled_old = λ id t k. elim k [ inl e ↦ absurd (cc) | inr j ↦ older id (h.cancelled_old id t j) ];
-  not_withdrawn = λ d f id n. moved (λ (z : SenderState). z.flight ≡ Some f → In (Withdrawn id n) (Begun txn ∷ past) → same_id f.txn.id id ≡ false) d
-      (λ k i. elim i [ inl e ↦ cc | inr j ↦ subst (λ (z : Undecided). same_id z.txn.id id ≡ false) (some_same new_flight f k) (newer id (h.withdrawn_old id n j)) ])
-      (λ k i. elim i [ inl e ↦ cc | inr j ↦ h.not_withdrawn d f id n k j ]);
-  not_cancelled = λ d f id t. moved (λ (z : SenderState). z.flight ≡ Some f → In (Cancelled id t) (Begun txn ∷ past) → same_id f.txn.id id ≡ false) d
-      (λ k i. elim i [ inl e ↦ cc | inr j ↦ subst (λ (z : Undecided). same_id z.txn.id id ≡ false) (some_same new_flight f k) (newer id (h.cancelled_old id t j)) ])
-      (λ k i. elim i [ inl e ↦ cc | inr j ↦ h.not_cancelled d f id t k j ]);
+  over_old = λ id o k v. elim k [ inl e ↦ absurd (subst (IsOver id) (sym e) v) | inr j ↦ older id (h.over_old id o j v) ];
+  not_over = λ d f id o. moved (λ (z : SenderState). z.flight ≡ Some f → In o (Begun txn ∷ past) → IsOver id o → same_id f.txn.id id ≡ false) d
+      (λ k i v. elim i [
+        | inl e ↦ absurd (subst (IsOver id) (sym e) v)
+        | inr j ↦ subst (λ (z : Undecided). same_id z.txn.id id ≡ false) (some_same new_flight f k) (newer id (h.over_old id o j v))
+      ])
+      (λ k i v. elim i [ inl e ↦ absurd (subst (IsOver id) (sym e) v) | inr j ↦ h.not_over d f id o k j v ]);
   calm = λ t e. let k = h.calm t e.1 in record {
     none = k.none;
     still = λ d f. moved (λ (z : SenderState). z.flight ≡ Some f → names t (topics_of f.txn.sends) ≡ false) d
@@ -233,8 +218,7 @@ flying_settling past w c first others inv h = record {
 
     newer : (id : TxnId) → id.seq ≤ (sender_in w.senders id.sender.0).seq → same_id (next_txn w c (first ∷ others)).id id ≡ false
     newer id o = not_true (same_id (next_txn w c (first ∷ others)).id id) refl (λ s.
-        let d = id_equal (next_txn w c (first ∷ others)).id id s in
-        let m : (speaker w c).seq + 1 ≡ id.seq = ap (λ (z : TxnId). z.seq) d in
+        let d = id_equal (next_txn w c (first ∷ others)).id id s in let m : (speaker w c).seq + 1 ≡ id.seq = ap (λ (z : TxnId). z.seq) d in
         let n : speaker_number w c ≡ id.sender.0 = ap (λ (z : TxnId). z.sender.0) d in
         let k : id.seq ≤ (speaker w c).seq = subst (λ v. id.seq ≤ (sender_in w.senders v).seq) (sym n) o in
         omega arith)
@@ -249,7 +233,7 @@ ticket_settling past w s t f inv new is h = record {
     | inr j ↦
         at (λ v z. (p : Pending) → In p z.pending → In (Cancelled id v) past → same_id p.part.id id ≡ false) u
         (λ o p l m. elim (In-insert_cases _ p _ (topic_in w.topics t).pending l) [
-          | inl e ↦ subst (λ (z : Pending). same_id z.part.id id ≡ false) e (h.not_cancelled s f id t new.flight m)
+          | inl e ↦ subst (λ (z : Pending). same_id z.part.id id ≡ false) e (h.not_over s f id (Cancelled id t) new.flight m refl)
           | inr n ↦ h.gone t p id n m
         ])
         (λ p l m. h.gone u p id l m) q i j
@@ -259,14 +243,13 @@ ticket_settling past w s t f inv new is h = record {
       (λ k. inr (h.flew d y k));
   ticket_flew = cons_one (λ (a : CommitRow). In (Begun a.txn) (Ticket f.txn.id (heard w s t f).stamp ∷ past)) (tickets past) (row (txn_of_id f.txn.id past) (heard w s t f).stamp)
       (λ a k. inr (h.ticket_flew a k)) (inr (subst (λ z. In (Begun z) past) (sym is) (h.flew s f new.flight)));
-  withdrawn_old = λ id c k. elim k [ inl e ↦ absurd (cc) | inr j ↦ kept (λ (z : SenderState). id.seq ≤ z.seq) id.sender.0 (λ e. subst (λ v. id.seq ≤ (sender_in w.senders v).seq) e (h.withdrawn_old id c j)) (h.withdrawn_old id c j) ];
-  cancelled_old = λ id u k. elim k [ inl e ↦ absurd (cc) | inr j ↦ kept (λ (z : SenderState). id.seq ≤ z.seq) id.sender.0 (λ e. subst (λ v. id.seq ≤ (sender_in w.senders v).seq) e (h.cancelled_old id u j)) (h.cancelled_old id u j) ];
-  not_withdrawn = λ d y id c. kept_flight (λ z. In (Withdrawn id c) (Ticket f.txn.id (heard w s t f).stamp ∷ past) → same_id z.id id ≡ false) d y
-      (λ k. elim k [ inl e ↦ cc | inr j ↦ h.not_withdrawn s f id c new.flight j ])
-      (λ e k. elim k [ inl n ↦ cc | inr j ↦ h.not_withdrawn d y id c e j ]);
-  not_cancelled = λ d y id u. kept_flight (λ z. In (Cancelled id u) (Ticket f.txn.id (heard w s t f).stamp ∷ past) → same_id z.id id ≡ false) d y
-      (λ k. elim k [ inl e ↦ cc | inr j ↦ h.not_cancelled s f id u new.flight j ])
-      (λ e k. elim k [ inl n ↦ cc | inr j ↦ h.not_cancelled d y id u e j ]);
+  over_old = λ id o k v. elim k [
+    | inl e ↦ absurd (subst (IsOver id) (sym e) v)
+    | inr j ↦ (let old = h.over_old id o j v in kept (λ (z : SenderState). id.seq ≤ z.seq) id.sender.0 (λ e. subst (λ n. id.seq ≤ (sender_in w.senders n).seq) e old) old)
+  ];
+  not_over = λ d y id o. kept_flight (λ z. In o (Ticket f.txn.id (heard w s t f).stamp ∷ past) → IsOver id o → same_id z.id id ≡ false) d y
+      (λ k v. elim k [ inl e ↦ absurd (subst (IsOver id) (sym e) v) | inr j ↦ h.not_over s f id o new.flight j v ])
+      (λ e k v. elim k [ inl n ↦ absurd (subst (IsOver id) (sym n) v) | inr j ↦ h.not_over d y id o e j v ]);
   calm = λ u e. let k = h.calm u e in record {
     none = at (λ v z. (v ≡ u) → (q : Pending) → In q z.pending → Prim.⊥) u
         (λ o d q i. true≢false (sym new.named ∙ subst (λ v. names v (topics_of f.txn.sends) ≡ false) (sym d) (k.still s f new.flight)))

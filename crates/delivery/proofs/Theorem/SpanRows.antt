@@ -1,7 +1,5 @@
 -- Worked rows beside the laws of spans, queues and logs: premises that hold, and what follows, each computed.
-use Rattle.delivery.proofs.Words.Std.{refl, ◌≡◌, ℕ, true, List, [], ◌∷◌, map, take, Some, None}
-use Rattle.delivery.proofs.Words.Topics.{Topic, agreed, LogRow, Item, EntryEnd, Asked, Lag}
-use Rattle.delivery.proofs.Words.Machine.{log_row, subscription_at, log_at, accepted_at, end_at, frontier_at, Move, world_after, answer_to, commits_of, released_at, Run, answers_of, final_world, is_logged, agreed_rows, EndsBeforeRow, Opens, Connects, Commits, Subscribes, Unsubscribes, Lost, Leaves, Proposes, Decides, Turns, Unsubscribed, Gone, Turned}
+use Rattle.delivery.proofs.Words.All.{refl, ◌≡◌, ℕ, true, List, [], ◌∷◌, map, take, Some, None, Topic, agreed, LogRow, Item, EntryEnd, Asked, Lag, log_row, subscription_at, log_at, accepted_at, end_at, frontier_at, Move, world_after, answer_to, commits_of, released_at, Run, answers_of, final_world, is_logged, agreed_rows, EndsBeforeRow, Opens, Connects, Commits, Subscribes, Unsubscribes, Lost, Leaves, Proposes, Decides, Turns, Unsubscribed, Gone, Turned}
 use Rattle.std.specs.Prelude.{filter}
 use Rattle.delivery.specs.Theorem.Examples.{topic, stamp, id, send, part, run_of, one_send, to_a_and_b}
 

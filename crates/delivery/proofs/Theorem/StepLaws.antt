@@ -1,144 +1,69 @@
 -- What holds of each step.
-use Rattle.delivery.proofs.Words.Std.{◌≡◌, ◌≢◌, ℕ, ◌+◌, ◌<◌, ◌==◌, max, Bool, true, false, cond, ◌⊎◌, inl, inr, List, [], ◌∷◌, ◌++◌, map, length, set, Option, Some, None, refl, sym, ap, subst, ◌∙◌, ltb, option_or, option_map, is_some, true≢false, not, not-true, not-false, and_parts, list_all}
-use Rattle.delivery.proofs.Words.Topics.{topics_of, In, names, Decision, Topic, TxnId, SentMessage, Stamp, ProposeFault, LearnFault, CancelFault, first_refusal, Item, TopicState, Pending, Entry, new_topic, find_entry, find_pending, cancel_fault_of, learn_fault, entry_after, due_part, after_release, item_of}
-use Rattle.delivery.proofs.Words.Lemmas.{same_topics, at_set, at_set_within, found_part, some_same, none_some, after_release_if, delivered_number}
-use Rattle.delivery.proofs.Words.Machine.{Objection, World, Leftover, topic_at, speaker, subscription_at, entry_at, start, speaker_number, Move, Answer, world_after, answer_to, move_refusal, move_refusals, topic_objection, move_effect, move_answer, undecided_at, find_leftover, find_verdict, oldest_live, commit_effect, commit_answer, proposal_fault, propose_effect, propose_answer, cancel_effect, cancel_objection, cancel_objection_of, cancel_answer, learn_effect, learn_objection, learn_objection_of, release_answer, queue_has_room, take_effect, take_answer, leave_effect, leave_answer, close_effect_of, answers_from, answers_of, final_world, move_topic, is_odd, Refused, Ticket}
-use Rattle.delivery.specs.Machine.Moves.Move.{AddsTopic, Connects, Commits, Subscribes, Unsubscribes, Leaves, Proposes, Cancels, Learns, Releases, Turns, Takes}
+use Rattle.delivery.proofs.Words.All.{◌≡◌, ◌≢◌, ℕ, ◌+◌, ◌<◌, ◌==◌, max, Bool, true, false, cond, ◌⊎◌, inl, inr, List, [], ◌∷◌, ◌++◌, map, length, set, Option, Some, None, refl, sym, ap, subst, ◌∙◌, ltb, option_or, option_map, is_some, true≢false, not, not-true, not-false, and_parts, list_all, topics_of, In, names, Decision, Topic, TxnId, Stamp, ProposeFault, LearnFault, CancelFault, first_refusal, Item, TopicState, Pending, Entry, new_topic, find_entry, find_pending, cancel_fault_of, learn_fault, entry_after, after_release, item_of, same_topics, at_set, at_set_within, found_part, some_same, none_some, after_release_if, delivered_number, Objection, World, Leftover, topic_at, speaker, subscription_at, speaker_number, Move, Answer, answer_to, move_refusal, move_refusals, topic_objection, move_answer, undecided_at, find_leftover, find_verdict, proposal_fault, propose_answer, cancel_objection, cancel_objection_of, learn_objection, learn_objection_of, queue_has_room, answers_of, final_world, move_topic, is_odd, Refused}
+use Rattle.delivery.specs.Machine.Moves.Answer.{Ticket}
+use Rattle.delivery.specs.Machine.Moves.Move.{AddsTopic, Connects, Subscribes, Unsubscribes, Leaves, Proposes, Cancels, Learns, Releases, Turns}
 use Rattle.delivery.specs.Theorem.Laws
 use Rattle.delivery.specs.Theorem.Laws.{live_topic, IsGiven}
-use Rattle.delivery.proofs.Machine.Effects.{made_world}
-use Rattle.delivery.proofs.Machine.Invariant.{topic_in}
-use Rattle.delivery.proofs.Machine.SenderSteps.{leftover_found}
-use Rattle.delivery.proofs.Machine.SubscriptionSteps.{at_old}
-use Rattle.delivery.proofs.Machine.InvariantIsKept.{Reached, tickets, by_refusal, checked, asks_of, Asks, step_reached}
-use Rattle.delivery.proofs.Theorem.AcceptedIsDue.{reached, start_reached}
+use Rattle.delivery.proofs.Words.Steps.{made_world, topic_in, leftover_found, at_old, Reached, tickets, by_refusal, checked, asks_of, reached, by_found, InEachCase, always, by_run, answer_as}
 use Rattle.delivery.proofs.Machine.VerdictsFit.{learn_fault_is}
 
 -- ---- an answer is no refusal
 
-no_flying : (w : World) (c : ℕ) (sends : List SentMessage) (why : Objection) → commit_answer w c sends ≡ Refused why → Prim.⊥
-no_flying w c [] why e = cc
-no_flying w c (first ∷ others) why e = cc
-
-no_propose : (w : World) (c : ℕ) (t : Topic) (o : Option ProposeFault) (why : Objection) → propose_answer w c t o ≡ Refused why → Prim.⊥
-no_propose w c t None why e = cc
-no_propose w c t (Some fault) why e = cc
-
-no_cancel : (t : Topic) (o : Option Leftover) (why : Objection) → cancel_answer t o ≡ Refused why → Prim.⊥
-no_cancel t None why e = cc
-no_cancel t (Some k) why e = cc
-
-no_leave : (w : World) (c : ℕ) (o : Option ℕ) (why : Objection) → leave_answer w c o ≡ Refused why → Prim.⊥
-no_leave w c None why e = cc
-no_leave w c (Some s) why e = cc
-
-no_release : (t : Topic) (o : Option Pending) (why : Objection) → release_answer t o ≡ Refused why → Prim.⊥
-no_release t None why e = cc
-no_release t (Some p) why e = cc
-
-no_take : (w : World) (s : ℕ) (o : Option Item) (why : Objection) → take_answer w s o ≡ Refused why → Prim.⊥
-no_take w s None why e = cc
-no_take w s (Some item) why e = cc
+no_refusal : (w : World) (e : Move) (why : Objection) → InEachCase (λ v o. o ≡ Refused why → Prim.⊥) w e
+no_refusal w (Leaves c) why = ((λ d. cc), λ s. ((λ d. cc), λ k d. cc))
+no_refusal w _ why = ((λ d. cc), λ k d. cc)
 
 -- no effect is answered by a refusal
 pub no_answer : (w : World) (e : Move) (why : Objection) → move_answer w e ≡ Refused why → Prim.⊥
-no_answer w (Commits c sends) why e = no_flying w c sends why e
-no_answer w (Leaves c) why e = no_leave w c (oldest_live c 0 w.subscriptions) why e
-no_answer w (Proposes c t memory) why e = no_propose w c t (proposal_fault w c t memory) why e
-no_answer w (Cancels c t) why e = no_cancel t (find_leftover t (speaker w c).leftovers) why e
-no_answer w (Releases t) why e = no_release t (due_part (topic_at w t)) why e
-no_answer w (Takes s) why e = no_take w s _ why e
-no_answer w _ why e = cc
+no_answer w e why = by_found (λ v o. o ≡ Refused why → Prim.⊥) w e (no_refusal w e why)
 
 -- a refused event changes nothing
 pub refusals_change_nothing : Laws.RefusalsChangeNothing
-refusals_change_nothing w e why =
-    by_refusal (λ v o. o ≡ Refused why → v ≡ w) w e (λ other k. refl) (λ n k. absurd (no_answer w e why k))
+refusals_change_nothing w e why = by_refusal (λ v o. o ≡ Refused why → v ≡ w) w e (λ other k. refl) (λ n k. absurd (no_answer w e why k))
 
 -- ---- other topics
 
 untouched : (topics : List TopicState) (t u : Topic) (y : TopicState) → (Some t ≡ Some u → Prim.⊥) → topic_in (set topics t.0 y) u ≡ topic_in topics u
-untouched topics t u y ne =
-    at_set (λ z. z ≡ topic_in topics u) topics t.0 u.0 y (new_topic u 0 0) (λ e. absurd (ne (ap Some (sym (same_topics u t e))))) refl
+untouched topics t u y ne = at_set (λ z. z ≡ topic_in topics u) topics t.0 u.0 y (new_topic u 0 0) (λ e. absurd (ne (ap Some (sym (same_topics u t e))))) refl
 
-closed_untouched : (w : World) (s : ℕ) (u : Topic) (o : Option Entry) → (Some (subscription_at w s).topic ≡ Some u → Prim.⊥) → topic_at (close_effect_of w s o) u ≡ topic_at w u
-closed_untouched w s u None ne = refl
-closed_untouched w s u (Some e) ne = untouched w.topics (subscription_at w s).topic u _ ne
-
-left_untouched : (w : World) (c : ℕ) (u : Topic) (o : Option ℕ) → (live_topic w o ≡ Some u → Prim.⊥) → topic_at (leave_effect w c o) u ≡ topic_at w u
-left_untouched w c u None ne = refl
-left_untouched w c u (Some s) ne = closed_untouched w s u (entry_at w s) ne
-
-handed_topics : (w : World) (s : ℕ) (o : Option Item) → (take_effect w s o).topics ≡ w.topics
-handed_topics w s None = refl
-handed_topics w s (Some item) = refl
-
-effect_untouched : (w : World) (e : Move) (u : Topic) → u.0 < length w.topics → move_topic w e ≢ Some u → topic_at (move_effect w e) u ≡ topic_at w u
-effect_untouched w (AddsTopic clock) u l ne = at_old (λ z. z ≡ topic_at w u) w.topics u.0 _ (new_topic u 0 0) l refl
-effect_untouched w (Commits c sends) u l ne = ap (λ z. topic_in z u) (elim sends as (λ sends. (commit_effect w c sends).topics ≡ w.topics) [ [] ↦ refl | first ∷ others ↦ refl ])
-effect_untouched w (Subscribes c t) u l ne = untouched w.topics t u _ ne
-effect_untouched w (Unsubscribes c s) u l ne = closed_untouched w s u (entry_at w s) ne
-effect_untouched w (Leaves c) u l ne = left_untouched w c u (oldest_live c 0 w.subscriptions) ne
-effect_untouched w (Proposes c t memory) u l ne = elim (proposal_fault w c t memory) as (λ o. topic_at (propose_effect w c t o) u ≡ topic_at w u) [ None ↦ untouched w.topics t u _ ne | Some fault ↦ refl ]
-effect_untouched w (Cancels c t) u l ne = elim (find_leftover t (speaker w c).leftovers) as (λ o. topic_at (cancel_effect w c t o) u ≡ topic_at w u) [ None ↦ refl | Some k ↦ untouched w.topics t u _ ne ]
-effect_untouched w (Learns t id) u l ne = elim (find_verdict id w.verdicts) as (λ o. topic_at (learn_effect w t id o) u ≡ topic_at w u) [ None ↦ refl | Some v ↦ untouched w.topics t u _ ne ]
-effect_untouched w (Releases t) u l ne = untouched w.topics t u _ ne
-effect_untouched w (Turns t) u l ne = untouched w.topics t u _ ne
-effect_untouched w (Takes s) u l ne = ap (λ z. topic_in z u) (handed_topics w s _)
-effect_untouched w _ u l ne = refl
+effect_untouched : (w : World) (e : Move) (u : Topic) → u.0 < length w.topics → move_topic w e ≢ Some u → InEachCase (λ v o. topic_at v u ≡ topic_at w u) w e
+effect_untouched w (AddsTopic clock) u l ne = always (at_old (λ z. z ≡ topic_at w u) w.topics u.0 _ (new_topic u 0 0) l refl)
+effect_untouched w (Subscribes c t) u l ne = always (untouched w.topics t u _ ne)
+effect_untouched w (Unsubscribes c s) u l ne = (refl, λ k. untouched w.topics (subscription_at w s).topic u _ ne)
+effect_untouched w (Leaves c) u l ne = (refl, λ s. (refl, λ k. untouched w.topics (subscription_at w s.it).topic u _ (λ e. ne (ap (live_topic w) s.is ∙ e))))
+effect_untouched w (Proposes c t memory) u l ne = (untouched w.topics t u _ ne, λ k. refl)
+effect_untouched w (Cancels c t) u l ne = (refl, λ k. untouched w.topics t u _ ne)
+effect_untouched w (Learns t id) u l ne = (refl, λ k. untouched w.topics t u _ ne)
+effect_untouched w (Releases t) u l ne = always (untouched w.topics t u _ ne)
+effect_untouched w (Turns t) u l ne = always (untouched w.topics t u _ ne)
+effect_untouched w _ u l ne = (refl, λ k. refl)
 
 -- an event changes no other topic than its own
 pub others_untouched : Laws.OthersUntouched
-others_untouched w e u l ne = by_refusal (λ v o. topic_at v u ≡ topic_at w u) w e (λ why. refl) (λ n. effect_untouched w e u l ne)
+others_untouched w e u l ne = by_refusal (λ v o. topic_at v u ≡ topic_at w u) w e (λ why. refl)
+    (λ n. by_found (λ v o. topic_at v u ≡ topic_at w u) w e (effect_untouched w e u l ne))
 
 -- ---- tickets
 
-abbrev IsOwn : World → Move → TxnId → Stamp → Type 0
-IsOwn w e id ticket =
-    (c : ℕ) × (t : Topic) × (memory : Bool) × (e ≡ Proposes c t memory) × (id ≡ (undecided_at w c).txn.id)
-    × (names t (topics_of (undecided_at w c).txn.sends) ≡ true)
-    × (ticket ≡ record { n = max (topic_at w t).clock (speaker w c).floor.n + 1; topic = t })
+-- it is named, and the ticket is one above
+abbrev IsOwn : World → ℕ → Stamp → Type 0
+IsOwn w c ticket =
+    (names ticket.topic (topics_of (undecided_at w c).txn.sends) ≡ true)
+    × (ticket ≡ record { n = max (topic_at w ticket.topic).clock (speaker w c).floor.n + 1; topic = ticket.topic })
 
-ticket_case : (w : World) (c : ℕ) (t : Topic) (memory : Bool) (o : Option ProposeFault) (id : TxnId) (ticket : Stamp) → Asks w c t → propose_answer w c t o ≡ Ticket id ticket → IsOwn w (Proposes c t memory) id ticket
-ticket_case w c t memory None id ticket a e = (c, t, memory, refl, (cc), a.named, cc)
-ticket_case w c t memory (Some fault) id ticket a e = cc
-
-no_ticket_flying : (w : World) (c : ℕ) (sends : List SentMessage) (id : TxnId) (ticket : Stamp) → commit_answer w c sends ≡ Ticket id ticket → Prim.⊥
-no_ticket_flying w c [] id ticket e = cc
-no_ticket_flying w c (first ∷ others) id ticket e = cc
-
-no_ticket_cancel : (t : Topic) (o : Option Leftover) (id : TxnId) (ticket : Stamp) → cancel_answer t o ≡ Ticket id ticket → Prim.⊥
-no_ticket_cancel t None id ticket e = cc
-no_ticket_cancel t (Some k) id ticket e = cc
-
-no_ticket_leave : (w : World) (c : ℕ) (o : Option ℕ) (id : TxnId) (ticket : Stamp) → leave_answer w c o ≡ Ticket id ticket → Prim.⊥
-no_ticket_leave w c None id ticket e = cc
-no_ticket_leave w c (Some s) id ticket e = cc
-
-no_ticket_release : (t : Topic) (o : Option Pending) (id : TxnId) (ticket : Stamp) → release_answer t o ≡ Ticket id ticket → Prim.⊥
-no_ticket_release t None id ticket e = cc
-no_ticket_release t (Some p) id ticket e = cc
-
-no_ticket_take : (w : World) (s : ℕ) (o : Option Item) (id : TxnId) (ticket : Stamp) → take_answer w s o ≡ Ticket id ticket → Prim.⊥
-no_ticket_take w s None id ticket e = cc
-no_ticket_take w s (Some item) id ticket e = cc
-
-answer_ticket : (w : World) (e : Move) (id : TxnId) (ticket : Stamp) → move_refusal w e ≡ None → move_answer w e ≡ Ticket id ticket → IsOwn w e id ticket
-answer_ticket w (Commits c sends) id ticket n e = absurd (no_ticket_flying w c sends id ticket e)
-answer_ticket w (Leaves c) id ticket n e = absurd (no_ticket_leave w c (oldest_live c 0 w.subscriptions) id ticket e)
-answer_ticket w (Proposes c t memory) id ticket n e = ticket_case w c t memory (proposal_fault w c t memory) id ticket (asks_of w c t memory n) e
-answer_ticket w (Cancels c t) id ticket n e = absurd (no_ticket_cancel t (find_leftover t (speaker w c).leftovers) id ticket e)
-answer_ticket w (Releases t) id ticket n e = absurd (no_ticket_release t (due_part (topic_at w t)) id ticket e)
-answer_ticket w (Takes s) id ticket n e = absurd (no_ticket_take w s _ id ticket e)
-answer_ticket w _ id ticket n e = cc
+ticket_case : (w : World) (c : ℕ) (t : Topic) (o : Option ProposeFault) (id : TxnId) (ticket : Stamp) → propose_answer w c t o ≡ Ticket id ticket
+    → ticket ≡ record { n = max (topic_at w t).clock (speaker w c).floor.n + 1; topic = t }
+ticket_case w c t None id ticket e = cc
+ticket_case w c t (Some fault) id ticket e = cc
 
 -- a ticket comes from a topic that is named, one above its clock and its sender's floor
 pub ticket_is_own : Laws.TicketIsOwn
-ticket_is_own w e id ticket =
-    by_refusal (λ v o. o ≡ Ticket id ticket → IsOwn w e id ticket) w e (λ why k. absurd (by why k)) (λ n k. answer_ticket w e id ticket n k)
-  where
-    by : (why : Objection) → Refused why ≡ Ticket id ticket → Prim.⊥
-    by why k = cc
+ticket_is_own w e id ticket a =
+    let h = answer_as w e a in let c = h.0 in let t = ticket.topic in let m = h.1 in
+    let own : IsOwn w c ticket =
+    by_refusal (λ v o. o ≡ Ticket id ticket → IsOwn w c ticket) w (Proposes c t m) (λ why d. cc)
+    (λ n d. ((asks_of w c t m n).named, ticket_case w c t (proposal_fault w c t m) id ticket d)) (ap (answer_to w) (sym h.2) ∙ a) in
+    (c, t, m, h.2, h.3, own.0, own.1)
 
 -- ---- what never comes
 
@@ -152,8 +77,7 @@ usual_case false f why rest h ih e = ih e
 usual_first : (cs : List (Bool × Objection)) (why : Objection) → are_usual cs ≡ true → first_refusal cs ≡ Some why → is_odd why ≡ false
 usual_first [] why h e = none_some why e
 usual_first (c ∷ cs) why h e =
-    let both = and_parts (not (is_odd c.1)) (are_usual cs) h in
-    usual_case c.0 c.1 why (first_refusal cs) (not-true (is_odd c.1) both.0) (λ k. usual_first cs why both.1 k) e
+    let both = and_parts (not (is_odd c.1)) (are_usual cs) h in usual_case c.0 c.1 why (first_refusal cs) (not-true (is_odd c.1) both.0) (λ k. usual_first cs why both.1 k) e
 
 usual_checks : (w : World) (e : Move) → are_usual (move_refusals w e) ≡ true
 usual_checks w (Connects c None) = refl
@@ -181,15 +105,11 @@ unlearnt past w t s k h i p j e (Some stamp) d =
     let c = (h.inv.tied t).decided p j stamp d in
     absurd (((h.inv.serves s).left k i).uncommitted c.row c.stands (Rattle.mcast_txn.proofs.Orders.id_same c.row.txn.id k.id (c.id_is ∙ e)))
 
-cancelling_usual : (past : List Answer) (w : World) (c : ℕ) (t : Topic) (why : Objection) → Reached past w → (o : Option Leftover) → find_leftover t (speaker w c).leftovers ≡ o → cancel_objection w t o ≡ Some why → is_odd why ≡ false
-cancelling_usual past w c t why h None f e = subst (λ z. is_odd z ≡ false) (some_same Objection.NotNamed why e) refl
-cancelling_usual past w c t why h (Some k) f e =
-    let g = leftover_found t (speaker w c).leftovers k f in
-    cancel_usual past w t k why h (λ p i d. unlearnt past w t (speaker_number w c) k h g.stands p i d p.learnt refl)
-    (find_pending k.id (topic_in w.topics t).pending) refl e
-
 topic_usual : (past : List Answer) (w : World) (e : Move) (why : Objection) → Reached past w → topic_objection w e ≡ Some why → is_odd why ≡ false
-topic_usual past w (Cancels c t) why h e = cancelling_usual past w c t why h (find_leftover t (speaker w c).leftovers) refl e
+topic_usual past w (Cancels c t) why h e = (elim (find_leftover t (speaker w c).leftovers) as (λ (o : Option Leftover). find_leftover t (speaker w c).leftovers ≡ o → cancel_objection w t o ≡ Some why → is_odd why ≡ false) [
+  | None ↦ λ f e. subst (λ z. is_odd z ≡ false) (some_same Objection.NotNamed why e) refl
+  | Some k ↦ λ f e. (let g = leftover_found t (speaker w c).leftovers k f in cancel_usual past w t k why h (λ p i d. unlearnt past w t (speaker_number w c) k h g.stands p i d p.learnt refl) (find_pending k.id (topic_in w.topics t).pending) refl e)
+]) refl e
 topic_usual past w (Learns t id) why h e = learning_usual past w t id why h (find_verdict id w.verdicts) refl e
 topic_usual past w e why h k = none_some why k
 
@@ -210,15 +130,10 @@ outcome_case w e why (Some other) never k = let d : other ≡ why = cc in ap Som
 pub outcome_usual : (past : List Answer) (w : World) (e : Move) (why : Objection) → Reached past w → answer_to w e ≡ Refused why → is_odd why ≡ false
 outcome_usual past w e why h k = refusal_usual past w e why h (outcome_case w e why (move_refusal w e) (no_answer w e why) k)
 
-odd_run : (es : List Move) (past : List Answer) (w : World) → Reached past w → ((why : Objection) → In (Refused why) past → is_odd why ≡ false) → (why : Objection) → In (Refused why) (answers_from es w past) → is_odd why ≡ false
-odd_run [] past w h old = old
-odd_run (e ∷ es) past w h old =
-    odd_run es (answer_to w e ∷ past) (world_after w e) (step_reached past w e h)
-    (λ why i. elim i [ inl k ↦ outcome_usual past w e why h k | inr k ↦ old why k ])
-
 -- in a run nothing is refused as foreign, as a clash, or as decided
 pub odd_never_comes : Laws.OddNeverComes
-odd_never_comes r = odd_run r.events [] (start r.capacity r.log_limit r.clocks) (start_reached r.capacity r.log_limit r.clocks) (λ why i. absurd i)
+odd_never_comes = by_run (λ past w. (why : Objection) → In (Refused why) past → is_odd why ≡ false) (λ capacity log_limit clocks why i. absurd i)
+    (λ r e old why i. elim i [ inl k ↦ outcome_usual (answers_of r) (final_world r) e why (reached r) k | inr k ↦ old why k ])
 
 -- a verdict that is found after a run is learnt, or refused because nothing of it is pending
 pub found_is_learnt : Laws.FoundIsLearnt

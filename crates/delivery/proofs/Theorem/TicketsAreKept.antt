@@ -1,17 +1,8 @@
 -- Where each ticket is: its transaction is undecided, or committed, or it is left over from a withdrawal, or was cancelled.
-use Rattle.delivery.proofs.Words.Std.{◌≡◌, ◌≢◌, ℕ, ◌+◌, ◌<◌, ◌==◌, Bool, true, false, cond, ◌⊎◌, inl, inr, List, [], ◌∷◌, ◌++◌, length, map, set, Option, Some, None, refl, sym, ap, subst, ◌∙◌, arith, is_some, true≢false, cases_order, or_parts, not-false}
-use Rattle.delivery.proofs.Words.Topics.{greatest, topics_of, Transaction, CommitRow, In, names, Topic, SentMessage, Stamp, ProposeFault}
-use Rattle.delivery.proofs.Words.Lemmas.{In-push, In-append_left, In-append_right, In-map, at_set, at_set_within, push_one, some_same}
-use Rattle.delivery.proofs.Words.Machine.{World, Undecided, Leftover, SenderState, new_sender, speaker, start, speaker_number, Move, Answer, world_after, answer_to, move_refusal, move_effect, move_answer, undecided_at, find_leftover, drop_leftover, leftover, insert_ticket, next_txn, next_ticket, commit_effect, commit_answer, proposal_fault, propose_effect, propose_answer, decide_effect, withdraw_effect, cancel_effect, cancel_answer, leave_answer, connect_effect, txn_of_id, run, answers_from, Run, answers_of, final_world}
+use Rattle.delivery.proofs.Words.All.{◌≡◌, ◌≢◌, ℕ, ◌+◌, ◌<◌, ◌==◌, Bool, true, false, cond, ◌⊎◌, inl, inr, List, [], ◌∷◌, ◌++◌, length, map, set, Option, Some, None, refl, sym, ap, subst, ◌∙◌, arith, is_some, true≢false, cases_order, or_parts, not-false, greatest, topics_of, Transaction, CommitRow, In, names, Topic, SentMessage, Stamp, ProposeFault, In-push, In-append_left, In-append_right, In-map, at_set, at_set_within, push_one, some_same, World, Undecided, Leftover, SenderState, new_sender, speaker, speaker_number, Move, Answer, move_refusal, move_answer, undecided_at, find_leftover, drop_leftover, leftover, insert_ticket, next_txn, next_ticket, commit_effect, commit_answer, propose_effect, propose_answer, decide_effect, withdraw_effect, cancel_effect, connect_effect, txn_of_id, Run, answers_of, final_world}
 use Rattle.delivery.specs.Machine.Moves.Move.{Connects, Commits, Leaves, Proposes, Decides, Withdraws, Cancels}
 use Rattle.delivery.specs.Machine.Moves.Answer.{Refused, Done, Begun, Ticket, Failed, Decided, Withdrawn, Cancelled}
-use Rattle.delivery.proofs.Machine.Invariant.{row, sender_in}
-use Rattle.delivery.proofs.Machine.ProposeStep.{within_senders, cons_one, cons_two, not_given}
-use Rattle.delivery.proofs.Machine.SenderSteps.{TicketOf, complete_at, leftover_found}
-use Rattle.delivery.proofs.Machine.SubscriptionSteps.{at_push}
-use Rattle.delivery.proofs.Machine.InvariantIsKept.{Reached, tickets, by_refusal, checked, in_flight, Asks, asks_of, step_reached}
-use Rattle.delivery.proofs.Machine.ByFound.{by_found, by_entry}
-use Rattle.delivery.proofs.Theorem.AcceptedIsDue.{start_reached}
+use Rattle.delivery.proofs.Words.Steps.{row, sender_in, within_senders, cons_one, cons_two, not_given, TicketOf, complete_at, leftover_found, at_push, Reached, tickets, checked, in_flight, Asks, asks_of, InEachCase, always, Found, by_moves}
 
 -- ---- where a ticket is
 
@@ -29,8 +20,7 @@ IsLeftOver senders a = (s : ℕ) × (k : Leftover) × In k (sender_in senders s)
 
 -- it is in one of these places, or was cancelled
 abbrev pub IsSomewhere : List Answer → List SenderState → List CommitRow → CommitRow → Type 0
-IsSomewhere past senders commits a =
-    IsUndecided senders a ⊎ IsCommitted commits a ⊎ IsLeftOver senders a ⊎ In (Cancelled a.txn.id a.stamp.topic) past
+IsSomewhere past senders commits a = IsUndecided senders a ⊎ IsCommitted commits a ⊎ IsLeftOver senders a ⊎ In (Cancelled a.txn.id a.stamp.topic) past
 
 -- each ticket is somewhere, of a topic that its transaction names, and alone there; and a committed transaction has one of
 -- each topic that it names
@@ -77,8 +67,7 @@ same_or_other d s = elim (cases_order d s) [
 move : (past : List Answer) (o : Answer) (senders : List SenderState) (commits more : List CommitRow) (s : ℕ) (x : SenderState) (a : CommitRow)
     → ((f : Undecided) → (sender_in senders s).flight ≡ Some f → f.txn ≡ a.txn → IsSomewhere (o ∷ past) (set senders s x) more a)
     → ((k : Leftover) → In k (sender_in senders s).leftovers → k.id ≡ a.txn.id → k.ticket ≡ a.stamp → IsSomewhere (o ∷ past) (set senders s x) more a)
-    → ((r : CommitRow) → In r commits → In r more)
-    → IsSomewhere past senders commits a → IsSomewhere (o ∷ past) (set senders s x) more a
+    → ((r : CommitRow) → In r commits → In r more) → IsSomewhere past senders commits a → IsSomewhere (o ∷ past) (set senders s x) more a
 move past o senders commits more s x a flying left grow (inl h) = elim (same_or_other h.0 s) [
   | inl e ↦ flying h.1 (subst (λ d. (sender_in senders d).flight ≡ Some h.1) e h.2) h.3
   | inr ne ↦ inl (h.0, h.1, ap (λ (z : SenderState). z.flight) (other_sender senders s h.0 x ne) ∙ h.2, h.3)
@@ -97,8 +86,7 @@ keep_left past senders commits s x a k i same d e =
 
 -- the sender has this transaction in flight
 flies_on : (past : List Answer) (senders : List SenderState) (commits : List CommitRow) (s : ℕ) (x : SenderState) (a : CommitRow) (g : Undecided) → s < length senders → x.flight ≡ Some g → g.txn ≡ a.txn → IsSomewhere past (set senders s x) commits a
-flies_on past senders commits s x a g l e d =
-    inl (s, g, ap (λ (z : SenderState). z.flight) (this_sender senders s x l) ∙ e, d)
+flies_on past senders commits s x a g l e d = inl (s, g, ap (λ (z : SenderState). z.flight) (this_sender senders s x l) ∙ e, d)
 
 -- ---- a transaction is made
 
@@ -120,12 +108,10 @@ flown_accounted past w c (first ∷ others) n h =
 
 ticket_accounted : (past : List Answer) (w : World) (c : ℕ) (t : Topic) → Reached past w → Asks w c t → Accounted past w.senders w.commits → Accounted (propose_answer w c t None ∷ past) (propose_effect w c t None).senders (propose_effect w c t None).commits
 ticket_accounted past w c t r a h =
-    let s = speaker_number w c in let f = undecided_at w c in
-    let is : (speaker w c).flight ≡ Some f = a.flying.is ∙ ap Some (sym a.flying.at) in
+    let s = speaker_number w c in let f = undecided_at w c in let is : (speaker w c).flight ≡ Some f = a.flying.is ∙ ap Some (sym a.flying.at) in
     let within = within_senders w.senders s f is in let g = (r.inv.serves s).flying f is in
     let new : CommitRow = row (txn_of_id f.txn.id past) (next_ticket w c t) in let o = Ticket f.txn.id (next_ticket w c t) in
-    let later_flight : Undecided = record f { given = insert_ticket (next_ticket w c t) f.given } in
-    let y : SenderState = record (speaker w c) { flight = Some later_flight } in
+    let later_flight : Undecided = record f { given = insert_ticket (next_ticket w c t) f.given } in let y : SenderState = record (speaker w c) { flight = Some later_flight } in
     let own : new.txn ≡ f.txn = r.flights s f is in
     let fresh : (b : CommitRow) → In b (tickets past) → b.txn ≡ new.txn → b.stamp.topic ≡ t → Prim.⊥ =
     λ b i d e. not_given t f.given a.unheard b.stamp (g.given_all b i (d ∙ own)) (ap (λ (z : Topic). z.0) (sym e)) in record {
@@ -147,8 +133,7 @@ ticket_accounted past w c t r a h =
 proposed_accounted : (past : List Answer) (w : World) (c : ℕ) (t : Topic) (o : Option ProposeFault) → Reached past w → Asks w c t → Accounted past w.senders w.commits → Accounted (propose_answer w c t o ∷ past) (propose_effect w c t o).senders (propose_effect w c t o).commits
 proposed_accounted past w c t None r a h = ticket_accounted past w c t r a h
 proposed_accounted past w c t (Some fault) r a h =
-    let s = speaker_number w c in let f = undecided_at w c in
-    let is : (speaker w c).flight ≡ Some f = a.flying.is ∙ ap Some (sym a.flying.at) in
+    let s = speaker_number w c in let f = undecided_at w c in let is : (speaker w c).flight ≡ Some f = a.flying.is ∙ ap Some (sym a.flying.at) in
     let within = within_senders w.senders s f is in let o = Failed f.txn.id fault in
     let later_flight : Undecided = record f { mark = Some fault } in let y : SenderState = record (speaker w c) { flight = Some later_flight } in record {
       somewhere = λ b i. move past o w.senders w.commits w.commits s y b
@@ -164,10 +149,8 @@ proposed_accounted past w c t (Some fault) r a h =
 
 decided_accounted : (past : List Answer) (w : World) (c : ℕ) → Reached past w → move_refusal w (Decides c) ≡ None → Accounted past w.senders w.commits → Accounted (move_answer w (Decides c) ∷ past) (decide_effect w c).senders (decide_effect w c).commits
 decided_accounted past w c r n h =
-    let p = checked w (Decides c) n in let fl = in_flight w c p.1.1.0 in
-    let s = speaker_number w c in let f = undecided_at w c in
-    let is : (speaker w c).flight ≡ Some f = fl.is ∙ ap Some (sym fl.at) in
-    let g = (r.inv.serves s).flying f is in let new : CommitRow = row f.txn (greatest f.given) in
+    let p = checked w (Decides c) n in let fl = in_flight w c p.1.1.0 in let s = speaker_number w c in let f = undecided_at w c in
+    let is : (speaker w c).flight ≡ Some f = fl.is ∙ ap Some (sym fl.at) in let g = (r.inv.serves s).flying f is in let new : CommitRow = row f.txn (greatest f.given) in
     let o = Decided f.txn.id (greatest f.given) in let y : SenderState = record (speaker w c) { floor = greatest f.given; flight = None } in record {
       somewhere = λ b i. move past o w.senders w.commits (w.commits ++ new ∷ []) s y b
           (λ y e d. inr (inl (new, In-push new w.commits, ap (λ (z : Undecided). z.txn) (some_same f y (sym is ∙ e)) ∙ d)))
@@ -183,10 +166,8 @@ decided_accounted past w c r n h =
 
 withdrawn_accounted : (past : List Answer) (w : World) (c : ℕ) → Reached past w → move_refusal w (Withdraws c) ≡ None → Accounted past w.senders w.commits → Accounted (move_answer w (Withdraws c) ∷ past) (withdraw_effect w c).senders (withdraw_effect w c).commits
 withdrawn_accounted past w c r n h =
-    let p = checked w (Withdraws c) n in let fl = in_flight w c p.1.1.0 in
-    let s = speaker_number w c in let f = undecided_at w c in let x = sender_in w.senders s in
-    let is : (speaker w c).flight ≡ Some f = fl.is ∙ ap Some (sym fl.at) in
-    let g = (r.inv.serves s).flying f is in
+    let p = checked w (Withdraws c) n in let fl = in_flight w c p.1.1.0 in let s = speaker_number w c in let f = undecided_at w c in let x = sender_in w.senders s in
+    let is : (speaker w c).flight ≡ Some f = fl.is ∙ ap Some (sym fl.at) in let g = (r.inv.serves s).flying f is in
     let y : SenderState = record x { flight = None; leftovers = x.leftovers ++ map (leftover f.txn.id) f.given } in
     let here : (b : CommitRow) (k : Leftover) → In k y.leftovers → k.id ≡ b.txn.id → k.ticket ≡ b.stamp → IsSomewhere (Withdrawn f.txn.id c ∷ past) (set w.senders s y) w.commits b =
     λ b k i d e. inr (inr (inl (s, k, subst (λ (z : SenderState). In k z.leftovers) (sym (this_sender w.senders s y (within_senders w.senders s f is))) i, d, e))) in record {
@@ -215,10 +196,9 @@ dropped : (t : Topic) (l m : Leftover) (ks : List Leftover) → find_leftover t 
 dropped t l m [] e i = absurd i
 dropped t l m (k ∷ ks) e i = dropped_case t k l m ks (k.ticket.topic.0 == t.0) (dropped t l m ks) e i
 
-cancelled_accounted : (past : List Answer) (w : World) (c : ℕ) (t : Topic) (o : Option Leftover) → find_leftover t (speaker w c).leftovers ≡ o → Accounted past w.senders w.commits → Accounted (cancel_answer t o ∷ past) (cancel_effect w c t o).senders (cancel_effect w c t o).commits
-cancelled_accounted past w c t None e h = note past Done w.senders w.commits refl h
-cancelled_accounted past w c t (Some m) e h =
-    let s = speaker_number w c in let x = sender_in w.senders s in let v = cancel_effect w c t (Some m) in
+cancelled_accounted : (past : List Answer) (w : World) (c : ℕ) (t : Topic) (k : Found (find_leftover t (speaker w c).leftovers)) → Accounted past w.senders w.commits → Accounted (Cancelled k.it.id t ∷ past) (cancel_effect w c t (Some k.it)).senders w.commits
+cancelled_accounted past w c t found_one h =
+    let m = found_one.it in let e = found_one.is in let s = speaker_number w c in let x = sender_in w.senders s in
     let y : SenderState = record x { leftovers = drop_leftover t x.leftovers } in let found = leftover_found t x.leftovers m e in record {
       somewhere = λ b i. move past (Cancelled m.id t) w.senders w.commits w.commits s y b
           (λ f d n. inl (s, f, at_set (λ (z : SenderState). z.flight ≡ Some f) w.senders s s y new_sender (λ k. d) d, n))
@@ -234,11 +214,6 @@ cancelled_accounted past w c t (Some m) e h =
     }
 
 -- ---- each event
-
--- an event that changes no sender and decides nothing
-same_accounted : (past : List Answer) (o : Answer) (w v : World) → tickets (o ∷ past) ≡ tickets past → (v.senders ≡ w.senders) × (v.commits ≡ w.commits) → Accounted past w.senders w.commits → Accounted (o ∷ past) v.senders v.commits
-same_accounted past o w v e same h =
-    subst (λ z. Accounted (o ∷ past) z v.commits) (sym same.0) (subst (λ z. Accounted (o ∷ past) w.senders z) (sym same.1) (note past o w.senders w.commits e h))
 
 -- a new sender has nothing
 opened_accounted : (past : List Answer) (o : Answer) (senders : List SenderState) (commits : List CommitRow) → tickets (o ∷ past) ≡ tickets past → Accounted past senders commits → Accounted (o ∷ past) (senders ++ new_sender ∷ []) commits
@@ -262,38 +237,27 @@ connected_accounted : (past : List Answer) (w : World) (c : ℕ) (claimed : Opti
 connected_accounted past w c None h = opened_accounted past Done w.senders w.commits refl h
 connected_accounted past w c (Some s) h = note past Done w.senders w.commits refl h
 
-happens_accounted : (past : List Answer) (w : World) (e : Move) → Reached past w → Accounted past w.senders w.commits → move_refusal w e ≡ None → Accounted (move_answer w e ∷ past) (move_effect w e).senders (move_effect w e).commits
-happens_accounted past w (Connects c claimed) r h n = connected_accounted past w c claimed h
-happens_accounted past w (Commits c sends) r h n = flown_accounted past w c sends (or_parts _ (is_some (speaker w c).flight) (checked w (Commits c sends) n).1.1.0).1 h
-happens_accounted past w (Leaves c) r h n =
-    by_found (λ v o. Accounted (o ∷ past) v.senders v.commits) w (Leaves c) (
-      note past _ w.senders w.commits refl h,
-      λ s. by_entry (λ v. Accounted (leave_answer w c (Some s) ∷ past) v.senders v.commits) w s (note past _ w.senders w.commits refl h) (λ k. note past _ w.senders w.commits refl h),
-    )
-happens_accounted past w (Proposes c t memory) r h n = proposed_accounted past w c t (proposal_fault w c t memory) r (asks_of w c t memory n) h
-happens_accounted past w (Decides c) r h n = decided_accounted past w c r n h
-happens_accounted past w (Withdraws c) r h n = withdrawn_accounted past w c r n h
-happens_accounted past w (Cancels c t) r h n = cancelled_accounted past w c t (find_leftover t (speaker w c).leftovers) refl h
-happens_accounted past w e r h n =
-    let same = by_found (λ v o. (v.senders ≡ w.senders) × (v.commits ≡ w.commits) × (tickets (o ∷ past) ≡ tickets past)) w e ((refl, refl, refl), λ k. (refl, refl, refl)) in
-    same_accounted past (move_answer w e) w (move_effect w e) same.2 (same.0, same.1) h
+abbrev AreAccounted : List Answer → World → Type 0
+AreAccounted past w = Accounted past w.senders w.commits
 
-step_accounted : (past : List Answer) (w : World) (e : Move) → Reached past w → Accounted past w.senders w.commits → Accounted (answer_to w e ∷ past) (world_after w e).senders (world_after w e).commits
-step_accounted past w e r h =
-    by_refusal (λ v o. Accounted (o ∷ past) v.senders v.commits) w e (λ why. note past (Refused why) w.senders w.commits refl h)
-    (λ n. happens_accounted past w e r h n)
-
-run_accounted : (es : List Move) (past : List Answer) (w : World) → Reached past w → Accounted past w.senders w.commits → Accounted (answers_from es w past) (run es w).senders (run es w).commits
-run_accounted [] past w r h = h
-run_accounted (e ∷ es) past w r h =
-    run_accounted es (answer_to w e ∷ past) (world_after w e) (step_reached past w e r) (step_accounted past w e r h)
+happens : (past : List Answer) (w : World) (e : Move) → Reached past w → AreAccounted past w → move_refusal w e ≡ None → InEachCase (λ v o. AreAccounted (o ∷ past) v) w e
+happens past w (Connects c claimed) r h n = always (connected_accounted past w c claimed h)
+happens past w (Commits c sends) r h n =
+    let free = or_parts _ (is_some (speaker w c).flight) (checked w (Commits c sends) n).1.1.0 in
+    (flown_accounted past w c [] free.1 h, λ k. flown_accounted past w c (k.0 ∷ k.1) free.1 h)
+happens past w (Leaves c) r h n = (note past _ w.senders w.commits refl h, λ s. (note past _ w.senders w.commits refl h, λ k. note past _ w.senders w.commits refl h))
+happens past w (Proposes c t memory) r h n =
+    let asks = asks_of w c t memory n in (proposed_accounted past w c t None r asks h, λ k. proposed_accounted past w c t (Some k.it) r asks h)
+happens past w (Decides c) r h n = always (decided_accounted past w c r n h)
+happens past w (Withdraws c) r h n = always (withdrawn_accounted past w c r n h)
+happens past w (Cancels c t) r h n = (note past Done w.senders w.commits refl h, λ k. cancelled_accounted past w c t k h)
+happens past w e r h n = (note past _ w.senders w.commits refl h, λ k. note past _ w.senders w.commits refl h)
 
 -- after a run each ticket is accounted for
 pub accounted : (r : Run) → Accounted (answers_of r) (final_world r).senders (final_world r).commits
-accounted r =
-    run_accounted r.events [] (start r.capacity r.log_limit r.clocks) (start_reached r.capacity r.log_limit r.clocks) (record {
-      somewhere = λ a i. absurd i;
-      one = λ a b i. absurd i;
-      named = λ a i. absurd i;
-      complete = λ q i. absurd i;
-    })
+accounted = by_moves AreAccounted (λ capacity log_limit clocks. record {
+  somewhere = λ a i. absurd i;
+  one = λ a b i. absurd i;
+  named = λ a i. absurd i;
+  complete = λ q i. absurd i;
+}) (λ past w why h. note past (Refused why) w.senders w.commits refl h) happens

@@ -1,14 +1,9 @@
 -- Each topic of a run is tied to the tickets that it gave, and each sender's floor to the commit list.
-use Rattle.delivery.proofs.Words.Std.{◌≡◌, ℕ, true, false, ◌⊎◌, inl, inr, List, [], ◌∷◌, refl, sym, ap, subst, ◌∙◌, true≢false}
-use Rattle.delivery.proofs.Words.Topics.{zero_stamp, stamp_lt, TopicPart, topics_of, part_at, Transaction, CommitRow, In, names, Topic, TxnId, Stamp, LogRow, Pending, key}
-use Rattle.delivery.proofs.Words.Lemmas.{id_same, id_itself, le_lt, In-push_cases, not_head, Waits}
-use Rattle.delivery.proofs.Words.Machine.{log_row, topic_at, sender_at, Answer, txn_of_id, commits_of, Run, answers_of, final_world, Ticket, Decided, Cancelled}
+use Rattle.delivery.proofs.Words.All.{◌≡◌, ℕ, true, false, ◌⊎◌, inl, inr, List, [], ◌∷◌, refl, sym, ap, subst, ◌∙◌, true≢false, zero_stamp, stamp_lt, TopicPart, topics_of, part_at, Transaction, CommitRow, In, names, Topic, TxnId, Stamp, LogRow, Pending, key, id_same, id_itself, le_lt, In-push_cases, not_head, Waits, log_row, topic_at, sender_at, Answer, txn_of_id, commits_of, Run, answers_of, final_world, Decided, Cancelled}
+use Rattle.delivery.specs.Machine.Moves.Answer.{Ticket}
 use Rattle.delivery.specs.Theorem.Tied
 use Rattle.delivery.specs.Theorem.Tied.{IsWaiting, IsAccountedFor, HasTicket}
-use Rattle.delivery.proofs.Machine.Invariant.{row}
-use Rattle.delivery.proofs.Machine.TopicSteps.{key_ticket}
-use Rattle.delivery.proofs.Machine.InvariantIsKept.{tickets}
-use Rattle.delivery.proofs.Theorem.AcceptedIsDue.{reached}
+use Rattle.delivery.proofs.Words.Steps.{row, key_ticket, tickets, reached}
 use Rattle.delivery.proofs.Machine.AnswerLemmas.{made_id, In-ticket}
 use Rattle.delivery.proofs.Theorem.SeqsCount.{seqs_count}
 use Rattle.delivery.proofs.Machine.MadeOnce.{made_is}
@@ -31,8 +26,7 @@ given_more id ticket ts a h = record { it = h.it; stands = inr h.stands; id_is =
 
 given_case : (id i : TxnId) (x ticket : Stamp) (past : List Answer) → (In (Ticket id x) past → Given id x (tickets past)) → In (Ticket id x) (Ticket i ticket ∷ past) → Given id x (row (txn_of_id i past) ticket ∷ tickets past)
 given_case id i x ticket past ih (inl e) =
-    let a : i ≡ id = cc in let b : ticket ≡ x = cc in
-    record { it = row (txn_of_id i past) ticket; stands = inl refl; id_is = made_id i past ∙ a; stamp_is = b }
+    let a : i ≡ id = cc in let b : ticket ≡ x = cc in record { it = row (txn_of_id i past) ticket; stands = inl refl; id_is = made_id i past ∙ a; stamp_is = b }
 given_case id i x ticket past ih (inr k) = given_more id x (tickets past) (row (txn_of_id i past) ticket) (ih k)
 
 given : (id : TxnId) (x : Stamp) (past : List Answer) → In (Ticket id x) past → Given id x (tickets past)
@@ -43,8 +37,7 @@ given id x (o ∷ past) k = given id x past (not_head (Ticket id x) _ past (λ e
 -- a committed row was decided
 decided_case : (r : CommitRow) (i : TxnId) (s : Stamp) (past : List Answer) → (In r (commits_of past) → In (Decided r.txn.id r.stamp) past) → In r (commits_of past) ⊎ (row (txn_of_id i past) s ≡ r) → In (Decided r.txn.id r.stamp) (Decided i s ∷ past)
 decided_case r i s past ih (inl k) = inr (ih k)
-decided_case r i s past ih (inr d) =
-    inl (ap (λ z. Decided z s) (sym (made_id i past)) ∙ ap (λ (z : CommitRow). Decided z.txn.id z.stamp) d)
+decided_case r i s past ih (inr d) = inl (ap (λ z. Decided z s) (sym (made_id i past)) ∙ ap (λ (z : CommitRow). Decided z.txn.id z.stamp) d)
 
 decided_of : (r : CommitRow) (past : List Answer) → In r (commits_of past) → In (Decided r.txn.id r.stamp) past
 decided_of r [] k = absurd k
@@ -61,21 +54,17 @@ ticket_made r a i = made_is (answers_of r) (seqs_count r) a.txn ((settling_run r
 logged_below : (r : Run) (t : Topic) (p : Pending) (l : LogRow) → In p (topic_at (final_world r) t).pending → In l (topic_at (final_world r) t).held → l.id ≡ p.part.id → Prim.⊥
 logged_below r t p l i j e =
     let w = final_world r in let h = (reached r).inv in let x = topic_at w t in let tied = h.tied t in
-    let a = tied.ticketed p i in let at = key_ticket (tickets (answers_of r)) w.commits t x p h.consistent tied i in
-    let g = tied.logged l j in
+    let a = tied.ticketed p i in let at = key_ticket (tickets (answers_of r)) w.commits t x p h.consistent tied i in let g = tied.logged l j in
     let ids : a.ticket.txn.id ≡ g.row.txn.id = ap (λ (z : TopicPart). z.id) a.part_is ∙ (sym e ∙ ap (λ (z : LogRow). z.id) (sym g.is)) in
     let txn = h.consistent.one_id a.ticket g.row a.stands (h.consistent.from_ticket g.row g.stands) (id_same a.ticket.txn.id g.row.txn.id ids) in
     let least : stamp_lt g.row.stamp (key p) ≡ false = h.consistent.greatest g.row (row a.ticket.txn (key p)) g.stands at txn in
-    let here : g.row.stamp ≡ l.stamp = ap (λ (z : LogRow). z.stamp) g.is in
-    let past : stamp_lt x.frontier l.stamp ≡ false = tied.sound.past l j in
-    let above : stamp_lt x.frontier (key p) ≡ true = tied.sound.above p i in
-    let low : stamp_lt l.stamp (key p) ≡ true = le_lt l.stamp x.frontier (key p) past above in
+    let here : g.row.stamp ≡ l.stamp = ap (λ (z : LogRow). z.stamp) g.is in let past : stamp_lt x.frontier l.stamp ≡ false = tied.sound.past l j in
+    let above : stamp_lt x.frontier (key p) ≡ true = tied.sound.above p i in let low : stamp_lt l.stamp (key p) ≡ true = le_lt l.stamp x.frontier (key p) past above in
     true≢false (sym low ∙ subst (λ z. stamp_lt z (key p) ≡ false) here least)
 
 waiting : (r : Run) (t : Topic) (p : Pending) → In p (topic_at (final_world r) t).pending → IsWaiting r t p
 waiting r t p i =
-    let w = final_world r in let h = reached r in let tied = h.inv.tied t in let a = tied.ticketed p i in
-    let here : p.part.topic ≡ t = tied.sound.own p i ∙ tied.topic in
+    let w = final_world r in let h = reached r in let tied = h.inv.tied t in let a = tied.ticketed p i in let here : p.part.topic ≡ t = tied.sound.own p i ∙ tied.topic in
     let id : a.ticket.txn.id ≡ p.part.id = ap (λ (z : TopicPart). z.id) a.part_is in
     let stamp : a.ticket.stamp ≡ record { n = p.number; topic = t } = a.stamp_is ∙ ap (λ (z : Topic). at p.number z) here in
     let flew = ticket_made r a.ticket a.stands in record {
@@ -103,13 +92,11 @@ by_ticket r t a i here v =
     let id : b.ticket.txn.id ≡ a.txn.id = ap (λ (z : TopicPart). z.id) b.part_is ∙ v.is in
     let txn = h.consistent.one_id b.ticket a b.stands i (id_same b.ticket.txn.id a.txn.id id) in
     let topic : b.ticket.stamp.topic ≡ a.stamp.topic = ap (λ (z : Stamp). z.topic) b.stamp_is ∙ (tied.sound.own p v.stands ∙ (tied.topic ∙ sym here)) in
-    let same = (accounted r).one b.ticket a b.stands i txn topic in
-    (p, v.stands, v.is, ap (λ (z : Stamp). z.n) (sym b.stamp_is) ∙ ap (λ (z : CommitRow). z.stamp.n) same)
+    let same = (accounted r).one b.ticket a b.stands i txn topic in (p, v.stands, v.is, ap (λ (z : Stamp). z.n) (sym b.stamp_is) ∙ ap (λ (z : CommitRow). z.stamp.n) same)
 
 kept_by : (r : Run) (t : Topic) (a : CommitRow) → In a (tickets (answers_of r)) → a.stamp.topic ≡ t → IsSomewhere (answers_of r) (final_world r).senders (final_world r).commits a → IsAccountedFor r t a.txn.id a.stamp
 kept_by r t a i here (inl (s, f, e, d)) =
-    let g = ((reached r).inv.serves s).flying f e in
-    let v = g.waits a i (sym d) in
+    let g = ((reached r).inv.serves s).flying f e in let v = g.waits a i (sym d) in
     inr (inr (by_ticket r t a i here (subst (λ z. Waits z (topic_at (final_world r) t).pending) (ap (λ (z : Transaction). z.id) d)
     (subst (λ z. Waits f.txn.id (topic_at (final_world r) z).pending) here v))))
 kept_by r t a i here (inr (inl (q, k, d))) =
@@ -119,8 +106,7 @@ kept_by r t a i here (inr (inl (q, k, d))) =
       | inr v ↦ inr (inr (by_ticket r t a i here (subst (λ (z : Transaction). Waits z.id (topic_at (final_world r) t).pending) d v)))
     ]
 kept_by r t a i here (inr (inr (inl (s, k, j, d, e)))) =
-    let v = (((reached r).inv.serves s).left k j).waits in
-    let u : k.ticket.topic ≡ t = ap (λ (z : Stamp). z.topic) e ∙ here in
+    let v = (((reached r).inv.serves s).left k j).waits in let u : k.ticket.topic ≡ t = ap (λ (z : Stamp). z.topic) e ∙ here in
     inr (inr (by_ticket r t a i here (subst (λ z. Waits z (topic_at (final_world r) t).pending) d
     (subst (λ z. Waits k.id (topic_at (final_world r) z).pending) u v))))
 kept_by r t a i here (inr (inr (inr k))) = inl (subst (λ z. In (Cancelled a.txn.id z) (answers_of r)) here k)

@@ -1,12 +1,8 @@
 -- A turn is its learns and its releases, one by one, and what its topic's log gets of it.
-use Rattle.delivery.proofs.Words.Std.{◌≡◌, ℕ, zero, suc, ◌-◌, ◌<◌, Bool, true, not, inl, inr, List, [], ◌∷◌, ◌++◌, map, length, set, Option, Some, None, refl, sym, ap, ◌∙◌, arith, append_assoc, option_or, option_map, is_some, lt-ltb, le-ltb, ltb-true, not-false, cases_lt, length-set, get_or_past, get_or-set_same, set-get_or, set-set}
-use Rattle.delivery.proofs.Words.Topics.{Decision, Topic, TxnId, LearnFault, first_refusal, LogRow, TopicState, Pending, Entry, row_of, new_topic, learn_fault, after_learn, with_stamp, after_try, after_tries, due_part, after_release, after_releases, after_turn, decided_stamp}
-use Rattle.delivery.proofs.Words.Lemmas.{map_length, after_release_if}
-use Rattle.delivery.proofs.Words.Machine.{Objection, World, topic_at, with_topic, log_at, Move, world_after, move_effect, is_topic, learn_objection_of, learn_objection, learn_effect, verdict_in, queue_has_room, move_answer, release_answer, run, Learns, Releases, Turns, Released, Turned}
+use Rattle.delivery.proofs.Words.All.{◌≡◌, ℕ, zero, suc, ◌-◌, ◌<◌, Bool, true, not, inl, inr, List, [], ◌∷◌, ◌++◌, map, length, set, Option, Some, None, refl, sym, ap, ◌∙◌, arith, append_assoc, option_or, option_map, is_some, lt-ltb, le-ltb, ltb-true, not-false, cases_lt, length-set, get_or_past, get_or-set_same, set-get_or, set-set, Decision, Topic, TxnId, LearnFault, first_refusal, LogRow, TopicState, Pending, Entry, row_of, new_topic, learn_fault, after_learn, with_stamp, after_try, after_tries, due_part, after_release, after_releases, after_turn, decided_stamp, map_length, after_release_if, Objection, World, topic_at, with_topic, log_at, Move, world_after, move_effect, is_topic, learn_objection_of, learn_objection, learn_effect, verdict_in, queue_has_room, move_answer, release_answer, run, Learns, Releases, Turns, Released, Turned}
 use Rattle.mcast_group.proofs.Learning.{tried_all_held}
 use Rattle.delivery.specs.Theorem.Laws
-use Rattle.delivery.proofs.Machine.InvariantIsKept.{by_refusal, checked}
-use Rattle.delivery.proofs.Core.ByRun.{run_append}
+use Rattle.delivery.proofs.Words.Steps.{by_refusal, checked, run_append}
 
 -- the world after a step: the new one, or the old one where it is refused
 abbrev stepped : World → World → Option Objection → World
@@ -32,18 +28,14 @@ fault_case : (w : World) (t : Topic) (id : TxnId) (v : Decision) (x : TopicState
 fault_case w t id v x None = twice w t x (after_learn id (decided_stamp v) x)
 fault_case w t id v x (Some fault) = refl
 
-learn_case : (w : World) (t : Topic) (id : TxnId) (x : TopicState) (o : Option Decision) → t.0 < length w.topics → let u = with_topic w t x in stepped u (learn_effect u t id o) (learn_objection u t id o) ≡ with_topic w t (after_try id o x)
-learn_case w t id x None room = refl
-learn_case w t id x (Some v) room =
-    let u = with_topic w t x in
-    ap (λ (z : TopicState). stepped u (with_topic u t (after_learn id (decided_stamp v) z)) (option_map learn_objection_of (learn_fault id v z))) (is_read w t x room)
-    ∙ fault_case w t id v x (learn_fault id v x)
-
 learn_step : (w : World) (t : Topic) (id : TxnId) (x : TopicState) → t.0 < length w.topics → world_after (with_topic w t x) (Learns t id) ≡ with_topic w t (after_try id (verdict_in w id) x)
 learn_step w t id x room =
     let u = with_topic w t x in
     ap (λ (b : Bool). stepped u (move_effect u (Learns t id)) (option_or (first_refusal ((not b, Objection.NotNamed) ∷ [])) (learn_objection u t id (verdict_in w id)))) (is_there w t x room)
-    ∙ learn_case w t id x (verdict_in w id) room
+    ∙ elim (verdict_in w id) as (λ (o : Option Decision). let u = with_topic w t x in stepped u (learn_effect u t id o) (learn_objection u t id o) ≡ with_topic w t (after_try id o x)) [
+      | None ↦ refl
+      | Some v ↦ (let u = with_topic w t x in ap (λ (z : TopicState). stepped u (with_topic u t (after_learn id (decided_stamp v) z)) (option_map learn_objection_of (learn_fault id v z))) (is_read w t x room) ∙ fault_case w t id v x (learn_fault id v x))
+    ]
 
 learn_steps : (w : World) (t : Topic) (ps : List Pending) (x : TopicState) → t.0 < length w.topics → run (map (λ p. Learns t p.part.id) ps) (with_topic w t x) ≡ with_topic w t (after_tries (verdict_in w) ps x)
 learn_steps w t [] x room = refl
@@ -74,11 +66,10 @@ release_steps w t (p ∷ ps) x room =
 
 tried_length : (id : TxnId) (o : Option Decision) (x : TopicState) → length (after_try id o x).pending ≡ length x.pending
 tried_length id None x = refl
-tried_length id (Some v) x = by (learn_fault id v x)
-  where
-    by : (o : Option LearnFault) → let y : TopicState = elim o [ None ↦ after_learn id (decided_stamp v) x | Some fault ↦ x ] in length y.pending ≡ length x.pending
-    by None = map_length (with_stamp id (decided_stamp v)) x.pending
-    by (Some fault) = refl
+tried_length id (Some v) x = elim (learn_fault id v x) as (λ (o : Option LearnFault). let y : TopicState = elim o [ None ↦ after_learn id (decided_stamp v) x | Some fault ↦ x ] in length y.pending ≡ length x.pending) [
+  | None ↦ map_length (with_stamp id (decided_stamp v)) x.pending
+  | Some fault ↦ refl
+]
 
 all_length : (find : TxnId → Option Decision) (ps : List Pending) (x : TopicState) → length (after_tries find ps x).pending ≡ length x.pending
 all_length find [] x = refl
@@ -122,10 +113,7 @@ pub Longer-same : (x y : TopicState) → y.held ≡ x.held → Longer x y
 Longer-same x y e = record { rows = []; is = e ∙ append_nothing x.held }
 
 Longer-then : (x y z : TopicState) → Longer x y → Longer y z → Longer x z
-Longer-then x y z a b = record {
-  rows = a.rows ++ b.rows;
-  is = b.is ∙ (ap (λ (rows : List LogRow). rows ++ b.rows) a.is ∙ append_assoc x.held a.rows b.rows);
-}
+Longer-then x y z a b = record { rows = a.rows ++ b.rows; is = b.is ∙ (ap (λ (rows : List LogRow). rows ++ b.rows) a.is ∙ append_assoc x.held a.rows b.rows) }
 
 pub released_longer : (accepts : Entry → Bool) (x : TopicState) (o : Option Pending) → Longer x (after_release_if accepts x o)
 released_longer accepts x None = Longer-same x x refl
@@ -133,8 +121,7 @@ released_longer accepts x (Some p) = record { rows = row_of p ∷ []; is = refl 
 
 times_longer : (accepts : Entry → Bool) (k : ℕ) (x : TopicState) → Longer x (after_releases accepts k x)
 times_longer accepts zero x = Longer-same x x refl
-times_longer accepts (suc k) x =
-    let y = after_release accepts x in Longer-then x y (after_releases accepts k y) (released_longer accepts x (due_part x)) (times_longer accepts k y)
+times_longer accepts (suc k) x = let y = after_release accepts x in Longer-then x y (after_releases accepts k y) (released_longer accepts x (due_part x)) (times_longer accepts k y)
 
 pub turned_longer : (accepts : Entry → Bool) (find : TxnId → Option Decision) (x : TopicState) → Longer x (after_turn accepts find x)
 turned_longer accepts find x =
@@ -155,8 +142,7 @@ log_written w t x e = ap (λ (z : TopicState). z.held) (is_read w t x (ltb-true 
 released_case : (w : World) (t u : Topic) (id : TxnId) (o : Option Pending) → is_topic w t ≡ true → release_answer t o ≡ Released u id → (u ≡ t) × (row : LogRow) × (row.id ≡ id) × (log_at (with_topic w t (after_release_if (queue_has_room w) (topic_at w t) o)) t ≡ log_at w t ++ row ∷ [])
 released_case w t u id None room e = cc
 released_case w t u id (Some p) room e =
-    let a : u ≡ t = cc in let b : p.part.id ≡ id = cc in
-    (a, row_of p, b, log_written w t (after_release_if (queue_has_room w) (topic_at w t) (Some p)) room)
+    let a : u ≡ t = cc in let b : p.part.id ≡ id = cc in (a, row_of p, b, log_written w t (after_release_if (queue_has_room w) (topic_at w t) (Some p)) room)
 
 -- a release adds to its topic's log the row of the transaction that it answers
 pub released_is_logged : Laws.ReleasedIsLogged
@@ -168,8 +154,7 @@ released_is_logged w t u id =
 turned_here : (w : World) (t u : Topic) (count : ℕ) → is_topic w t ≡ true → move_answer w (Turns t) ≡ Turned u count → (u ≡ t) × (rows : List LogRow) × (length rows ≡ count) × (log_at (move_effect w (Turns t)) t ≡ log_at w t ++ rows)
 turned_here w t u count room e =
     let x = topic_at w t in let y = after_turn (queue_has_room w) (verdict_in w) x in let h = turned_longer (queue_has_room w) (verdict_in w) x in
-    let a : u ≡ t = cc in let b : length y.held - length x.held ≡ count = cc in
-    (a, h.rows, counts_rows x y h ∙ b, log_written w t y room ∙ h.is)
+    let a : u ≡ t = cc in let b : length y.held - length x.held ≡ count = cc in (a, h.rows, counts_rows x y h ∙ b, log_written w t y room ∙ h.is)
 
 -- a turn adds as many rows to its topic's log as it answers
 pub turned_is_logged : Laws.TurnedIsLogged

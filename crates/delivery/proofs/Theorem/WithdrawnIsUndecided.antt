@@ -1,16 +1,9 @@
 -- No transaction is both withdrawn and decided.
-use Rattle.delivery.proofs.Words.Std.{◌≡◌, ℕ, inl, inr, List, [], ◌∷◌, Some, None, sym, ap, subst, ◌∙◌, false, not, is_some, true≢false}
-use Rattle.delivery.proofs.Words.Topics.{In, TxnId, Stamp}
-use Rattle.delivery.proofs.Words.Lemmas.{id_same}
-use Rattle.delivery.proofs.Words.Machine.{undecided_at, World, Undecided, speaker, start, speaker_number, Move, Answer, world_after, answer_to, move_refusal, answers_from, Decides, Withdraws, Decided, Withdrawn}
+use Rattle.delivery.proofs.Words.All.{◌≡◌, ℕ, inl, inr, List, ◌∷◌, Some, None, sym, ap, subst, ◌∙◌, false, not, is_some, true≢false, refl, In, TxnId, Stamp, id_same, undecided_at, World, Undecided, speaker, speaker_number, Move, Answer, answer_to, move_refusal, Decides, Withdraws, Decided, Withdrawn, answers_of, final_world, Leaves}
 use Rattle.delivery.specs.Theorem.Laws
-use Rattle.delivery.proofs.Machine.Invariant.{sender_in}
-use Rattle.delivery.proofs.Machine.TopicSteps.{flies_uncommitted}
-use Rattle.delivery.proofs.Machine.InvariantIsKept.{Reached, tickets, by_refusal, checked, in_flight, step_reached}
-use Rattle.delivery.proofs.Machine.ByFound.{InEachCase, by_found}
-use Rattle.delivery.proofs.Theorem.AcceptedIsDue.{start_reached}
+use Rattle.delivery.proofs.Words.Steps.{sender_in, flies_uncommitted, Reached, tickets, by_refusal, checked, in_flight, InEachCase, by_found, reached, by_run}
 use Rattle.delivery.proofs.Theorem.SettledSteps.{Settling}
-use Rattle.delivery.proofs.Theorem.SettledLeavesNoneOut.{committed_of, step_settling, start_settling}
+use Rattle.delivery.proofs.Theorem.SettledLeavesNoneOut.{committed_of, settling_run}
 
 -- the transaction is in flight
 record IsFlying (w : World) (id : TxnId) : Type 0 where
@@ -26,12 +19,12 @@ Ends w (Withdrawn id c) = IsFlying w id
 Ends w o = Unit {0}
 
 flies : (w : World) (c : ℕ) → not (is_some (speaker w c).flight) ≡ false → IsFlying w (undecided_at w c).txn.id
-flies w c there =
-    let f = in_flight w c there in record { sender = speaker_number w c; flight = f.flight; is = f.is; own = ap (λ (z : Undecided). z.txn.id) (sym f.at) }
+flies w c there = let f = in_flight w c there in record { sender = speaker_number w c; flight = f.flight; is = f.is; own = ap (λ (z : Undecided). z.txn.id) (sym f.at) }
 
 answer_ends : (w : World) (e : Move) → move_refusal w e ≡ None → InEachCase (λ v o. Ends w o) w e
 answer_ends w (Decides c) n = let f = flies w c (checked w (Decides c) n).1.1.0 in (f, λ k. f)
 answer_ends w (Withdraws c) n = let f = flies w c (checked w (Withdraws c) n).1.1.0 in (f, λ k. f)
+answer_ends w (Leaves c) n = (tt, λ k. (tt, λ q. tt))
 answer_ends w _ n = (tt, λ k. tt)
 
 outcome_ends : (w : World) (e : Move) → Ends w (answer_to w e)
@@ -45,8 +38,7 @@ not_decided past w id stamp h f i =
     (id_same c.row.txn.id f.flight.txn.id (c.id_is ∙ sym f.own))
 
 not_withdrawn : (past : List Answer) (w : World) (id : TxnId) (c : ℕ) → Settling past w.topics w.senders → IsFlying w id → In (Withdrawn id c) past → Prim.⊥
-not_withdrawn past w id c l f i =
-    true≢false (sym (id_same f.flight.txn.id id f.own) ∙ l.not_withdrawn f.sender f.flight id c f.is i)
+not_withdrawn past w id c l f i = true≢false (sym (id_same f.flight.txn.id id f.own) ∙ l.not_over f.sender f.flight id (Withdrawn id c) f.is i refl)
 
 -- so far, none is both
 abbrev Apart : List Answer → Type 0
@@ -61,12 +53,7 @@ step_apart past w o h l f old id c stamp (inl e) (inr j) = not_decided past w id
 step_apart past w o h l f old id c stamp (inr i) (inl d) = not_withdrawn past w id c l (subst (λ z. Ends w z) d f) i
 step_apart past w o h l f old id c stamp (inr i) (inr j) = old id c stamp i j
 
-run_apart : (es : List Move) (past : List Answer) (w : World) → Reached past w → Settling past w.topics w.senders → Apart past → Apart (answers_from es w past)
-run_apart [] past w h l old = old
-run_apart (e ∷ es) past w h l old =
-    run_apart es (answer_to w e ∷ past) (world_after w e) (step_reached past w e h) (step_settling past w e h l) (step_apart past w (answer_to w e) h l (outcome_ends w e) old)
-
 -- no transaction is both withdrawn and decided
 pub withdrawn_is_undecided : Laws.WithdrawnIsUndecided
-withdrawn_is_undecided r =
-    run_apart r.events [] (start r.capacity r.log_limit r.clocks) (start_reached r.capacity r.log_limit r.clocks) (start_settling r.log_limit r.clocks) (λ id c stamp i. absurd i)
+withdrawn_is_undecided = by_run (λ past w. Apart past) (λ capacity log_limit clocks id c stamp i. absurd i) (λ r e old. let w = final_world r in
+    step_apart (answers_of r) w (answer_to w e) (reached r) (settling_run r) (outcome_ends w e) old)

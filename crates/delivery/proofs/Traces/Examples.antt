@@ -1,8 +1,5 @@
 -- Worked traces: of transactions that cross at two topics, and of one that crosses another beside a subscription.
-use Rattle.delivery.proofs.Words.Std.{inl, inr, refl, arith, ◌≡◌, ℕ, zero, suc, ◌<◌, true, List, [], ◌∷◌, codes, None}
-use Rattle.delivery.proofs.Words.Topics.{Topic, Transaction, In, LogRow, IsExplainedBy, TopicRow, TraceData}
-use Rattle.delivery.proofs.Words.Machine.{IsSettled, IsResolved, Answer}
-use Rattle.delivery.proofs.Words.Core.{Event, account_of, Core, report_of, trace_of, AllSettled}
+use Rattle.delivery.proofs.Words.All.{inl, inr, refl, arith, ◌≡◌, ℕ, zero, suc, ◌<◌, true, List, [], ◌∷◌, codes, None, Topic, Transaction, In, LogRow, IsExplainedBy, TopicRow, TraceData, IsSettled, IsResolved, Answer, Event, account_of, Core, report_of, trace_of, AllSettled}
 use Rattle.trace_audit.specs.Faults.{audit_fault, is_whole}
 use Rattle.trace_audit.proofs.Refuting.{complete}
 use Rattle.trace_audit.proofs.Examples.{crossing_is_explained}
@@ -37,11 +34,9 @@ second = log_row 0 1 2 1 (0 ∷ 1 ∷ [])
 abbrev trace : TraceData
 trace = record { logs = logged 0 first ∷ logged 0 second ∷ logged 1 first ∷ logged 1 second ∷ []; spans = []; queues = [] }
 
-crossed_trace : trace_of (report_of crossed) ≡ trace
-crossed_trace = refl
-
-crossed_has_no_fault : audit_fault trace ≡ None
-crossed_has_no_fault = refl
+crossed_rows : (trace_of (report_of crossed) ≡ trace)
+    × (audit_fault trace ≡ None)
+crossed_rows = (refl, refl)
 
 -- the account without its two Turns
 abbrev decided : List Answer
@@ -55,11 +50,9 @@ decided =
 abbrev told : List Answer
 told = Answer.Turned (topic 1) 2 ∷ Answer.Turned (topic 0) 2 ∷ decided
 
-crossed_told : account_of crossed.names crossed.steps ≡ told
-crossed_told = refl
-
-crossed_rows : logged_rows told (report_of crossed) ≡ first ∷ second ∷ []
-crossed_rows = refl
+crossed_account : (account_of crossed.names crossed.steps ≡ told)
+    × (logged_rows told (report_of crossed) ≡ first ∷ second ∷ [])
+crossed_account = (refl, refl)
 
 is_resolved : (t : Topic) (txn : Transaction) → In (Answer.Begun txn) decided → IsResolved t decided txn
 is_resolved t txn (inl e) = absurd cc
@@ -107,8 +100,6 @@ beside_trace : trace_of (report_of crossing) ≡ record {
 }
 beside_trace = refl
 
-beside_has_no_fault : audit_fault (trace_of (report_of crossing)) ≡ None
-beside_has_no_fault = refl
-
-beside_is_whole : is_whole (trace_of (report_of crossing)).logs ≡ true
-beside_is_whole = refl
+beside_rows : (audit_fault (trace_of (report_of crossing)) ≡ None)
+    × (is_whole (trace_of (report_of crossing)).logs ≡ true)
+beside_rows = (refl, refl)

@@ -1,9 +1,5 @@
 -- What is delivered explains its trace.
-use Rattle.delivery.proofs.Words.Std.{◌≡◌, ◌≢◌, ℕ, ◌<◌, ◌&&◌, Bool, true, false, not, ◌⊎◌, inl, inr, List, [], ◌∷◌, map, take, length, Option, Some, refl, sym, ap, subst, ◌∙◌, list_any, and_parts, true≢false, filter}
-use Rattle.delivery.proofs.Words.Topics.{Topic, Stamp, CommitRow, committed_id, stamp_of, agreed, same_id, In, LogRow, row_id, row_stamp, in_span, last_stamp, up_to, row_mark, stamp_lt, zero_stamp, names, topics_of, IsExplainedBy, IsCompleteBy, TopicRow, rows_of, queue_of}
-use Rattle.delivery.proofs.Words.Lemmas.{In-map, In-map_cases, In-filter, In-filter_cases, filter_same, filter_none, filter_twice, any_found, any_from, In-take, id_equal, id_itself, le_lt, zero_least, In-sorted_cases, Rises-filter}
-use Rattle.delivery.proofs.Words.Machine.{log_row, item_at, is_due, Answer, commits_of, released_at}
-use Rattle.delivery.proofs.Words.Core.{DeliversAnswers, Report, log_in, traced_span, trace_of, AllSettled}
+use Rattle.delivery.proofs.Words.All.{◌≡◌, ◌≢◌, ℕ, ◌<◌, ◌&&◌, Bool, true, false, not, ◌⊎◌, inl, inr, List, [], ◌∷◌, map, take, length, Option, Some, refl, sym, ap, subst, ◌∙◌, list_any, and_parts, true≢false, filter, Topic, Stamp, CommitRow, committed_id, stamp_of, agreed, same_id, In, LogRow, row_id, row_stamp, in_span, last_stamp, up_to, row_mark, stamp_lt, zero_stamp, names, topics_of, IsExplainedBy, IsCompleteBy, TopicRow, rows_of, queue_of, In-map, In-map_cases, In-filter, In-filter_cases, filter_same, filter_none, filter_twice, any_found, any_from, In-take, id_equal, id_itself, le_lt, zero_least, In-sorted_cases, Rises-filter, log_row, item_at, is_due, Answer, commits_of, released_at, DeliversAnswers, Report, log_in, traced_span, trace_of, AllSettled}
 use Rattle.trace_audit.specs.Explained.{rows_at}
 use Rattle.trace_audit.specs.Trace.{marks_in}
 use Rattle.delivery.proofs.Core.QueueOfReport.{queue_in, queue_there}
@@ -44,16 +40,13 @@ fronted account r d t = record {
 -- a row of a log is one of the agreed sequence
 in_sequence : {capacity : ℕ} (account : List Answer) (r : Report) → DeliversAnswers capacity account r → (row : LogRow) → In row (rows_of (trace_of r).logs) → In row (sequence account)
 in_sequence account r d row k =
-    let h = row_in_log (trace_of r).logs row k in
-    let f = fronted account r d h.0 in
-    let taken = subst (λ z. In row z) (log_is r h.0 ∙ f.is) h.1 in
+    let h = row_in_log (trace_of r).logs row k in let f = fronted account r d h.0 in let taken = subst (λ z. In row z) (log_is r h.0 ∙ f.is) h.1 in
     (In-filter_cases (at_topic h.0) row (sequence account) (In-take row f.count (filter (at_topic h.0) (sequence account)) taken)).stands
 
 -- a log that isn't empty is the agreed sequence restricted to its topic, up to its last stamp
 cut : {capacity : ℕ} (account : List Answer) (r : Report) (d : DeliversAnswers capacity account r) (t : Topic) → log_in r t ≢ [] → log_in r t ≡ rows_at t (log_in r t) (sequence account)
 cut account r d t some =
-    let f = fronted account r d t in
-    let named = filter (at_topic t) (sequence account) in
+    let f = fronted account r d t in let named = filter (at_topic t) (sequence account) in
     let rises = Rises-filter row_stamp (at_topic t) (sequence account) (agreed_rises (commits_of account) d.each_once) in
     let there : take f.count named ≢ [] = λ none. some (f.is ∙ none) in
     sym (sym (filter_twice (λ (row : LogRow). up_to (Some (last_stamp zero_stamp (log_in r t))) row.stamp) (at_topic t) (sequence account))
@@ -69,8 +62,7 @@ logged_itself account r d row k e =
     let f = any_found (λ (logged : TopicRow). same_id logged.row.id row.id) (trace_of r).logs e in
     let there = In-map (λ (logged : TopicRow). logged.row) f.it (trace_of r).logs f.stands in
     let a = In-map_cases log_row f.it.row (agreed (commits_of account)) (in_sequence account r d f.it.row there) in
-    let b = In-map_cases log_row row (agreed (commits_of account)) k in
-    let ids = ap row_id a.is ∙ (id_equal f.it.row.id row.id f.passes ∙ sym (ap row_id b.is)) in
+    let b = In-map_cases log_row row (agreed (commits_of account)) k in let ids = ap row_id a.is ∙ (id_equal f.it.row.id row.id f.passes ∙ sym (ap row_id b.is)) in
     let same = one_of_id committed_id stamp_of (agreed (commits_of account)) a.from b.from d.each_once a.stands b.stands ids in
     subst (λ z. In z (rows_of (trace_of r).logs)) (sym a.is ∙ (ap log_row same ∙ b.is)) there
 
@@ -89,8 +81,7 @@ both_same false false h = refl
 -- a log that isn't empty is these rows restricted to its topic, up to its last stamp
 kept_cut : {capacity : ℕ} (account : List Answer) (r : Report) (d : DeliversAnswers capacity account r) (t : Topic) → log_in r t ≢ [] → log_in r t ≡ rows_at t (log_in r t) (logged_rows account r)
 kept_cut account r d t some =
-    let logs = (trace_of r).logs in
-    let test = λ (row : LogRow). names t row.topics && up_to (Some (last_stamp zero_stamp (log_in r t))) row.stamp in
+    let logs = (trace_of r).logs in let test = λ (row : LogRow). names t row.topics && up_to (Some (last_stamp zero_stamp (log_in r t))) row.stamp in
     cut account r d t some
     ∙ (filter_same test (λ row. in_logs logs row && test row) (sequence account)
     (λ row k. both_same (in_logs logs row) (test row)
@@ -118,8 +109,7 @@ none_due t from to row = by_test (due_row t from to zero_stamp row) refl
     by_test false e = e
     by_test true e =
         let a = and_parts (names t row.topics && in_span from to row.stamp) (not (stamp_lt zero_stamp row.stamp)) e in
-        let b = and_parts (names t row.topics) (in_span from to row.stamp) a.0 in
-        let c = and_parts (stamp_lt from row.stamp) (up_to to row.stamp) b.1 in
+        let b = and_parts (names t row.topics) (in_span from to row.stamp) a.0 in let c = and_parts (stamp_lt from row.stamp) (up_to to row.stamp) b.1 in
         absurd (true≢false (sym a.1 ∙ ap not (le_lt zero_stamp from row.stamp (zero_least from) c.0)))
 
 empty_or_not : (rows : List LogRow) → (rows ≡ []) ⊎ (rows ≢ [])
@@ -137,8 +127,7 @@ due_logged account r d t from to = elim (empty_or_not (log_in r t)) [
       ∙ (filter_none (due_row t from to zero_stamp) (sequence account) (λ row k. none_due t from to row)
       ∙ sym (ap (filter (λ (row : LogRow). in_span from to row.stamp)) none))
   | inr some ↦
-      let last = last_stamp zero_stamp (log_in r t) in
-      let test = λ (row : LogRow). names t row.topics && up_to (Some last) row.stamp in
+      let last = last_stamp zero_stamp (log_in r t) in let test = λ (row : LogRow). names t row.topics && up_to (Some last) row.stamp in
       filter_same (due_row t from to last) (λ row. test row && in_span from to row.stamp) (sequence account)
       (λ row k. and_swapped (names t row.topics) (in_span from to row.stamp) (not (stamp_lt last row.stamp)))
       ∙ (sym (filter_twice (λ (row : LogRow). in_span from to row.stamp) test (sequence account))
@@ -153,8 +142,7 @@ marks_twice t (row ∷ rows) = ap (λ z. row_mark (log_row row) ∷ z) (marks_tw
 queue_cut : {capacity : ℕ} (account : List Answer) (r : Report) (d : DeliversAnswers capacity account r) (s : ℕ) → s < length r.subscriptions
     → queue_of s (trace_of r).queues ≡ marks_in (traced_span s (queue_in r s)) (trace_of r).logs
 queue_cut account r d s l =
-    let q = queue_in r s in
-    let last = last_stamp zero_stamp (log_in r q.span.topic) in
+    let q = queue_in r s in let last = last_stamp zero_stamp (log_in r q.span.topic) in
     queue_is r s
     ∙ (ap (map (λ item. row_mark (item_row item))) ((d.queues s q (queue_there r s l)).exactly_due)
     ∙ (marks_twice q.span.topic (filter (is_due q.span last) (agreed (commits_of account)))
@@ -185,7 +173,5 @@ pub complete : {capacity : ℕ} (account : List Answer) (r : Report) → Deliver
     → AllSettled (length r.logs) account → IsCompleteBy (logged_rows account r) (trace_of r)
 complete account r d known settled row t k named =
     let m = In-map_cases log_row row (agreed (commits_of account)) (In-filter_cases (in_logs (trace_of r).logs) row (sequence account) k).stands in
-    let there = In-sorted_cases stamp_of m.from (commits_of account) m.stands in
-    let names_it = subst (λ (z : LogRow). names t z.topics ≡ true) (sym m.is) named in
-    let l = known m.from t there names_it in
-    subst (λ z. In row z) (sym (log_is r t)) (subst (λ z. In z (log_in r t)) m.is (d.validity t m.from (settled t l) there names_it))
+    let there = In-sorted_cases stamp_of m.from (commits_of account) m.stands in let names_it = subst (λ (z : LogRow). names t z.topics ≡ true) (sym m.is) named in
+    let l = known m.from t there names_it in subst (λ z. In row z) (sym (log_is r t)) (subst (λ z. In z (log_in r t)) m.is (d.validity t m.from (settled t l) there names_it))

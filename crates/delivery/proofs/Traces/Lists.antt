@@ -1,7 +1,5 @@
 -- Lists that are filtered, numbered and taken.
-use Rattle.delivery.proofs.Words.Std.{◌≡◌, ℕ, zero, suc, ◌+◌, ◌<◌, ◌==◌, Bool, true, false, List, [], ◌∷◌, ◌++◌, map, get_or, refl, sym, ap, ◌∙◌, append-nil, arith, flat_map, enumerate_from, eq-eqb, nat_tests, filter-append, filter}
-use Rattle.delivery.proofs.Words.Topics.{In}
-use Rattle.delivery.proofs.Words.Lemmas.{filter_none}
+use Rattle.delivery.proofs.Words.All.{◌≡◌, ℕ, zero, suc, ◌+◌, ◌<◌, ◌==◌, Bool, true, false, List, [], ◌∷◌, ◌++◌, map, get_or, refl, sym, ap, ◌∙◌, append-nil, arith, flat_map, enumerate_from, eq-eqb, nat_tests, filter-append, filter, In, filter_none}
 use Rattle.mcast_txn.proofs.Members.{filter_all}
 
 map_case : {X Y : Type 0} (p : Y → Bool) (f : X → Y) (x : X) (xs : List X) (b : Bool) → p (f x) ≡ b

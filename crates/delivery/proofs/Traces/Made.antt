@@ -1,7 +1,5 @@
 -- A trace as it grows: by a row of a log, an item of a queue, a topic and a subscription.
-use Rattle.delivery.proofs.Words.Std.{◌≡◌, ℕ, zero, suc, ◌+◌, ◌<◌, ◌≤◌, ◌==◌, ◌||◌, Bool, true, false, List, [], ◌∷◌, ◌++◌, map, take, length, get_or, Some, refl, sym, ap, subst, ◌∙◌, append_assoc, append-nil, arith, slice_get, list_all, flat_map, enumerate_from, option_map, and_parts, eq-eqb, nat_tests, map-append, take_more, slice_get-get_or, get_or_from_slice_get}
-use Rattle.delivery.proofs.Words.Topics.{Topic, Item, LogRow, GroupState, QueueRow, SpanRow, TopicRow, TraceData, fits, has_span}
-use Rattle.delivery.proofs.Words.Core.{QueueReport, traced_log, traced_span, traced_queue}
+use Rattle.delivery.proofs.Words.All.{◌≡◌, ℕ, zero, suc, ◌+◌, ◌<◌, ◌≤◌, ◌==◌, ◌||◌, Bool, true, false, List, [], ◌∷◌, ◌++◌, map, take, length, get_or, Some, refl, sym, ap, subst, ◌∙◌, append_assoc, append-nil, arith, slice_get, list_all, flat_map, enumerate_from, option_map, and_parts, eq-eqb, nat_tests, map-append, take_more, slice_get-get_or, get_or_from_slice_get, Topic, Item, LogRow, GroupState, QueueRow, SpanRow, TopicRow, TraceData, fits, has_span, QueueReport, traced_log, traced_span, traced_queue}
 use Rattle.std.proofs.lemmas.Grind.{flat_map-append}
 use Rattle.std.proofs.lemmas.List.{length-take-le}
 use Rattle.std.proofs.lemmas.List.Folds.{list_all-append}
@@ -32,22 +30,17 @@ map_one f xs n x is = ap (map f) (taken_one xs n x is) ∙ map-append f (take n 
 pub number_last : {X : Type 0} (i : ℕ) (xs : List X) (x : X) → enumerate_from i (xs ++ x ∷ []) ≡ enumerate_from i xs ++ (i + length xs, x) ∷ []
 number_last i [] x = ap (λ n. (n, x) ∷ []) (omega arith)
 number_last i (y ∷ xs) x =
-    let many : i + 1 + length xs ≡ i + length (y ∷ xs) = omega arith in
-    ap (λ z. (i, y) ∷ z) (number_last (i + 1) xs x ∙ ap (λ n. enumerate_from (i + 1) xs ++ (n, x) ∷ []) many)
+    let many : i + 1 + length xs ≡ i + length (y ∷ xs) = omega arith in ap (λ z. (i, y) ∷ z) (number_last (i + 1) xs x ∙ ap (λ n. enumerate_from (i + 1) xs ++ (n, x) ∷ []) many)
 
 -- the number of one more
-pub number_one : {X : Type 0} (xs : List X) (n : ℕ) (x : X) → slice_get xs n ≡ Some x
-    → enumerate_from 0 (take (n + 1) xs) ≡ enumerate_from 0 (take n xs) ++ (n, x) ∷ []
+pub number_one : {X : Type 0} (xs : List X) (n : ℕ) (x : X) → slice_get xs n ≡ Some x → enumerate_from 0 (take (n + 1) xs) ≡ enumerate_from 0 (take n xs) ++ (n, x) ∷ []
 number_one xs n x is =
-    let there = slice_get_within xs n x is in
-    let long = length-take-le n xs (omega (arith, there)) in
-    let many : 0 + length (take n xs) ≡ n = omega (arith, long) in
+    let there = slice_get_within xs n x is in let long = length-take-le n xs (omega (arith, there)) in let many : 0 + length (take n xs) ≡ n = omega (arith, long) in
     ap (enumerate_from 0) (taken_one xs n x is)
     ∙ (number_last 0 (take n xs) x ∙ ap (λ m. enumerate_from 0 (take n xs) ++ (m, x) ∷ []) many)
 
 -- what is made of one more
-pub made_one : {X Y : Type 0} (f : ℕ → X → List Y) (xs : List X) (n : ℕ) (x : X) → slice_get xs n ≡ Some x
-    → made_of f 0 (take (n + 1) xs) ≡ made_of f 0 (take n xs) ++ f n x
+pub made_one : {X Y : Type 0} (f : ℕ → X → List Y) (xs : List X) (n : ℕ) (x : X) → slice_get xs n ≡ Some x → made_of f 0 (take (n + 1) xs) ≡ made_of f 0 (take n xs) ++ f n x
 made_one {X} f xs n x is =
     ap (flat_map (λ (p : ℕ × X). f p.0 p.1)) (number_one xs n x is)
     ∙ (flat_map-append (λ (p : ℕ × X). f p.0 p.1) (enumerate_from 0 (take n xs)) ((n, x) ∷ [])
@@ -56,8 +49,7 @@ made_one {X} f xs n x is =
 -- where all pass, so does each
 pub passes_at : {X : Type 0} (p : X → Bool) (xs : List X) (n : ℕ) (x : X) → list_all p xs ≡ true → slice_get xs n ≡ Some x → p x ≡ true
 passes_at p [] n x all is = absurd cc
-passes_at p (y ∷ xs) zero x all is =
-    let same : y ≡ x = cc in subst (λ z. p z ≡ true) same (and_parts (p y) (list_all p xs) all).0
+passes_at p (y ∷ xs) zero x all is = let same : y ≡ x = cc in subst (λ z. p z ≡ true) same (and_parts (p y) (list_all p xs) all).0
 passes_at p (y ∷ xs) (suc n) x all is = passes_at p xs n x (and_parts (p y) (list_all p xs) all).1 is
 
 -- where all that is made passes, so does what is made of each
@@ -65,14 +57,11 @@ pub passes_made : {X Y : Type 0} (p : Y → Bool) (f : ℕ → X → List Y) (i 
     → slice_get xs n ≡ Some x → list_all p (f (i + n) x) ≡ true
 passes_made p f i [] n x all is = absurd cc
 passes_made p f i (y ∷ xs) zero x all is =
-    let same : y ≡ x = cc in
-    let parts = and_parts (list_all p (f i y)) (list_all p (made_of f (i + 1) xs)) (sym (list_all-append p (f i y) (made_of f (i + 1) xs)) ∙ all) in
-    let first : i ≡ i + 0 = omega arith in
-    subst (λ m. list_all p (f m x) ≡ true) first (subst (λ z. list_all p (f i z) ≡ true) same parts.0)
+    let same : y ≡ x = cc in let parts = and_parts (list_all p (f i y)) (list_all p (made_of f (i + 1) xs)) (sym (list_all-append p (f i y) (made_of f (i + 1) xs)) ∙ all) in
+    let first : i ≡ i + 0 = omega arith in subst (λ m. list_all p (f m x) ≡ true) first (subst (λ z. list_all p (f i z) ≡ true) same parts.0)
 passes_made p f i (y ∷ xs) (suc n) x all is =
     let parts = and_parts (list_all p (f i y)) (list_all p (made_of f (i + 1) xs)) (sym (list_all-append p (f i y) (made_of f (i + 1) xs)) ∙ all) in
-    let later : i + 1 + n ≡ i + suc n = omega arith in
-    subst (λ m. list_all p (f m x) ≡ true) later (passes_made p f (i + 1) xs n x parts.1 is)
+    let later : i + 1 + n ≡ i + suc n = omega arith in subst (λ m. list_all p (f m x) ≡ true) later (passes_made p f (i + 1) xs n x parts.1 is)
 
 -- where a topic's log fits, so does each row of it
 pub logged_fits : (t : Topic) (rows : List LogRow) (n : ℕ) (row : LogRow) → list_all (λ (logged : TopicRow). fits logged) (traced_log t.0 rows) ≡ true
@@ -101,8 +90,7 @@ log_grows old mid new t rows n row logged is so_far made grown =
 
 -- the logs grow by a topic's
 pub logs_grow : (old mid new : TraceData) (logs : List (List LogRow)) (n : ℕ) (rows : List LogRow) → slice_get logs n ≡ Some rows
-    → mid ≡ with_logs old (made_of traced_log 0 (take n logs)) → new ≡ with_logs mid (traced_log n rows)
-    → new ≡ with_logs old (made_of traced_log 0 (take (n + 1) logs))
+    → mid ≡ with_logs old (made_of traced_log 0 (take n logs)) → new ≡ with_logs mid (traced_log n rows) → new ≡ with_logs old (made_of traced_log 0 (take (n + 1) logs))
 logs_grow old mid new logs n rows is so_far grown =
     grown
     ∙ (ap (λ (z : TraceData). with_logs z (traced_log n rows)) so_far
@@ -149,13 +137,11 @@ subs_grow old mid new qs n q is so_far grown =
 no_span : (i n : ℕ) (qs : List QueueReport) → i + length qs ≤ n → has_span n (spans_from i qs) ≡ false
 no_span i n [] l = refl
 no_span i n (q ∷ qs) l =
-    let other : (i == n) ≡ false = grind (arith, nat_tests) in
-    ap (λ b. b || has_span n (spans_from (i + 1) qs)) other ∙ no_span (i + 1) n qs (omega (arith, l))
+    let other : (i == n) ≡ false = grind (arith, nat_tests) in ap (λ b. b || has_span n (spans_from (i + 1) qs)) other ∙ no_span (i + 1) n qs (omega (arith, l))
 
 -- the next subscription has no span
 pub next_has_none : (n : ℕ) (qs : List QueueReport) → n < length qs → has_span n (spans_from 0 (take n qs)) ≡ false
-next_has_none n qs l =
-    let many : length (take n qs) ≡ n = length-take-le n qs (omega (arith, l)) in no_span 0 n (take n qs) (omega (arith, many))
+next_has_none n qs l = let many : length (take n qs) ≡ n = length-take-le n qs (omega (arith, l)) in no_span 0 n (take n qs) (omega (arith, many))
 
 -- a span that was added is there
 pub added_has_span : (n : ℕ) (spans : List SpanRow) (span : SpanRow) → span.sub ≡ n → has_span n (spans ++ span ∷ []) ≡ true

@@ -1,29 +1,21 @@
 -- The trace of every run of the core.
-use Rattle.delivery.proofs.Words.Std.{◌≡◌, ℕ, ◌<◌, true, inl, inr, List, length, refl, sym, ap, subst, ◌∙◌, cases_lt}
-use Rattle.delivery.proofs.Words.Topics.{Topic, CommitRow, In, names, topics_of, TopicState, new_topic, IsCompleteBy}
-use Rattle.delivery.proofs.Words.Lemmas.{map_length}
-use Rattle.delivery.proofs.Words.Machine.{log_row, Run, answers_of, final_world, commits_of}
-use Rattle.delivery.proofs.Words.Core.{TopicList, KeptRun, HasReport, CoreStep, names_after, account_of, Core, core_of, names_at, IsCoreRun, report_of, trace_of, AllSettled, IsTraced}
+use Rattle.delivery.proofs.Words.All.{◌≡◌, ℕ, ◌<◌, true, inl, inr, List, length, refl, sym, ap, subst, ◌∙◌, cases_lt, Topic, CommitRow, In, names, topics_of, TopicState, new_topic, IsCompleteBy, map_length, log_row, Run, answers_of, final_world, commits_of, TopicList, KeptRun, HasReport, CoreStep, names_after, account_of, Core, core_of, names_at, IsCoreRun, report_of, trace_of, AllSettled, IsTraced}
 use Rattle.delivery.specs.Nets.{core_of_net}
 use Rattle.delivery.specs.Traces.{RunsAreExplained, TracesAreAccepted, TracesAreComplete}
 use Rattle.trace_audit.proofs.OneList.{one_list}
-use Rattle.delivery.proofs.Machine.Invariant.{topic_in}
-use Rattle.delivery.proofs.Theorem.AcceptedIsDue.{reached}
+use Rattle.delivery.proofs.Words.Steps.{topic_in, reached, beyond}
 use Rattle.delivery.proofs.Core.Said.{commits_said}
 use Rattle.delivery.proofs.Core.AccountOfRun.{run_of, core_is, account_is}
 use Rattle.delivery.proofs.Core.Counts.{counted}
 use Rattle.delivery.proofs.Core.DeliversOfRun.{delivers}
 use Rattle.delivery.proofs.Traces.Explained.{logged_rows, explained, complete}
-use Rattle.delivery.proofs.Machine.SubscriptionSteps.{beyond}
 
 -- a committed transaction names topics of the run alone
-named_there : (r : Run) (row : CommitRow) (t : Topic) → In row (commits_of (answers_of r)) → names t (topics_of row.txn.sends) ≡ true
-    → t.0 < length (final_world r).topics
+named_there : (r : Run) (row : CommitRow) (t : Topic) → In row (commits_of (answers_of r)) → names t (topics_of row.txn.sends) ≡ true → t.0 < length (final_world r).topics
 named_there r row t k named = elim (cases_lt t.0 (length (final_world r).topics)) [
   | inl l ↦ l
   | inr l ↦
-      let h = reached r in
-      let none : topic_in (final_world r).topics t ≡ new_topic t 0 0 = beyond (final_world r).topics t.0 (new_topic t 0 0) l in
+      let h = reached r in let none : topic_in (final_world r).topics t ≡ new_topic t 0 0 = beyond (final_world r).topics t.0 (new_topic t 0 0) l in
       let placed = (h.inv.tied t).placed row (subst (λ z. In row z) h.commits k) named in
       elim placed [
         | inl i ↦ absurd (subst (λ (x : TopicState). In (log_row row) x.held) none i)
@@ -36,8 +28,7 @@ pub reported_there : (topics : TopicList) (capacity : ℕ) (steps : List CoreSte
     → (row : CommitRow) (t : Topic) → In row (commits_of (account_of topics.names steps)) → names t (topics_of row.txn.sends) ≡ true
     → t.0 < length (report_of (core_of topics capacity steps)).logs
 reported_there topics capacity steps run row t k named =
-    let r = run_of topics capacity steps in
-    let there = subst (λ z. In row z) (ap commits_of (account_is topics capacity steps run) ∙ commits_said (answers_of r)) k in
+    let r = run_of topics capacity steps in let there = subst (λ z. In row z) (ap commits_of (account_is topics capacity steps run) ∙ commits_said (answers_of r)) k in
     let l = named_there r row t there named in
     subst (λ n. t.0 < n) (sym (map_length (λ (x : TopicState). x.held) (core_of topics capacity steps).world.topics
     ∙ ap (λ (c : Core). length c.world.topics) (core_is topics capacity steps))) l
@@ -52,9 +43,7 @@ logs_length topics capacity steps same run =
 -- the trace of each run is explained, and complete where all topics are settled
 pub runs_are_explained : RunsAreExplained
 runs_are_explained topics capacity steps same run =
-    let account = account_of topics.names steps in
-    let r = report_of (core_of topics capacity steps) in
-    let d = delivers topics capacity steps run in
+    let account = account_of topics.names steps in let r = report_of (core_of topics capacity steps) in let d = delivers topics capacity steps run in
     record {
       rows = logged_rows account r;
       explained = explained account r d;
@@ -64,11 +53,7 @@ runs_are_explained topics capacity steps same run =
 
 -- where the report of a net's core is delivered, it has a trace
 pub traced : (net : KeptRun) → length net.topics.clocks ≡ length net.topics.names → HasReport net → IsTraced net (trace_of (report_of (core_of_net net)))
-traced net same delivered = record {
-  is_trace = refl;
-  is_delivered = delivered;
-  is_explained = runs_are_explained net.topics net.capacity net.steps same delivered.answered.is_run;
-}
+traced net same delivered = record { is_trace = refl; is_delivered = delivered; is_explained = runs_are_explained net.topics net.capacity net.steps same delivered.answered.is_run }
 
 -- no fault is the refusal of a net's trace
 pub accepted : TracesAreAccepted

@@ -1,8 +1,5 @@
 -- What the trace of a report has of a topic and of a subscription.
-use Rattle.delivery.proofs.Words.Std.{◌≡◌, ℕ, suc, ◌+◌, ◌<◌, ◌==◌, inl, inr, List, [], ◌∷◌, map, length, get_or, refl, sym, ap, subst, ◌∙◌, arith, enumerate_from, eq-eqb}
-use Rattle.delivery.proofs.Words.Topics.{Topic, In, Item, LogRow, row_mark, SpanRow, QueueRow, TopicRow, rows_of, queue_of}
-use Rattle.delivery.proofs.Words.Lemmas.{In-map, In-map_cases, In-filter, In-filter_cases}
-use Rattle.delivery.proofs.Words.Core.{QueueReport, Report, log_in, traced_log, traced_span, traced_queue, trace_of}
+use Rattle.delivery.proofs.Words.All.{◌≡◌, ℕ, suc, ◌+◌, ◌<◌, ◌==◌, inl, inr, List, [], ◌∷◌, map, length, get_or, refl, sym, ap, subst, ◌∙◌, arith, enumerate_from, eq-eqb, Topic, In, Item, LogRow, row_mark, SpanRow, QueueRow, TopicRow, rows_of, queue_of, In-map, In-map_cases, In-filter, In-filter_cases, QueueReport, Report, log_in, traced_log, traced_span, traced_queue, trace_of}
 use Rattle.trace_audit.specs.Trace.{log_of, queue_mark}
 use Rattle.delivery.proofs.Core.QueueOfReport.{no_queue, queue_in}
 use Rattle.delivery.proofs.Traces.Lists.{made_at}

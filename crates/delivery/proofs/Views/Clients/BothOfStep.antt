@@ -1,23 +1,13 @@
 -- What a step makes of a core, and of the senders beside it.
-use Rattle.delivery.proofs.Words.Std.{◌≡◌, ℕ, ◌<◌, nat_lt, Bool, true, false, cond, not, ◌&&◌, ◌||◌, arith, List, [], ◌∷◌, ◌++◌, length, get_or, Option, Some, None, refl, sym, ap, subst, ◌∙◌, codes, slice_get, list_all, is_some, option_and_then, option_map, option_map_or, option_or, option_to_list, unwrap_or, false≢true, or_parts, slice_get-get_or}
-use Rattle.delivery.proofs.Words.Topics.{GateState, SendersState, after_give_back, Stamp}
-use Rattle.delivery.proofs.Words.Frames.{is_connect, RawFrame, Unread, Action, action_by, client_of, field, has_destination, is_known}
-use Rattle.delivery.proofs.Words.Lemmas.{one_answer, none_some}
-use Rattle.delivery.proofs.Words.Machine.{Objection, World, Undecided, is_gone, connection_at, entry_at, sender_at, speaker, speaker_number, speaks_for, Move, leave_effect, move_effect, move_refusal, oldest_live, world_after, run}
-use Rattle.delivery.proofs.Words.Core.{Event, Outcome, claim_of, claims_of, claim_fault, is_cut, Core, IsReadBy, frame_move, is_faulted, is_no_memory, moves, names_at, session_at, topic_moves, unread_at, Reading, frame_in, has_effect}
-use Rattle.delivery.proofs.Words.Views.{AreClaimed, AreClients, MakesBoth, given_back, idle_gate, Asks, claims_none, IsReached, Makes, EndpointView, SenderView, View, held_sender, sender_view, sending_view, view_of, no_endpoint, end_with, leave_objection, oldest_end, no_sender, left_at}
+use Rattle.delivery.proofs.Words.All.{◌≡◌, ℕ, ◌<◌, nat_lt, Bool, true, false, cond, not, ◌&&◌, ◌||◌, arith, List, [], ◌∷◌, ◌++◌, length, get_or, Option, Some, None, refl, sym, ap, subst, ◌∙◌, codes, slice_get, list_all, is_some, option_and_then, option_map, option_map_or, option_or, option_to_list, unwrap_or, false≢true, or_parts, slice_get-get_or, GateState, SendersState, after_give_back, Stamp, is_connect, RawFrame, Unread, Action, action_by, client_of, field, has_destination, is_known, one_answer, none_some, Objection, World, Undecided, is_gone, connection_at, entry_at, sender_at, speaker, speaker_number, speaks_for, Move, leave_effect, move_effect, move_refusal, oldest_live, world_after, run, Event, Outcome, claim_of, claims_of, claim_fault, is_cut, Core, IsReadBy, frame_move, is_faulted, is_no_memory, moves, names_at, session_at, topic_moves, unread_at, Reading, frame_in, has_effect, AreClaimed, AreClients, MakesBoth, given_back, idle_gate, Asks, claims_none, IsReached, Makes, EndpointView, SenderView, View, held_sender, sender_view, sending_view, view_of, no_endpoint, end_with, leave_objection, oldest_end, no_sender, left_at}
 use Rattle.stomp_session.specs.declared.action.Action.TheVariants as actions
-use Rattle.delivery.proofs.Core.ClaimsStand.{claims_asked}
+use Rattle.delivery.proofs.Words.Changes.{claims_asked, length-each_number, speaks_of, spoken_used, endpoint_of, held_of}
 use Rattle.delivery.proofs.Views.Clients.Claiming.{same_clients}
 use Rattle.delivery.proofs.Views.Clients.RestingStay.{Rests, closed_rests, is_still, run_rests}
 use Rattle.delivery.proofs.Views.Clients.GivenBack.{departed, gate_by, given, none_given}
 use Rattle.delivery.proofs.Views.Events.LeaveStep.{can_leave, endpoint_oldest, leave_checked, none_to_close}
-use Rattle.delivery.proofs.Views.Lists.ByNumber.{length-each_number}
-use Rattle.delivery.proofs.Views.Runs.ByRunOfCore.{speaks_of}
-use Rattle.delivery.proofs.Views.Senders.HeldSenders.{spoken_used}
-use Rattle.delivery.proofs.Views.Senders.SenderChanges.{endpoint_of, held_of}
-use Rattle.delivery.proofs.Machine.InvariantIsKept.{by_refusal, checked}
-use Rattle.delivery.proofs.Theorem.SendersAreOwn.{no_flight, speaks}
+use Rattle.delivery.proofs.Words.Steps.{by_refusal, checked, none_of}
+use Rattle.delivery.proofs.Theorem.SendersAreOwn.{speaks}
 use Rattle.delivery.proofs.Views.Events.NextStep.{ReadsUnless}
 use Rattle.delivery.proofs.Core.Counts.{no_effect}
 
@@ -107,11 +97,10 @@ accepted_both k c f left action receipt held new o clients asks other makes h =
         let e = one.0 in cc
 
     quiet : (g : RawFrame) → f ≡ g → is_connect g.command ≡ false
-    quiet g is = subst (λ (x : RawFrame). is_connect x.command ≡ false) is (by (is_connect f.command) refl)
-      where
-        by : (b : Bool) → is_connect f.command ≡ b → is_connect f.command ≡ false
-        by true connects = absurd (false≢true (sym (ap claims_none (sym asks.does ∙ claims_asked f.command (session_at k c) f connects)) ∙ other))
-        by false e = e
+    quiet g is = subst (λ (x : RawFrame). is_connect x.command ≡ false) is ((elim (is_connect f.command) as (λ (b : Bool). is_connect f.command ≡ b → is_connect f.command ≡ false) [
+      | true ↦ λ connects. absurd (false≢true (sym (ap claims_none (sym asks.does ∙ claims_asked f.command (session_at k c) f connects)) ∙ other))
+      | false ↦ λ e. e
+    ]) refl)
 
     none : (b : Bool) (g : RawFrame) → is_connect g.command ≡ false → claim_of (Event.Next c) (cond b (Some g) None) ≡ []
     none true g e = ap (λ (b : Bool). cond b (record { connection = c; client = client_of g } ∷ []) []) e
@@ -142,11 +131,10 @@ accepted_both k c f left action receipt held new o clients asks other makes h =
 
 -- a step of a leaving that isn't its last changes no sender
 leave_rests : (w : World) (c : ℕ) → (oldest_live c 0 w.subscriptions ≡ None → move_refusal w (Move.Leaves c) ≡ None → Prim.⊥) → Rests w (world_after w (Move.Leaves c))
-leave_rests w c last = by_refusal (λ v o. Rests w v) w (Move.Leaves c) (λ why s. refl) (λ free. by (oldest_live c 0 w.subscriptions) refl free)
-  where
-    by : (o : Option ℕ) → oldest_live c 0 w.subscriptions ≡ o → move_refusal w (Move.Leaves c) ≡ None → Rests w (leave_effect w c o)
-    by None e free = absurd (last e free)
-    by (Some s) e free = closed_rests w s (entry_at w s)
+leave_rests w c last = by_refusal (λ v o. Rests w v) w (Move.Leaves c) (λ why s. refl) (λ free. (elim (oldest_live c 0 w.subscriptions) as (λ (o : Option ℕ). oldest_live c 0 w.subscriptions ≡ o → move_refusal w (Move.Leaves c) ≡ None → Rests w (leave_effect w c o)) [
+  | None ↦ λ e free. absurd (last e free)
+  | Some s ↦ λ e free. closed_rests w s (entry_at w s)
+]) refl free)
 
 -- so the senders stay
 leave_stays : (k : Core) (c : ℕ) (o : Outcome) (new : View) (clients : SendersState) → (oldest_live c 0 k.world.subscriptions ≡ None → move_refusal k.world (Move.Leaves c) ≡ None → Prim.⊥)
@@ -203,7 +191,7 @@ leave_gone_both k c o new clients reached free none makes h = record {
 
     idle : (speaker k.world c).flight ≡ None
     idle =
-        no_flight (speaker k.world c).flight
+        none_of (speaker k.world c).flight
         (or_parts (is_some (speaker k.world c).flight) (nat_lt 0 (length (speaker k.world c).leftovers))
         (sym (ap (λ (x : Option ℕ). not (is_some x) && (is_some (speaker k.world c).flight || nat_lt 0 (length (speaker k.world c).leftovers))) oldest)
         ∙ (checked k.world (Move.Leaves c) (can_leave k c free).free).1.1.1.0)).0
@@ -220,8 +208,7 @@ leave_gone_both k c o new clients reached free none makes h = record {
         let spoken : speaker_number k.world c ≡ s = ap (λ (x : Option ℕ). unwrap_or x (length k.world.senders)) e in
         let speaking : speaks_for s (connection_at k.world c) ≡ true =
         speaks s (connection_at k.world c) (ap is_gone (can_leave k c free).leaving) e in
-        let l = (speaks_of k reached).there c s e in
-        let many : s < length (view_of k).senders = omega (arith, l, length-each_number (held_sender k.world) 0 k.world.senders) in
+        let l = (speaks_of k reached).there c s e in let many : s < length (view_of k).senders = omega (arith, l, length-each_number (held_sender k.world) 0 k.world.senders) in
         let found : slice_get (view_of k).senders s ≡ Some (sender_view s (sender_at k.world s)) =
         slice_get-get_or (view_of k).senders s (no_sender s) many ∙ ap (λ (x : SenderView). Some x) (held_of k s l (spoken_used k.world c s speaking)) in
         let gate : idle_gate (sender_view s (sender_at k.world s)) ≡ Some (gate_by k.world s) =

@@ -1,10 +1,5 @@
 -- What the senders that are held say of a claim is what the claims of the run say, and so it is after it.
-use Rattle.delivery.proofs.Words.Std.{◌≡◌, ◌≢◌, ℕ, ◌+◌, ◌<◌, ◌||◌, nat_lt, Bool, true, false, cond, not, ◌&&◌, List, [], ◌∷◌, length, map, Option, Some, None, refl, sym, ap, subst, ◌∙◌, arith, append-nil, is_some, option_map, option_map_or, option_and_then, option_or, unwrap_or, bytes_eq, true≢false, false≢true, length-map, length-append, find, is_none}
-use Rattle.delivery.proofs.Words.Topics.{first_refusal, GateState, KeptSender, SendersState, after_claim, claim_refusal, claimed_gate, new_gate}
-use Rattle.delivery.proofs.Words.Lemmas.{some_same, none_some, same_octets, octets_pass}
-use Rattle.delivery.proofs.Words.Machine.{World, is_in_use, sender_at}
-use Rattle.delivery.proofs.Words.Core.{ConnectionFault, Claim, is_kept, begins, begun_count, kept_count, kept_sender, claimed_sender, is_one_too_many}
-use Rattle.delivery.proofs.Words.Views.{AreClaimed, kept_entry, refused_claim, resting_gate}
+use Rattle.delivery.proofs.Words.All.{◌≡◌, ◌≢◌, ℕ, ◌+◌, ◌<◌, ◌||◌, nat_lt, Bool, true, false, cond, not, ◌&&◌, List, [], ◌∷◌, length, map, Option, Some, None, refl, sym, ap, subst, ◌∙◌, arith, append-nil, is_some, option_map, option_map_or, option_and_then, option_or, unwrap_or, bytes_eq, true≢false, false≢true, length-map, length-append, find, is_none, first_refusal, GateState, KeptSender, SendersState, after_claim, claim_refusal, claimed_gate, new_gate, some_same, none_some, same_octets, octets_pass, World, is_in_use, sender_at, ConnectionFault, Claim, is_kept, begins, begun_count, kept_count, kept_sender, claimed_sender, is_one_too_many, AreClaimed, kept_entry, refused_claim, resting_gate}
 use Rattle.std.proofs.lemmas.List.Folds.{find-append}
 use Rattle.sender_gate.specs.declared.fault.ClaimFault.TheVariants as claims
 use Rattle.sender_gate.specs.Senders
@@ -62,10 +57,8 @@ kept_apart a b (claim ∷ before) e f same =
     by : (is_kept a before ≡ true → is_kept b before ≡ true → kept_sender a before ≡ kept_sender b before → a ≡ b) → (g : Bool) → has_client a claim ≡ g → (k : Bool) → is_kept a before ≡ k → (h : Bool) → has_client b claim ≡ h → (m : Bool) → is_kept b before ≡ m
         → (g || k) ≡ true → (h || m) ≡ true → number a g k ≡ number b h m → a ≡ b
     by rest g hasa true kepta h hasb true keptb e f same = rest kepta keptb (sym (older a g) ∙ (same ∙ older b h))
-    by rest g hasa true kepta true hasb false keptb e f same =
-        let l = kept_begun a before kepta in let s = sym (older a g) ∙ same in absurd (omega (arith, l, s))
-    by rest true hasa false kepta h hasb true keptb e f same =
-        let l = kept_begun b before keptb in let s = same ∙ older b h in absurd (omega (arith, l, s))
+    by rest g hasa true kepta true hasb false keptb e f same = let l = kept_begun a before kepta in let s = sym (older a g) ∙ same in absurd (omega (arith, l, s))
+    by rest true hasa false kepta h hasb true keptb e f same = let l = kept_begun b before keptb in let s = same ∙ older b h in absurd (omega (arith, l, s))
     by rest true hasa false kepta true hasb false keptb e f same = one claim.client hasa hasb
     by rest g hasa k kepta false hasb false keptb e f same = absurd (false≢true f)
     by rest false hasa false kepta h hasb m keptb e f same = absurd (false≢true e)
@@ -79,11 +72,7 @@ found_by w before clients h None = refl
 found_by w before clients h (Some id) = h.found id
 
 pub resting_none : (w : World) (n : ℕ) → is_none (resting_gate w n) ≡ is_in_use w n
-resting_none w n = by (is_in_use w n)
-  where
-    by : (b : Bool) → is_none {T = GateState} (cond b None (Some (record { sender = record { 0 = n }; seq = (sender_at w n).seq; floor = (sender_at w n).floor }))) ≡ b
-    by true = refl
-    by false = refl
+resting_none w n = elim (is_in_use w n) as (λ (b : Bool). is_none {T = GateState} (cond b None (Some (record { sender = record { 0 = n }; seq = (sender_at w n).seq; floor = (sender_at w n).floor }))) ≡ b) [ true ↦ refl | false ↦ refl ]
 
 in_use_alike : (w : World) (before : List Claim) (clients : SendersState) → AreClaimed w before clients → (client : Option (List ℕ))
     → Senders.is_claimed_already client clients ≡ option_map_or (is_in_use w) (claimed_sender client before) false
@@ -105,8 +94,7 @@ too_many_alike : (w : World) (before : List Claim) (clients : SendersState) → 
 too_many_alike w before clients h client = (λ i. test (found_by w before clients h client i) (h.count i) (h.begun i)) ∙ by client
   where
     test : Option KeptSender → ℕ → ℕ → Bool
-    test found kept begun =
-        ((is_some client && is_none found) && not (nat_lt kept max_clients)) || (is_none found && not (nat_lt begun max_senders))
+    test found kept begun = ((is_some client && is_none found) && not (nat_lt kept max_clients)) || (is_none found && not (nat_lt begun max_senders))
 
     one : (id : List ℕ) (b : Bool) (kept begun : ℕ)
         → (((true && is_none {T = KeptSender} (cond b (Some (record { client = id; sender = record { 0 = kept_sender id before }; gate = resting_gate w (kept_sender id before) })) None)) && not (nat_lt kept max_clients))
@@ -188,8 +176,7 @@ own_gate_is w before clients h client s claims unused = (λ i. gate (found_by w 
         → gate (cond b (Some (record { client = id; sender = record { 0 = kept_sender id before }; gate = resting_gate w (kept_sender id before) })) None) (begun_count before)
         ≡ own s
     one id true e =
-        let n = kept_sender id before in
-        let is = some_same n s e in
+        let n = kept_sender id before in let is = some_same n s e in
         ap (λ (b : Bool). unwrap_or (cond b None (Some (own n))) (new_gate (record { 0 = n }))) (ap (is_in_use w) is ∙ unused) ∙ ap own is
     one id false e = none_some s e
 
@@ -200,11 +187,10 @@ own_gate_is w before clients h client s claims unused = (λ i. gate (found_by w 
 -- a sender that is gone on with has begun
 pub claimed_begun : (client : Option (List ℕ)) (before : List Claim) (s : ℕ) → claimed_sender client before ≡ Some s → s < begun_count before
 claimed_begun None before s e = none_some s e
-claimed_begun (Some id) before s e = by (is_kept id before) refl e
-  where
-    by : (b : Bool) → is_kept id before ≡ b → cond b (Some (kept_sender id before)) None ≡ Some s → s < begun_count before
-    by true kept d = subst (λ n. n < begun_count before) (some_same (kept_sender id before) s d) (kept_begun id before kept)
-    by false kept d = none_some s d
+claimed_begun (Some id) before s e = (elim (is_kept id before) as (λ (b : Bool). is_kept id before ≡ b → cond b (Some (kept_sender id before)) None ≡ Some s → s < begun_count before) [
+  | true ↦ λ kept d. subst (λ n. n < begun_count before) (some_same (kept_sender id before) s d) (kept_begun id before kept)
+  | false ↦ λ kept d. none_some s d
+]) refl e
 
 -- ---- after it
 
@@ -236,19 +222,11 @@ same_clients w v before clients same h = record {
 pub find_mapped : {X : Type 0} (p : X → Bool) (f : X → X) (xs : List X) → ((x : X) → p (f x) ≡ p x) → find p (map f xs) ≡ option_map f (find p xs)
 find_mapped p f [] same = refl
 find_mapped {X = X} p f (x ∷ xs) same =
-    ap (λ (b : Bool). cond b (Some (f x)) (find p (map f xs))) (same x) ∙ (ap (λ (o : Option X). cond (p x) (Some (f x)) o) (find_mapped p f xs same) ∙ by (p x))
-  where
-    by : (b : Bool) → cond b (Some (f x)) (option_map f (find p xs)) ≡ option_map f (cond b (Some x) (find p xs))
-    by true = refl
-    by false = refl
+    ap (λ (b : Bool). cond b (Some (f x)) (find p (map f xs))) (same x) ∙ (ap (λ (o : Option X). cond (p x) (Some (f x)) o) (find_mapped p f xs same) ∙ elim (p x) as (λ (b : Bool). cond b (Some (f x)) (option_map f (find p xs)) ≡ option_map f (cond b (Some x) (find p xs))) [ true ↦ refl | false ↦ refl ])
 
 -- a client-id that isn't this one
 other_id : (a b : List ℕ) → a ≢ b → bytes_eq a b ≡ false
-other_id a b n = by (bytes_eq a b) refl
-  where
-    by : (t : Bool) → bytes_eq a b ≡ t → bytes_eq a b ≡ false
-    by true e = absurd (n (same_octets a b e))
-    by false e = e
+other_id a b n = (elim (bytes_eq a b) as (λ (t : Bool). bytes_eq a b ≡ t → bytes_eq a b ≡ false) [ true ↦ λ e. absurd (n (same_octets a b e)) | false ↦ λ e. e ]) refl
 
 same_id : (a b : List ℕ) → a ≡ b → bytes_eq a b ≡ true
 same_id a b e = subst (λ (x : List ℕ). bytes_eq a x ≡ true) e (octets_pass a)
@@ -289,8 +267,7 @@ module _ (w v : World) (before : List Claim) (clients : SendersState) (c : ℕ) 
       n : ℕ
       n = begun_count before
 
-      each : (other : List ℕ) (k : Bool) → is_kept other before ≡ k → (b : Bool) → bytes_eq other id ≡ b
-          → option_or (cond k (Some (held other)) None) (cond b (Some entry) None)
+      each : (other : List ℕ) (k : Bool) → is_kept other before ≡ k → (b : Bool) → bytes_eq other id ≡ b → option_or (cond k (Some (held other)) None) (cond b (Some entry) None)
           ≡ cond (b || k) (Some (later other (cond (b && not k) n (kept_sender other before)))) None
       each other true kept true is = absurd (true≢false (sym kept ∙ subst (λ (x : List ℕ). is_kept x before ≡ false) (sym (same_octets other id is)) new))
       each other true kept false is =
@@ -328,8 +305,7 @@ module _ (w v : World) (before : List Claim) (clients : SendersState) (c : ℕ) 
       number_stays other true = refl
       number_stays other false = refl
 
-      each : (other : List ℕ) (k : Bool) → is_kept other before ≡ k → (b : Bool) → bytes_eq other id ≡ b
-          → option_map (in_use_by id) (cond k (Some (held other)) None)
+      each : (other : List ℕ) (k : Bool) → is_kept other before ≡ k → (b : Bool) → bytes_eq other id ≡ b → option_map (in_use_by id) (cond k (Some (held other)) None)
           ≡ cond (b || k) (Some (later other (cond (b && not k) (begun_count before) (kept_sender other before)))) None
       each other true kept true is =
           let same = same_octets other id is in

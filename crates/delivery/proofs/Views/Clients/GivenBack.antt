@@ -1,17 +1,10 @@
 -- A connection is gone, whose sender is idle: no connection speaks for that sender then, which is resting, and its gate is given back.
-use Rattle.delivery.proofs.Words.Std.{◌≡◌, ◌≢◌, ℕ, suc, ◌<◌, ◌==◌, ◌||◌, ◌&&◌, Bool, true, false, cond, List, [], ◌∷◌, length, set, get_or, Option, Some, None, refl, sym, ap, ◌∙◌, list_any, option_map, option_map_or, bytes_eq, true≢false, eqb-true, eq-eqb, length-map, set-get_or, is_none}
-use Rattle.delivery.proofs.Words.Topics.{GateState, KeptSender, SendersState, after_give_back}
-use Rattle.delivery.proofs.Words.Lemmas.{at_set_within, some_same, not_true}
-use Rattle.delivery.proofs.Words.Machine.{World, Connection, SenderState, Standing, is_gone, new_sender, nobody, connection_at, sender_at, speaks_for, is_in_use}
-use Rattle.delivery.proofs.Words.Core.{Claim, is_kept, kept_sender, each_number, Core}
-use Rattle.delivery.proofs.Words.Views.{AreClaimed, rested_view, resting_gate, sender_in, IsReached, EndpointView, SenderView, View, held_sender, no_endpoint, rested_sender, sender_view, view_of}
+use Rattle.delivery.proofs.Words.All.{◌≡◌, ◌≢◌, ℕ, suc, ◌<◌, ◌==◌, ◌||◌, ◌&&◌, Bool, true, false, cond, List, [], ◌∷◌, length, set, get_or, Option, Some, None, refl, sym, ap, ◌∙◌, list_any, option_map, option_map_or, bytes_eq, true≢false, eqb-true, eq-eqb, length-map, set-get_or, is_none, GateState, KeptSender, SendersState, after_give_back, at_set_within, some_same, not_true, World, Connection, SenderState, Standing, is_gone, new_sender, nobody, connection_at, sender_at, speaks_for, is_in_use, Claim, is_kept, kept_sender, each_number, Core, AreClaimed, rested_view, resting_gate, sender_in, IsReached, EndpointView, SenderView, View, held_sender, no_endpoint, rested_sender, sender_view, view_of}
 use Rattle.sender_gate.specs.Senders.{kept_with}
 use Rattle.delivery.proofs.Theorem.SendersAreOwn.{Speaks, silent, speaks, spoken_sender}
 use Rattle.delivery.proofs.Views.Clients.Claiming.{find_mapped, resting_none, same_clients}
 use Rattle.delivery.proofs.Views.Clients.RestingStay.{any_set, any_at}
-use Rattle.delivery.proofs.Views.Runs.ByRunOfCore.{speaks_of}
-use Rattle.delivery.proofs.Views.Senders.HeldSenders.{held_same, senders_alike, spoken_used}
-use Rattle.delivery.proofs.Views.Senders.SenderChanges.{endpoint_of, held_of, number_set}
+use Rattle.delivery.proofs.Words.Changes.{speaks_of, held_same, senders_alike, spoken_used, endpoint_of, held_of, number_set}
 
 -- of none of a list it is said
 none_any : {X : Type 0} (p : X → Bool) (xs : List X) (d : X) → ((i : ℕ) → p (get_or xs i d) ≡ false) → list_any p xs ≡ false
@@ -56,11 +49,7 @@ other_silent w c s n speaks ne =
 
 -- the endpoints stay
 pub rested_endpoints : (c : ℕ) (v : View) → (rested_view c v).endpoints ≡ v.endpoints
-rested_endpoints c v = by (get_or v.endpoints c no_endpoint).sender
-  where
-    by : (o : Option ℕ) → (option_map_or (λ s. record v { senders = set v.senders s (rested_sender (sender_in v s)) }) o v).endpoints ≡ v.endpoints
-    by None = refl
-    by (Some s) = refl
+rested_endpoints c v = elim (get_or v.endpoints c no_endpoint).sender as (λ (o : Option ℕ). (option_map_or (λ s. record v { senders = set v.senders s (rested_sender (sender_in v s)) }) o v).endpoints ≡ v.endpoints) [ None ↦ refl | Some s ↦ refl ]
 
 -- once its gate is taken, the senders are held as where the connection is gone
 pub gone_rests : (k : Core) (c : ℕ) → IsReached k → c < length k.world.connections → is_gone (connection_at k.world c).standing ≡ false
@@ -86,9 +75,7 @@ gone_rests k c reached there staying =
         ap (λ (ss : List SenderView). record v { senders = ss })
         (senders_alike w c (record { sender = (connection_at w c).sender; standing = Standing.Gone }) (λ s. sym (silent s (connection_at w c) e)))
     by (Some s) e =
-        let l = (speaks_of k reached).there c s e in
-        let speaking = speaks s (connection_at w c) staying e in
-        let x = sender_at w s in
+        let l = (speaks_of k reached).there c s e in let speaking = speaks s (connection_at w c) staying e in let x = sender_at w s in
         let rest : rested_sender (sender_in v s) ≡ held_sender u s =
         ap rested_sender (held_of k s l (spoken_used w c s speaking))
         ∙ sym (ap (λ (b : Bool). cond b (sender_view s x) (rested_sender (sender_view s x))) (now_unused w c s (speaks_of k reached) there speaking)) in
@@ -120,8 +107,7 @@ module _ (w : World) (c s : ℕ) (before : List Claim) (clients : SendersState) 
   each : (id : List ℕ) (n : ℕ) (b : Bool) → (n == s) ≡ b
       → kept_with gate (record { client = id; sender = record { 0 = n }; gate = resting_gate w n }) ≡ record { client = id; sender = record { 0 = n }; gate = resting_gate v n }
   each id n true e =
-      let same = eqb-true n s e in
-      let k : KeptSender = record { client = id; sender = record { 0 = n }; gate = resting_gate w n } in
+      let same = eqb-true n s e in let k : KeptSender = record { client = id; sender = record { 0 = n }; gate = resting_gate w n } in
       ap (λ (b : Bool). cond (b && is_none (resting_gate w n)) (record k { gate = Some gate }) k) e
       ∙ (ap (λ (b : Bool). cond b (record k { gate = Some gate }) k) (resting_none w n ∙ (ap (is_in_use w) same ∙ used))
       ∙ (λ i. record k {

@@ -1,21 +1,13 @@
 -- The frames of a connection that a core accepted: of one that isn't there none, and a DISCONNECT only of one that
 -- isn't open any more, and then only one.
 use Rattle.std.proofs.Common.{◌≡◌, ℕ, ◌≤◌, ◌==◌, Bool, true, false, cond, ◌⊎◌, inl, inr, List, [], ◌∷◌, ◌++◌, filter, length, Option, Some, None, refl, sym, ap, subst, ◌∙◌, arith}
-use Rattle.delivery.proofs.Words.Std.{eqb-true, false≢true, or_parts, not-false, cases_lt, append-nil, flat_map, option_map_or, option_and_then, option_or, option_to_list}
-use Rattle.delivery.proofs.Words.Topics.{first_refusal, In}
-use Rattle.delivery.proofs.Words.Frames.{RawFrame, Command, receipt_of, Unread, receipt_frame, action_by, has_destination, is_disconnect}
-use Rattle.delivery.proofs.Words.Lemmas.{at_set_within, passes, none_some}
-use Rattle.delivery.proofs.Words.Machine.{Objection, refusal_of, World, Connection, nobody, is_reading, connection_at, Move, move_effect, needs_idle, run}
-use Rattle.delivery.proofs.Words.Core.{TopicList, Event, Outcome, CoreStep, Reading, frame_in, has_effect, frame_from, accepted_of, receipts_of, Core, core_of, core_after, moves, frame_move, names_at, session_at, is_faulted, topic_moves, IsCoreRun, outcomes, unless, reading_outcomes}
-use Rattle.delivery.proofs.Words.Views.{IsReached, parting_receipt}
+use Rattle.delivery.proofs.Words.All.{eqb-true, false≢true, or_parts, not-false, cases_lt, append-nil, flat_map, option_map_or, option_and_then, option_or, option_to_list, first_refusal, In, RawFrame, Command, receipt_of, Unread, receipt_frame, action_by, has_destination, is_disconnect, at_set_within, passes, none_some, Objection, World, Connection, nobody, is_reading, connection_at, Move, move_effect, needs_idle, run, TopicList, Event, Outcome, CoreStep, Reading, frame_in, has_effect, frame_from, accepted_of, receipts_of, Core, core_of, core_after, moves, frame_move, names_at, session_at, is_faulted, topic_moves, IsCoreRun, outcomes, IsReached, parting_receipt}
 use Rattle.std.specs.List.{find}
 use Rattle.stomp_frame.specs.declared.command.Command.TheVariants as commands
 use Rattle.stomp_session.specs.declared.action.Action.TheVariants as actions
 use Rattle.delivery.proofs.Core.FrameWorld.{no_topic}
 use Rattle.delivery.proofs.Core.Speaking.{open_in}
-use Rattle.delivery.proofs.Core.AccountOfRun.{core_is, in_option, refusal_some}
-use Rattle.delivery.proofs.Views.Endpoints.EndpointsStay.{if_same}
-use Rattle.delivery.proofs.Views.Endpoints.StandingOfConnection.{grown, stays_shut, open_there}
+use Rattle.delivery.proofs.Words.Changes.{core_is, if_same, grown, stays_shut, open_there, by_next}
 
 -- what a step adds to the accepted frames of connection c
 abbrev pub added_by : ℕ → CoreStep → List RawFrame
@@ -73,29 +65,20 @@ found k c f left o n d e i true h = inr (record {
         ∙ (ap (λ b. cond b (topic_moves (names_at k) f ++ option_to_list (frame_move k c (action_by f.command (session_at k c) f))) []) h
         ∙ (λ j. no_topic k f (parts_nowhere f.command p) j ++ option_to_list (frame_move k c (disconnects f.command (session_at k c) f p j)))))
 
-read_adds : (k : Core) (c : ℕ) (rd : Reading) (o : Outcome) → first_refusal (needs_idle k.world c) ≡ None → (d : ℕ) → (d == c) ≡ true → d ≡ c
+next_adds : (k : Core) (c d : ℕ) (rd : Reading) (o : Outcome) → In o (outcomes k (Event.Next d) rd) → (b : Bool) → (d == c) ≡ b
     → (added_by c (record { event = Event.Next d; reading = rd; outcome = o }) ≡ []) ⊎ Adds k c (record { event = Event.Next d; reading = rd; outcome = o })
-read_adds k c Reading.Nothing o n d e i = inl (ap (λ z. cond (has_effect o) z []) (if_same (d == c) []) ∙ if_same (has_effect o) [])
-read_adds k c (Reading.Waits left) o n d e i = inl (ap (λ z. cond (has_effect o) z []) (if_same (d == c) []) ∙ if_same (has_effect o) [])
-read_adds k c (Reading.Fails check left) o n d e i = inl (ap (λ z. cond (has_effect o) z []) (if_same (d == c) []) ∙ if_same (has_effect o) [])
-read_adds k c (Reading.Finds f left) o n d e i = found k c f left o n d e i (has_effect o) refl
-
-next_adds : (k : Core) (c d : ℕ) (rd : Reading) (o : Outcome) (why : Option Objection) → first_refusal (needs_idle k.world d) ≡ why
-    → In o (unless why (reading_outcomes k d rd)) → (b : Bool) → (d == c) ≡ b
-    → (added_by c (record { event = Event.Next d; reading = rd; outcome = o }) ≡ []) ⊎ Adds k c (record { event = Event.Next d; reading = rd; outcome = o })
-next_adds k c d rd o why n i false e =
-    inl (ap (λ b. cond (has_effect o) (cond b (option_to_list (frame_in rd)) []) []) e ∙ if_same (has_effect o) [])
-next_adds k c d rd o (Some why) n i true e =
-    let r = refusal_some (refusal_of why) o (in_option o _ i) in
-    inl (ap (λ z. cond (has_effect z) (cond (d == c) (option_to_list (frame_in rd)) []) []) (sym r.is))
-next_adds k c d rd o None n i true e =
+next_adds k c d rd o i false e = inl (ap (λ b. cond (has_effect o) (cond b (option_to_list (frame_in rd)) []) []) e ∙ if_same (has_effect o) [])
+next_adds k c d rd o i true e =
     let m : d ≡ c = eqb-true d c e in
-    read_adds k c rd o (subst (λ z. first_refusal (needs_idle k.world z) ≡ None) m n) d e m
+    by_next k d (λ rd o. (added_by c (record { event = Event.Next d; reading = rd; outcome = o }) ≡ []) ⊎ Adds k c (record { event = Event.Next d; reading = rd; outcome = o }))
+    (λ rd why. inl refl) (λ rd fault cut n. inl refl)
+    (λ f left o n free j. found k c f left o (subst (λ z. first_refusal (needs_idle k.world z) ≡ None) m n) d e m (has_effect o) refl)
+    rd o i
 
 -- a step adds nothing, or a frame of an open connection
 pub adds_one : (k : Core) (c : ℕ) (e : Event) (rd : Reading) (o : Outcome) → In o (outcomes k e rd)
     → (added_by c (record { event = e; reading = rd; outcome = o }) ≡ []) ⊎ Adds k c (record { event = e; reading = rd; outcome = o })
-adds_one k c (Event.Next d) rd o i = next_adds k c d rd o (first_refusal (needs_idle k.world d)) refl i (d == c) refl
+adds_one k c (Event.Next d) rd o i = next_adds k c d rd o i (d == c) refl
 adds_one k c _ rd o i = inl (if_same (has_effect o) [])
 
 -- ---- all steps
@@ -116,14 +99,9 @@ unheard topics capacity (step ∷ older) h c l =
 abbrev pub parts_by : RawFrame → Bool
 parts_by f = is_disconnect f.command
 
-find_more : (b : Bool) (x : RawFrame) (xs ys : List RawFrame) → cond b (Some x) (find parts_by xs) ≡ None → (find parts_by xs ≡ None → find parts_by (xs ++ ys) ≡ find parts_by ys)
-    → cond b (Some x) (find parts_by (xs ++ ys)) ≡ find parts_by ys
-find_more true x xs ys e h = none_some x (sym e)
-find_more false x xs ys e h = h e
-
 find_after : (xs ys : List RawFrame) → find parts_by xs ≡ None → find parts_by (xs ++ ys) ≡ find parts_by ys
 find_after [] ys e = refl
-find_after (x ∷ xs) ys e = find_more (parts_by x) x xs ys e (find_after xs ys)
+find_after (x ∷ xs) ys e = (elim (parts_by x) as (λ (b : Bool). cond b (Some x) (find parts_by xs) ≡ None → cond b (Some x) (find parts_by (xs ++ ys)) ≡ find parts_by ys) [ true ↦ λ e. none_some x (sym e) | false ↦ λ e. (find_after xs ys) e ]) e
 
 -- of an open connection no DISCONNECT was accepted
 pub unparted : (topics : TopicList) (capacity : ℕ) (steps : List CoreStep) → IsCoreRun topics capacity steps → (c : ℕ)
@@ -185,15 +163,12 @@ steps_of : (k : Core) (reached : IsReached k) → k.steps ≡ reached.steps
 steps_of k reached = ap (λ (z : Core). z.steps) (reached.is ∙ core_is reached.topics reached.capacity reached.steps)
 
 -- the RECEIPTs that a connection's DISCONNECTs ask for are that of its only one
-pub parting_is : (k : Core) (c : ℕ) → IsReached k
-    → flat_map receipts_of (filter (λ f. is_disconnect f.command) (accepted_of c k.steps))
+pub parting_is : (k : Core) (c : ℕ) → IsReached k → flat_map receipts_of (filter (λ f. is_disconnect f.command) (accepted_of c k.steps))
     ≡ option_map_or (λ id. receipt_frame id ∷ []) (parting_receipt (accepted_of c k.steps)) []
-parting_is k c reached =
-    subst (λ steps. OneReceipt (accepted_of c steps)) (sym (steps_of k reached)) (one_receipt reached.topics reached.capacity reached.steps reached.run c)
+parting_is k c reached = subst (λ steps. OneReceipt (accepted_of c steps)) (sym (steps_of k reached)) (one_receipt reached.topics reached.capacity reached.steps reached.run c)
 
 -- an open connection has accepted no DISCONNECT
-pub not_parting : (k : Core) (c : ℕ) → IsReached k → is_reading (connection_at k.world c).standing ≡ true
-    → find (λ f. is_disconnect f.command) (accepted_of c k.steps) ≡ None
+pub not_parting : (k : Core) (c : ℕ) → IsReached k → is_reading (connection_at k.world c).standing ≡ true → find (λ f. is_disconnect f.command) (accepted_of c k.steps) ≡ None
 not_parting k c reached reading =
     subst (λ steps. find parts_by (accepted_of c steps) ≡ None) (sym (steps_of k reached))
     (unparted reached.topics reached.capacity reached.steps reached.run c (subst (λ (z : Core). open_in z.world.connections c ≡ true) reached.is reading))

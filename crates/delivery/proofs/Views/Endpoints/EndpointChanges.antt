@@ -1,8 +1,5 @@
 -- Changes of one endpoint of a view, one after another.
-use Rattle.delivery.proofs.Words.Std.{◌≡◌, ℕ, ◌<◌, Bool, List, ◌++◌, length, get_or, set, take, Option, None, ap, ◌∙◌, Result, Ok, Err, OnErr, take-append_seam, get_or-set_same, set-set, length-set, set-get_or, OnOk}
-use Rattle.delivery.proofs.Words.Frames.{NoMemory, error_frame, spelling_of}
-use Rattle.delivery.proofs.Words.Core.{ConnectionFault, connection_title}
-use Rattle.delivery.proofs.Words.Views.{failed_endpoint, error_text, View, EndpointView, leaving_endpoint, written_endpoint}
+use Rattle.delivery.proofs.Words.All.{◌≡◌, ℕ, ◌<◌, Bool, List, ◌++◌, length, get_or, set, take, Option, None, ap, ◌∙◌, Result, Ok, Err, OnErr, take-append_seam, get_or-set_same, set-set, length-set, set-get_or, OnOk, NoMemory, error_frame, spelling_of, ConnectionFault, connection_title, failed_endpoint, error_text, View, EndpointView, leaving_endpoint, written_endpoint}
 use Rattle.std.specs.Result.{is_err}
 use Rattle.delivery.specs.Inner.Nexts.{shortened_endpoint}
 
@@ -19,8 +16,7 @@ endpoint_again v c a f d there =
 
 -- a call that may write an endpoint writes it so
 abbrev pub Writes : View → Result (Unit {0}) NoMemory → View → ℕ → List ℕ → Type 0
-Writes v r w c text =
-    OnOk r ((d : EndpointView) → w ≡ with_endpoint v c (written_endpoint text (get_or v.endpoints c d))) × OnErr r (w ≡ v)
+Writes v r w c text = OnOk r ((d : EndpointView) → w ≡ with_endpoint v c (written_endpoint text (get_or v.endpoints c d))) × OnErr r (w ≡ v)
 
 -- there are as many endpoints then
 pub written_length : (v w : View) (c : ℕ) (text : List ℕ) (r : Result (Unit {0}) NoMemory) (d : EndpointView) → Writes v r w c text → length w.endpoints ≡ length v.endpoints
@@ -28,15 +24,13 @@ written_length v w c text (Ok u) d h = ap (λ (x : View). length x.endpoints) (h
 written_length v w c text (Err e) d h = ap (λ (x : View). length x.endpoints) h.1
 
 -- an endpoint that is leaving after its ERROR was written, or left out
-pub failed_view : (v w x : View) (c : ℕ) (text : List ℕ) (r : Result (Unit {0}) NoMemory) → c < length v.endpoints
-    → Writes v r w c text
+pub failed_view : (v w x : View) (c : ℕ) (text : List ℕ) (r : Result (Unit {0}) NoMemory) → c < length v.endpoints → Writes v r w c text
     → ((d : EndpointView) → x ≡ with_endpoint w c (leaving_endpoint None (get_or w.endpoints c d)))
     → (d : EndpointView) → x ≡ with_endpoint v c (failed_endpoint (is_err r) text (get_or v.endpoints c d))
 failed_view v w x c text (Ok u) there h left d =
     left d ∙ (ap (λ (y : View). with_endpoint y c (leaving_endpoint None (get_or y.endpoints c d))) (h.0 d)
     ∙ endpoint_again v c (written_endpoint text (get_or v.endpoints c d)) (leaving_endpoint None) d there)
-failed_view v w x c text (Err e) there h left d =
-    left d ∙ ap (λ (y : View). with_endpoint y c (leaving_endpoint None (get_or y.endpoints c d))) h.1
+failed_view v w x c text (Err e) there h left d = left d ∙ ap (λ (y : View). with_endpoint y c (leaving_endpoint None (get_or y.endpoints c d))) h.1
 
 -- the text of an ERROR with a fault's title
 pub error_is : (fault : ConnectionFault) (receipt : Option (List ℕ)) (message : List ℕ) (version : Bool) → message ≡ connection_title fault
@@ -49,10 +43,7 @@ changed_length v w c endpoint is = ap (λ (x : View). length x.endpoints) is ∙
 
 -- what was written to an endpoint is taken back
 pub taken_back : (v x y z : View) (c len : ℕ) (text : List ℕ) (r : Result (Unit {0}) NoMemory) (d : EndpointView) → c < length v.endpoints
-    → len ≡ length (get_or v.endpoints c d).output
-    → r ≡ Ok tt
-    → Writes v r x c text → y ≡ x
-    → z ≡ with_endpoint y c (shortened_endpoint len (get_or y.endpoints c d)) → z ≡ v
+    → len ≡ length (get_or v.endpoints c d).output → r ≡ Ok tt → Writes v r x c text → y ≡ x → z ≡ with_endpoint y c (shortened_endpoint len (get_or y.endpoints c d)) → z ≡ v
 taken_back v x y z c len text (Err e) d there many ok wrote same is = absurd (cc)
 taken_back v x y z c len text (Ok u) d there many ok wrote same is =
     let endpoint = get_or v.endpoints c d in

@@ -1,22 +1,16 @@
 -- What the machine refuses of a frame that its session and its claim let pass.
-use Rattle.delivery.proofs.Words.Std.{◌≡◌, ℕ, Bool, true, false, cond, not, nat_lt, ◌&&◌, List, [], ◌∷◌, length, Option, Some, None, refl, sym, ap, subst, ◌∙◌, arith, list_all, is_some, option_map_or, option_or, ltb-true}
-use Rattle.delivery.proofs.Words.Topics.{Topic, SentMessage, first_refusal, last_number}
-use Rattle.delivery.proofs.Words.Frames.{RawFrame, Action, action_by, has_destination, id_of, session_fault}
-use Rattle.delivery.proofs.Words.Lemmas.{refusal_after, some_same, none_some, begins_at, ends}
-use Rattle.delivery.proofs.Words.Machine.{Objection, World, connection_at, is_in_use, speaker, Move, is_topic, move_refusal, needs_idle}
-use Rattle.delivery.proofs.Words.Core.{claimed_sender, claims_of, is_one_too_many, claim_fault, Core, core_for, core_of, frame_move, session_at, number_by}
-use Rattle.delivery.proofs.Words.Views.{IsReached}
+use Rattle.delivery.proofs.Words.All.{◌≡◌, ℕ, Bool, true, false, cond, not, nat_lt, ◌&&◌, List, [], ◌∷◌, length, Option, Some, None, refl, sym, ap, subst, ◌∙◌, arith, list_all, is_some, option_map_or, option_or, ltb-true, Topic, SentMessage, first_refusal, last_number, RawFrame, Action, action_by, has_destination, id_of, session_fault, refusal_after, some_same, none_some, begins_at, ends, Objection, World, connection_at, is_in_use, speaker, Move, is_topic, move_refusal, needs_idle, claimed_sender, claims_of, is_one_too_many, claim_fault, Core, core_for, core_of, frame_move, session_at, number_by, IsReached}
 use Rattle.stomp_session.specs.declared.action.Action.TheVariants as actions
 use Rattle.delivery.specs.Core.Connections.{FramesPass}
-use Rattle.delivery.proofs.Core.ClaimsStand.{connect_of, connect_plain}
+use Rattle.delivery.proofs.Words.Changes.{connect_of, connect_plain, stand_of}
 use Rattle.delivery.proofs.Core.FrameWorld.{by_use, framed_none, idle_for}
 use Rattle.delivery.proofs.Views.Clients.Claiming.{claimed_begun}
 use Rattle.delivery.proofs.Views.Events.ConnectStep.{connect_free, first_fails}
 use Rattle.delivery.proofs.Views.Events.NextStep.{idle_reads}
-use Rattle.delivery.proofs.Views.Runs.ByRunOfCore.{stand_of}
-use Rattle.delivery.proofs.Views.Senders.ConnectedSpeak.{commits_other, has_none, has_sender}
+use Rattle.delivery.proofs.Views.Senders.ConnectedSpeak.{has_none, has_sender}
 use Rattle.delivery.proofs.Views.Senders.SendsAreToTopics.{committed_sends, topic_made}
 use Rattle.delivery.proofs.Views.Subscriptions.OpenIsLive.{names_live, subscribe_free, unsubscribe_free}
+use Rattle.delivery.proofs.Core.Actions.{frame_fits}
 
 -- ---- what is refused
 
@@ -44,32 +38,25 @@ passes : (k : Core) (c : ℕ) (f : RawFrame) → IsReached k → first_refusal (
     → (action : Action) → action_by f.command (session_at k c) f ≡ action → claim_fault k action ≡ None → (move : Move) (why : Objection)
     → frame_move k c action ≡ Some move → move_refusal (core_for k f).world move ≡ Some why → why ≡ Objection.SeqFull
 passes k c f reached idle free (actions.Connected client) does unclaimed move why is refused =
-    let before = claims_of k.steps in
-    let sender = claimed_sender client before in
-    let connects = (connect_of f.command (session_at k c) f client does).0 in
-    let many = (stand_of k reached).begun in
-    let unused = first_fails (option_map_or (is_in_use k.world) sender false) (is_one_too_many client before) unclaimed in
+    let before = claims_of k.steps in let sender = claimed_sender client before in let connects = (connect_of f.command (session_at k c) f client does).0 in
+    let many = (stand_of k reached).begun in let unused = first_fails (option_map_or (is_in_use k.world) sender false) (is_one_too_many client before) unclaimed in
     free_alone (core_for k f).world (Move.Connects c sender) move why is
     (subst (λ (z : Core). move_refusal z.world (Move.Connects c sender) ≡ None) (sym (framed_none k f (connect_plain f.command connects)))
     (connect_free k.world c sender idle (has_none k c f reached connects free) (λ s e. (let l = claimed_begun client before s e in omega (arith, l, many))) unused)) refused
 passes k c f reached idle free actions.Nothing does unclaimed move why is refused = none_some move is
 passes k c f reached idle free (actions.Subscribe id t) does unclaimed move why is refused =
-    let h = begins_at f.command (session_at k c) f id t does in
-    let w = (core_for k f).world in
+    let h = begins_at f.command (session_at k c) f id t does in let w = (core_for k f).world in
     let there = subst (λ (u : Topic). is_topic w u ≡ true) h.1 (topic_made k f reached h.0) in
     free_alone w (Move.Subscribes c t) move why is (subscribe_free w c t (idle_for k f c idle) (ltb-true t.0 (length w.topics) there)) refused
 passes k c f reached idle free (actions.Unsubscribe id) does unclaimed move why is refused =
-    let h = ends f.command (session_at k c) f id does in
-    let live = names_live k c f reached (idle_reads k.world c idle) h.0 free in
+    let h = ends f.command (session_at k c) f id does in let live = names_live k c f reached (idle_reads k.world c idle) h.0 free in
     free_alone (core_for k f).world (Move.Unsubscribes c (number_by c id k.steps)) move why is
     (subst (λ (z : Core). move_refusal z.world (Move.Unsubscribes c (number_by c id k.steps)) ≡ None) (sym (framed_none k f (ap has_destination h.0)))
     (subst (λ (x : List ℕ). move_refusal k.world (Move.Unsubscribes c (number_by c x k.steps)) ≡ None) h.1
     (unsubscribe_free k.world c (number_by c (id_of f) k.steps) idle live.there live.live))) refused
 passes k c f reached idle free (actions.Commit sends) does unclaimed move why is refused =
-    let w = (core_for k f).world in
-    let own = has_sender k c f reached (commits_other f.command (session_at k c) f sends does) free in
-    let has = by_use (λ (v : World). is_some (connection_at v c).sender ≡ true) k f own own in
-    let made = committed_sends k c f sends reached does in
+    let w = (core_for k f).world in let own = has_sender k c f reached (frame_fits f.command (session_at k c) f does) free in
+    let has = by_use (λ (v : World). is_some (connection_at v c).sender ≡ true) k f own own in let made = committed_sends k c f sends reached does in
     commit_lacks w c sends why (idle_for k f c idle) has
     made.named
     (ap (move_refusal w) (some_same (Move.Commits c sends) move is) ∙ refused)

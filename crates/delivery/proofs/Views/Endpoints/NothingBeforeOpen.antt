@@ -1,22 +1,11 @@
 -- Nothing came of a connection that isn't there yet.
-use Rattle.delivery.proofs.Words.Std.{◌≡◌, ◌≢◌, ℕ, zero, suc, ◌+◌, ◌<◌, ◌≤◌, ◌==◌, Bool, true, false, cond, not, ◌&&◌, inl, inr, List, [], ◌∷◌, ◌++◌, length, get_or, Option, Some, None, refl, sym, ap, subst, ◌∙◌, arith, ltb, eqb-true, ltb-true, or_parts, not-false, flat_map, is_some, length_push}
-use Rattle.delivery.proofs.Words.Topics.{In}
-use Rattle.delivery.proofs.Words.Frames.{RawFrame, Unread, unread_of, with_piece, spelling_of}
-use Rattle.delivery.proofs.Words.Lemmas.{some_same, not_true}
-use Rattle.delivery.proofs.Words.Machine.{Objection, refusal_of, World, Subscription, no_subscription, subscription_at, Move, Answer, world_after, answer_to, move_refusal, move_effect, oldest_live, leave_answer, Run, answers_of, final_world, Decides, Withdraws, Leaves, Takes}
-use Rattle.delivery.proofs.Words.Core.{TopicList, Event, Outcome, Refusal, Beginning, no_beginning, account_of, beginning_of, next_replies, take_replies, replies_to, is_cut, text_out, Core, IsReadBy, core_of, moves, unread_at, unread_after, CoreStep, Reading, frame_in, is_fed, accepted_of, reader_limits, outcomes, unless, outcome_of, move_outcome, reading_outcomes, cut_of, IsReadAt, IsCoreRun, live_numbers}
-use Rattle.delivery.proofs.Words.Views.{IsReached}
+use Rattle.delivery.proofs.Words.All.{◌≡◌, ◌≢◌, ℕ, zero, suc, ◌+◌, ◌<◌, ◌≤◌, ◌==◌, Bool, true, false, cond, not, ◌&&◌, inl, inr, List, [], ◌∷◌, ◌++◌, length, get_or, Option, Some, None, refl, sym, ap, subst, ◌∙◌, arith, ltb, eqb-true, ltb-true, or_parts, not-false, flat_map, is_some, length_push, In, RawFrame, Unread, unread_of, with_piece, spelling_of, some_same, not_true, Objection, refusal_of, World, Subscription, no_subscription, subscription_at, Move, Answer, world_after, answer_to, move_refusal, move_effect, oldest_live, leave_answer, Run, answers_of, final_world, Decides, Withdraws, Leaves, Takes, TopicList, Event, Outcome, Beginning, no_beginning, account_of, beginning_of, next_replies, take_replies, replies_to, is_cut, text_out, Core, IsReadBy, core_of, moves, unread_at, unread_after, CoreStep, Reading, frame_in, is_fed, accepted_of, reader_limits, outcomes, unless, outcome_of, move_outcome, reading_outcomes, cut_of, IsReadAt, IsCoreRun, live_numbers, IsReached}
 use Rattle.delivery.specs.Core.State.{left_by}
-use Rattle.delivery.proofs.Machine.SubscriptionSteps.{at_push_two}
-use Rattle.delivery.proofs.Machine.InvariantIsKept.{by_refusal, checked}
-use Rattle.delivery.proofs.Core.ByRun.{by_run}
+use Rattle.delivery.proofs.Words.Steps.{at_push_two, by_refusal, checked, by_run}
 use Rattle.delivery.proofs.Core.Speaking.{open_in}
 use Rattle.delivery.proofs.Core.Started.{begins_in, begins_more, begins_count, begins_at}
-use Rattle.delivery.proofs.Core.AccountOfRun.{IsRefusal, run_of, core_is, world_is, account_is, in_option, refusal_some, by_answer, replied, either_cut}
+use Rattle.delivery.proofs.Words.Changes.{IsRefusal, run_of, core_is, world_is, account_is, in_option, refusal_some, by_answer, replied, either_cut, by_world, if_same, grown, grown_once, stands_after, open_there, differ}
 use Rattle.delivery.proofs.Core.NextItem.{connection_is}
-use Rattle.delivery.proofs.Views.Runs.ByRunOfCore.{by_world}
-use Rattle.delivery.proofs.Views.Endpoints.EndpointsStay.{if_same}
-use Rattle.delivery.proofs.Views.Endpoints.StandingOfConnection.{grown, grown_once, stands_after, open_there, differ}
 use Rattle.delivery.proofs.Views.Endpoints.DisconnectIsLast.{unheard}
 use Rattle.delivery.proofs.Core.Tests.{connection_there}
 
@@ -56,26 +45,18 @@ abbrev ReadsSo : Unread → Reading → Option Objection → Type 0
 ReadsSo u rd why = elim why [ None ↦ IsReadBy u rd | Some o ↦ rd ≡ Reading.Nothing ]
 
 next_unread : (k : Core) (c : ℕ) (rd : Reading) → length k.world.connections ≤ c → IsReadAt k (Event.Next c) rd → rd ≡ Reading.Nothing
-next_unread k c rd l h =
-    subst (ReadsSo (unread_at c k.steps) rd) (unpassable (ltb c (length k.world.connections)) _ (absent k.world c l)) h
-
-unread_next : (k : Core) (c d : ℕ) (rd : Reading) (u : Unread) → length k.world.connections ≤ c → IsReadAt k (Event.Next d) rd → (b : Bool) → (d == c) ≡ b
-    → cond b (left_by u rd) u ≡ u
-unread_next k c d rd u l h false e = refl
-unread_next k c d rd u l h true e =
-    ap (λ z. left_by u z) (next_unread k c rd l (subst (λ m. IsReadAt k (Event.Next m) rd) (eqb-true d c e) h))
-
-unread_piece : (k : Core) (c d : ℕ) (octets : List ℕ) (rd : Reading) (o : Outcome) (u : Unread) → length k.world.connections ≤ c → In o (outcomes k (Event.Piece d octets) rd)
-    → (b : Bool) → (d == c) ≡ b → cond (b && is_fed o) (with_piece u octets) u ≡ u
-unread_piece k c d octets rd o u l i false e = refl
-unread_piece k c d octets rd o u l i true e =
-    let r = piece_refused k c octets rd o l (subst (λ m. In o (outcomes k (Event.Piece m octets) rd)) (eqb-true d c e) i) in
-    ap (λ z. cond (is_fed z) (with_piece u octets) u) (sym r.is)
+next_unread k c rd l h = subst (ReadsSo (unread_at c k.steps) rd) (unpassable (ltb c (length k.world.connections)) _ (absent k.world c l)) h
 
 unread_step : (k : Core) (c : ℕ) (e : Event) (rd : Reading) (o : Outcome) (u : Unread) → length k.world.connections ≤ c → IsReadAt k e rd → In o (outcomes k e rd)
     → unread_after c u e rd o ≡ u
-unread_step k c (Event.Next d) rd o u l h i = unread_next k c d rd u l h (d == c) refl
-unread_step k c (Event.Piece d octets) rd o u l h i = unread_piece k c d octets rd o u l i (d == c) refl
+unread_step k c (Event.Next d) rd o u l h i = (elim (d == c) as (λ (b : Bool). (d == c) ≡ b → cond b (left_by u rd) u ≡ u) [
+  | false ↦ λ e. refl
+  | true ↦ λ e. ap (λ z. left_by u z) (next_unread k c rd l (subst (λ m. IsReadAt k (Event.Next m) rd) (eqb-true d c e) h))
+]) refl
+unread_step k c (Event.Piece d octets) rd o u l h i = (elim (d == c) as (λ (b : Bool). (d == c) ≡ b → cond (b && is_fed o) (with_piece u octets) u ≡ u) [
+  | false ↦ λ e. refl
+  | true ↦ λ e. (let r = piece_refused k c octets rd o l (subst (λ m. In o (outcomes k (Event.Piece m octets) rd)) (eqb-true d c e) i) in ap (λ z. cond (is_fed z) (with_piece u octets) u) (sym r.is))
+]) refl
 unread_step k c _ rd o u l h i = refl
 
 unfed : (topics : TopicList) (capacity : ℕ) (steps : List CoreStep) → IsCoreRun topics capacity steps → (c : ℕ)
@@ -88,16 +69,12 @@ unfed topics capacity (step ∷ older) h c l =
 
 -- ---- its text
 
-no_reply : (read : Option RawFrame) (why : Refusal) → next_replies read (Outcome.Refused why) ≡ []
-no_reply None why = refl
-no_reply (Some f) why = refl
-
 reply_next : (k : Core) (c d : ℕ) (rd : Reading) (o : Outcome) → length k.world.connections ≤ c → In o (outcomes k (Event.Next d) rd) → (b : Bool) → (d == c) ≡ b
     → cond b (next_replies (frame_in rd) o) [] ≡ []
 reply_next k c d rd o l i false e = refl
 reply_next k c d rd o l i true e =
     let r = next_refused k c rd o l (subst (λ m. In o (outcomes k (Event.Next m) rd)) (eqb-true d c e) i) in
-    subst (λ z. next_replies (frame_in rd) z ≡ []) r.is (no_reply (frame_in rd) r.why)
+    subst (λ z. next_replies (frame_in rd) z ≡ []) r.is (elim (frame_in rd) as (λ (read : Option RawFrame). next_replies read (Outcome.Refused r.why) ≡ []) [ None ↦ refl | Some f ↦ refl ])
 
 take_refused : (k : Core) (c s : ℕ) (rd : Reading) (o : Outcome) → length k.world.connections ≤ c → (subscription_at k.world s).connection ≡ c
     → (why : Option Objection) → move_refusal k.world (Takes s) ≡ why → In o (unless why (move_outcome k (Takes s) ++ Outcome.NoMemory ∷ [])) → IsRefusal o
@@ -117,48 +94,34 @@ off b q xs e = ap (λ z. cond (z && q) xs []) e
 off_alone : {X : Type 0} (b : Bool) (xs : List X) → b ≡ false → cond b xs [] ≡ []
 off_alone b xs e = ap (λ z. cond z xs []) e
 
-leave_reply : (w : World) (c d : ℕ) (older : List CoreStep) (account : List Answer) (rd : Reading) (s : Option ℕ) (z : Outcome) → (d == c) ≡ false
-    → outcome_of (leave_answer w d s) ≡ Some z
-    → (replies_to c older account (Event.Leave d) rd z ≡ []) × (replies_to c older account (Event.Leave d) rd (cut_of z) ≡ [])
-leave_reply w c d older account rd None z e a =
-    subst (λ q. (replies_to c older account (Event.Leave d) rd q ≡ []) × (replies_to c older account (Event.Leave d) rd (cut_of q) ≡ [])) (some_same _ z a)
-    (off_alone (d == c) _ e, off_alone (d == c) _ e)
-leave_reply w c d older account rd (Some s) z e a =
-    subst (λ q. (replies_to c older account (Event.Leave d) rd q ≡ []) × (replies_to c older account (Event.Leave d) rd (cut_of q) ≡ [])) (some_same _ z a) (refl, refl)
-
 -- nothing is written to it
 reply_step : (k : Core) (c : ℕ) (older : List CoreStep) (account : List Answer) (e : Event) (rd : Reading) (o : Outcome) → length k.world.connections ≤ c
-    → ((s : ℕ) → (beginning_of s account).connection ≡ (subscription_at k.world s).connection) → In o (outcomes k e rd)
-    → replies_to c older account e rd o ≡ []
+    → ((s : ℕ) → (beginning_of s account).connection ≡ (subscription_at k.world s).connection) → In o (outcomes k e rd) → replies_to c older account e rd o ≡ []
 reply_step k c older account (Event.Next d) rd o l own i = reply_next k c d rd o l i (d == c) refl
-reply_step k c older account (Event.Take s) rd o l own i = by_case ((beginning_of s account).connection == c) refl
-  where
-    by_case : (b : Bool) → ((beginning_of s account).connection == c) ≡ b
-        → cond b (take_replies s older account o) [] ≡ []
-    by_case false e = refl
-    by_case true e =
-        let r = take_refused k c s rd o l (sym (own s) ∙ eqb-true _ c e) (move_refusal k.world (Takes s)) refl i in
-        subst (λ z. take_replies s older account z ≡ []) r.is refl
+reply_step k c older account (Event.Take s) rd o l own i = (elim ((beginning_of s account).connection == c) as (λ (b : Bool). ((beginning_of s account).connection == c) ≡ b → cond b (take_replies s older account o) [] ≡ []) [
+  | false ↦ λ e. refl
+  | true ↦ λ e. (let r = take_refused k c s rd o l (sym (own s) ∙ eqb-true _ c e) (move_refusal k.world (Takes s)) refl i in subst (λ z. take_replies s older account z ≡ []) r.is refl)
+]) refl
 reply_step k c older account (Event.Decide d) rd o l own i =
-    let P = λ (z : Outcome). replies_to c older account (Event.Decide d) rd z ≡ [] in
-    let h = replied k d (Event.Decide d) _ o i in
+    let P = λ (z : Outcome). replies_to c older account (Event.Decide d) rd z ≡ [] in let h = replied k d (Event.Decide d) _ o i in
     either_cut P h.base o
     (by_answer (λ z. P z × P (cut_of z)) k.world (Decides d) h.base (λ why x a. (refl, refl))
     (λ n a z q. (let f = elsewhere k.world c d l (checked k.world (Decides d) n).0 in
     subst (λ y. P y × P (cut_of y)) (some_same _ z q) (off (d == c) _ _ f, off (d == c) _ _ f))) h.is) h.cut
 reply_step k c older account (Event.Withdraw d) rd o l own i =
-    let P = λ (z : Outcome). replies_to c older account (Event.Withdraw d) rd z ≡ [] in
-    let h = replied k d (Event.Withdraw d) _ o i in
+    let P = λ (z : Outcome). replies_to c older account (Event.Withdraw d) rd z ≡ [] in let h = replied k d (Event.Withdraw d) _ o i in
     either_cut P h.base o
     (by_answer (λ z. P z × P (cut_of z)) k.world (Withdraws d) h.base (λ why x a. (refl, refl))
     (λ n a z q. (let f = elsewhere k.world c d l (checked k.world (Withdraws d) n).0 in
     subst (λ y. P y × P (cut_of y)) (some_same _ z q) (off (d == c) _ _ f, off (d == c) _ _ f))) h.is) h.cut
 reply_step k c older account (Event.Leave d) rd o l own i =
-    let P = λ (z : Outcome). replies_to c older account (Event.Leave d) rd z ≡ [] in
-    let h = replied k d (Event.Leave d) _ o i in
+    let P = λ (z : Outcome). replies_to c older account (Event.Leave d) rd z ≡ [] in let h = replied k d (Event.Leave d) _ o i in
     either_cut P h.base o
     (by_answer (λ z. P z × P (cut_of z)) k.world (Leaves d) h.base (λ why x a. (refl, refl))
-    (λ n a z q. leave_reply k.world c d older account rd (oldest_live d 0 k.world.subscriptions) z (elsewhere k.world c d l (checked k.world (Leaves d) n).0) q) h.is) h.cut
+    (λ n a z q. ((elim (oldest_live d 0 k.world.subscriptions) as (λ (s : Option ℕ). (d == c) ≡ false → outcome_of (leave_answer k.world d s) ≡ Some z → (replies_to c older account (Event.Leave d) rd z ≡ []) × (replies_to c older account (Event.Leave d) rd (cut_of z) ≡ [])) [
+      | None ↦ λ e a. subst (λ q. (replies_to c older account (Event.Leave d) rd q ≡ []) × (replies_to c older account (Event.Leave d) rd (cut_of q) ≡ [])) (some_same _ z a) (off_alone (d == c) _ e, off_alone (d == c) _ e)
+      | Some s ↦ λ e a. subst (λ q. (replies_to c older account (Event.Leave d) rd q ≡ []) × (replies_to c older account (Event.Leave d) rd (cut_of q) ≡ [])) (some_same _ z a) (refl, refl)
+    ]) (elsewhere k.world c d l (checked k.world (Leaves d) n).0) q)) h.is) h.cut
 reply_step k c older account _ rd o l own i = refl
 
 -- a subscription began for the connection that has it
@@ -172,8 +135,7 @@ untold : (topics : TopicList) (capacity : ℕ) (steps : List CoreStep) → IsCor
     → length (core_of topics capacity steps).world.connections ≤ c → text_out topics.names c steps ≡ []
 untold topics capacity [] h c l = refl
 untold topics capacity (step ∷ older) h c l =
-    let k = core_of topics capacity older in let g = grown (moves k step.event step.reading step.outcome) k.world in
-    let account = account_of topics.names older in
+    let k = core_of topics capacity older in let g = grown (moves k step.event step.reading step.outcome) k.world in let account = account_of topics.names older in
     ap (λ z. z ++ cond (is_cut step.outcome) [] (flat_map spelling_of (replies_to c older account step.event step.reading step.outcome)))
     (untold topics capacity older h.1 c (omega arith))
     ∙ (ap (λ z. cond (is_cut step.outcome) [] (flat_map spelling_of z))
@@ -218,8 +180,7 @@ unsubscribed r c l =
 -- nothing came of a connection that isn't there yet
 pub untouched : (k : Core) (c : ℕ) → IsReached k → length k.world.connections ≤ c → IsUntouched k c
 untouched k c reached l =
-    let topics = reached.topics in let steps = reached.steps in
-    let there_is : k.steps ≡ steps = ap (λ (z : Core). z.steps) (reached.is ∙ core_is topics reached.capacity steps) in
+    let topics = reached.topics in let steps = reached.steps in let there_is : k.steps ≡ steps = ap (λ (z : Core). z.steps) (reached.is ∙ core_is topics reached.capacity steps) in
     let named : k.names ≡ topics.names = ap (λ (z : Core). z.names) (reached.is ∙ core_is topics reached.capacity steps) in
     let m : length (core_of topics reached.capacity steps).world.connections ≤ c = subst (λ (z : Core). length z.world.connections ≤ c) reached.is l in
     record {

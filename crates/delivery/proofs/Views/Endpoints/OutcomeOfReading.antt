@@ -1,10 +1,6 @@
 -- What an open endpoint makes of what its reader gives.
 use Rattle.std.proofs.lemmas.Bool.{lt-leb}
-use Rattle.delivery.proofs.Words.Std.{◌≡◌, ◌≢◌, ℕ, ◌+◌, ◌⊎◌, Bool, true, false, cond, inl, inr, List, [], ◌∷◌, ◌++◌, Option, Some, None, refl, sym, ap, subst, ◌∙◌, arith, Result, Ok, Err, MatchOption}
-use Rattle.delivery.proofs.Words.Frames.{Check, RawFrame, fault_of, Limits, Halt, Unread, ReadsNext, Step, with_destination, held_after, state_of}
-use Rattle.delivery.proofs.Words.Lemmas.{answers_none}
-use Rattle.delivery.proofs.Words.Core.{ConnectionFault, OpenEndpoint, is_any, Reading}
-use Rattle.delivery.proofs.Words.Views.{IsRefusedAs, Judgement}
+use Rattle.delivery.proofs.Words.All.{◌≡◌, ◌≢◌, ℕ, ◌+◌, ◌⊎◌, Bool, true, false, cond, inl, inr, List, [], ◌∷◌, ◌++◌, Option, Some, None, refl, sym, ap, subst, ◌∙◌, arith, Result, Ok, Err, MatchOption, Check, RawFrame, fault_of, Limits, Halt, Unread, ReadsNext, Step, with_destination, held_after, state_of, answers_none, ConnectionFault, OpenEndpoint, is_any, Reading, IsRefusedAs, Judgement}
 use Rattle.stomp_frame.specs.declared.fault.FrameFault.{FrameFault}
 use Rattle.stomp_frame.specs.Inner.Parser.{◌>>=◌, after_eols, body_at, command_of, frame_at, headers_at, line_at}
 use Rattle.stomp_frame.specs.Commands.{has_escapes}
@@ -55,11 +51,8 @@ judged_idle accepted names old none = record { reading = Reading.Waits old.reade
 
 -- the session accepts the frame
 pub judged_takes : (accepted : List RawFrame) (names later : List (List ℕ)) (old new : OpenEndpoint) (left : Unread) (r : Option RawFrame) (f : RawFrame) (step : Step)
-    → ((Ok r ≢ Err FrameFault.NoMemory) → NextReturns old.reader (Ok r) left) → r ≡ Some f → old.reader.answered ≡ None
-    → IsAccepted (held_after names accepted) f step
-    → new.session ≡ state_of (held_after later (accepted ++ f ∷ []))
-    → later ≡ with_destination f names
-    → new ≡ record old { reader = left; session = new.session }
+    → ((Ok r ≢ Err FrameFault.NoMemory) → NextReturns old.reader (Ok r) left) → r ≡ Some f → old.reader.answered ≡ None → IsAccepted (held_after names accepted) f step
+    → new.session ≡ state_of (held_after later (accepted ++ f ∷ [])) → later ≡ with_destination f names → new ≡ record old { reader = left; session = new.session }
     → Judgement accepted names old (Ok (Some step)) new later
 judged_takes accepted names later old new left r f step h is unanswered taken session named others = record {
   reading = Reading.Finds f left;
@@ -70,8 +63,7 @@ judged_takes accepted names later old new left r f step h is unanswered taken se
 -- the frame is refused
 pub judged_refuses : (accepted : List RawFrame) (names later : List (List ℕ)) (old new : OpenEndpoint) (left : Unread) (r : Option RawFrame) (f g : RawFrame) (fault : ConnectionFault)
     → ((Ok r ≢ Err FrameFault.NoMemory) → NextReturns old.reader (Ok r) left) → r ≡ Some f → old.reader.answered ≡ None
-    → IsRefusedAs (held_after names accepted) f fault → g ≡ f → later ≡ names
-    → Judgement accepted names old (Err (fault, Some g)) new later
+    → IsRefusedAs (held_after names accepted) f fault → g ≡ f → later ≡ names → Judgement accepted names old (Err (fault, Some g)) new later
 judged_refuses accepted names later old new left r f g fault h is unanswered refused same unnamed = record {
   reading = Reading.Finds f left;
   read = subst (λ (x : Option RawFrame). ReadsNext old.reader (Ok x) left) is (found old.reader left r unanswered h);
@@ -94,8 +86,7 @@ stream _ = refl
 -- the reader returns a fault
 pub judged_fails : (accepted : List RawFrame) (names : List (List ℕ)) (old new : OpenEndpoint) (left : Unread) (fault : FrameFault)
     → ((◌≢◌ {A = Result (Option RawFrame) FrameFault} (Err fault) (Err FrameFault.NoMemory)) → NextReturns old.reader (Err fault) left) → old.reader.answered ≡ None
-    → is_any old.reader.text ≡ true → (reported : ConnectionFault) → reported ≡ reader_fault fault
-    → Judgement accepted names old (Err (reported, None)) new names
+    → is_any old.reader.text ≡ true → (reported : ConnectionFault) → reported ≡ reader_fault fault → Judgement accepted names old (Err (reported, None)) new names
 judged_fails accepted names old new left fault h unanswered some reported is = elim (memory_or fault) [
   | inl e ↦ record { reading = Reading.Nothing; read = tt; judged = (refl, is ∙ ap reader_fault e, some, refl) }
   | inr ne ↦ (let other : ◌≢◌ {A = Result (Option RawFrame) FrameFault} (Err fault) (Err FrameFault.NoMemory) = λ e. ne (cc) in

@@ -1,21 +1,14 @@
 -- What every run makes of its connections: a step changes none but its event's own, and an accepted UNSUBSCRIBE names a live
 -- subscription.
-use Rattle.delivery.proofs.Words.Std.{◌≡◌, ◌≢◌, ℕ, zero, suc, ◌==◌, Bool, true, false, cond, not, ◌&&◌, List, [], ◌∷◌, ◌++◌, length, set, get_or, Option, Some, None, refl, sym, ap, ◌∙◌, append-nil, codes, flat_map, option_map_or, option_to_list, get_or-set_other}
-use Rattle.delivery.proofs.Words.Frames.{RawFrame, Unread, with_piece, spelling_of, Action, action_by, field, has_destination, id_of, is_known}
-use Rattle.delivery.proofs.Words.Machine.{World, Connection, Standing, nobody, connection_at, subscription_at, Move, Answer, world_after, run, AddsTopic, Opens, Connects, Commits, Subscribes, Unsubscribes, Disconnects, Errs, Lost, Leaves, Proposes, Decides, Withdraws, Cancels, Learns, Releases, Turns, Takes}
-use Rattle.delivery.proofs.Words.Core.{Event, Outcome, account_of, beginning_of, is_cut, next_replies, replies_to, text_out, take_replies, Core, core_of, frame_move, is_faulted, is_no_memory, is_out_of_memory, moves, names_at, next_moves, session_at, topic_moves, unread_at, unread_after, claims_of, claimed_sender, CoreStep, Reading, accepted_of, frame_in, has_effect, is_fed, is_next, number_by}
-use Rattle.delivery.proofs.Words.Views.{IsReached}
+use Rattle.delivery.proofs.Words.All.{◌≡◌, ◌≢◌, ℕ, zero, suc, ◌==◌, Bool, true, false, cond, not, ◌&&◌, List, [], ◌∷◌, ◌++◌, length, set, get_or, Option, Some, None, refl, sym, ap, ◌∙◌, append-nil, codes, flat_map, option_map_or, option_to_list, get_or-set_other, RawFrame, Unread, with_piece, spelling_of, Action, action_by, field, has_destination, id_of, is_known, World, Connection, Standing, nobody, connection_at, subscription_at, Move, Answer, world_after, run, AddsTopic, Opens, Connects, Commits, Subscribes, Unsubscribes, Disconnects, Errs, Lost, Leaves, Proposes, Decides, Withdraws, Cancels, Learns, Releases, Turns, Takes, Event, Outcome, account_of, beginning_of, is_cut, next_replies, replies_to, text_out, take_replies, Core, core_of, frame_move, is_faulted, is_no_memory, is_out_of_memory, moves, names_at, next_moves, session_at, topic_moves, unread_at, unread_after, claims_of, claimed_sender, CoreStep, Reading, accepted_of, frame_in, has_effect, is_fed, is_next, number_by, IsReached}
 use Rattle.stomp_session.specs.declared.action.Action.TheVariants as actions
 use Rattle.delivery.specs.Core.Connections.{event_connection, OpenAreLive, UnsubscribesFind, OtherConnectionsStay}
 use Rattle.delivery.specs.Core.State.{left_by}
-use Rattle.delivery.proofs.Machine.InvariantIsKept.{by_refusal}
-use Rattle.delivery.proofs.Machine.ByFound.{InEachCase, by_found, by_entry}
-use Rattle.delivery.proofs.Core.AccountOfRun.{core_is}
+use Rattle.delivery.proofs.Words.Steps.{by_refusal, InEachCase, by_found, always}
+use Rattle.delivery.proofs.Words.Changes.{core_is, if_same, differ}
 use Rattle.delivery.proofs.Core.NamesKnown.{other_open}
 use Rattle.delivery.proofs.Views.Events.NextStep.{idle_reads}
-use Rattle.delivery.proofs.Views.Endpoints.EndpointsStay.{if_same}
 use Rattle.delivery.proofs.Views.Subscriptions.OpenIsLive.{session_subs, names_live, unsubscribe_free}
-use Rattle.delivery.proofs.Views.Endpoints.StandingOfConnection.{differ}
 use Rattle.delivery.proofs.Views.Endpoints.NothingBeforeOpen.{owned}
 
 -- ---- the machine's connections
@@ -49,13 +42,13 @@ leaving : (w : World) (d c : ℕ) → d ≢ c → Stays w (record w { connection
 leaving w d c n = shut w c d (record { sender = (connection_at w d).sender; standing = Standing.Leaving }) n
 
 effect_stays : (w : World) (mv : Move) (c : ℕ) → Apart w mv c → InEachCase (λ v o. Stays w v c) w mv
-effect_stays w Opens c n = let new : Connection = record { sender = None; standing = Standing.Open } in (pushed w.connections new c n, λ k. pushed w.connections new c n)
-effect_stays w (Connects d claimed) c n = (shut w c d _ n, λ k. shut w c d _ n)
-effect_stays w (Disconnects d) c n = (leaving w d c n, λ k. leaving w d c n)
-effect_stays w (Errs d) c n = (leaving w d c n, λ k. leaving w d c n)
-effect_stays w (Lost d) c n = (leaving w d c n, λ k. leaving w d c n)
-effect_stays w (Leaves d) c n = (shut w c d _ n, λ s. by_entry (λ v. Stays w v c) w s refl (λ k. refl))
-effect_stays w (Withdraws d) c n = (leaving w d c n, λ k. leaving w d c n)
+effect_stays w Opens c n = always (pushed w.connections _ c n)
+effect_stays w (Connects d claimed) c n = always (shut w c d _ n)
+effect_stays w (Disconnects d) c n = always (leaving w d c n)
+effect_stays w (Errs d) c n = always (leaving w d c n)
+effect_stays w (Lost d) c n = always (leaving w d c n)
+effect_stays w (Leaves d) c n = (shut w c d _ n, λ s. (refl, λ k. refl))
+effect_stays w (Withdraws d) c n = always (leaving w d c n)
 effect_stays w (Takes s) c n = (leaving w (subscription_at w s).connection c n, λ k. refl)
 effect_stays w _ c n = (refl, λ k. refl)
 
@@ -74,13 +67,11 @@ framed k w d (actions.Commit sends) c n = move_stays w (Commits d sends) c tt
 framed k w d actions.Disconnect c n = move_stays w (Disconnects d) c n
 
 -- after the topic that it makes, if it does
-made : (k : Core) (d : ℕ) (f : RawFrame) (action : Action) (c : ℕ) → d ≢ c
-    → Stays k.world (run (topic_moves (names_at k) f ++ option_to_list (frame_move k d action)) k.world) c
-made k d f action c n = by (has_destination f.command && not (is_known (field (codes "destination") f) (names_at k)))
-  where
-    by : (first_use : Bool) → Stays k.world (run (cond first_use (AddsTopic 0 ∷ []) [] ++ option_to_list (frame_move k d action)) k.world) c
-    by true = framed k (world_after k.world (AddsTopic 0)) d action c n ∙ move_stays k.world (AddsTopic 0) c tt
-    by false = framed k k.world d action c n
+made : (k : Core) (d : ℕ) (f : RawFrame) (action : Action) (c : ℕ) → d ≢ c → Stays k.world (run (topic_moves (names_at k) f ++ option_to_list (frame_move k d action)) k.world) c
+made k d f action c n = elim (has_destination f.command && not (is_known (field (codes "destination") f) (names_at k))) as (λ (first_use : Bool). Stays k.world (run (cond first_use (AddsTopic 0 ∷ []) [] ++ option_to_list (frame_move k d action)) k.world) c) [
+  | true ↦ framed k (world_after k.world (AddsTopic 0)) d action c n ∙ move_stays k.world (AddsTopic 0) c tt
+  | false ↦ framed k k.world d action c n
+]
 
 next_stays : (k : Core) (d : ℕ) (rd : Reading) (o : Outcome) (c : ℕ) → d ≢ c → Stays k.world (run (next_moves k d rd o) k.world) c
 next_stays k d rd o c n = by_outcome (is_faulted o) (has_effect o) (frame_in rd)
@@ -96,8 +87,7 @@ next_stays k d rd o c n = by_outcome (is_faulted o) (has_effect o) (frame_in rd)
 unlike : (d c : ℕ) → Some d ≢ Some c → d ≢ c
 unlike d c n e = n (ap Some e)
 
-standing_stays : (k : Core) (e : Event) (rd : Reading) (o : Outcome) (c : ℕ) → event_connection k.world e ≢ Some c
-    → Stays k.world (run (moves k e rd o) k.world) c
+standing_stays : (k : Core) (e : Event) (rd : Reading) (o : Outcome) (c : ℕ) → event_connection k.world e ≢ Some c → Stays k.world (run (moves k e rd o) k.world) c
 standing_stays k Event.Open rd o c n = by_memory (is_no_memory o)
   where
     m : ℕ
@@ -109,21 +99,16 @@ standing_stays k Event.Open rd o c n = by_memory (is_no_memory o)
 standing_stays k (Event.Piece d octets) rd o c n = refl
 standing_stays k (Event.Next d) rd o c n = next_stays k d rd o c (unlike d c n)
 standing_stays k (Event.Propose d t) rd o c n = move_stays k.world (Proposes d t (not (is_out_of_memory o))) c tt
-standing_stays k (Event.Decide d) rd o c n = by_cut (is_cut o)
-  where
-    by_cut : (b : Bool) → Stays k.world (run (Decides d ∷ cond b (Lost d ∷ []) []) k.world) c
-    by_cut true = move_stays (world_after k.world (Decides d)) (Lost d) c (unlike d c n) ∙ move_stays k.world (Decides d) c tt
-    by_cut false = move_stays k.world (Decides d) c tt
+standing_stays k (Event.Decide d) rd o c n = elim (is_cut o) as (λ (b : Bool). Stays k.world (run (Decides d ∷ cond b (Lost d ∷ []) []) k.world) c) [
+  | true ↦ move_stays (world_after k.world (Decides d)) (Lost d) c (unlike d c n) ∙ move_stays k.world (Decides d) c tt
+  | false ↦ move_stays k.world (Decides d) c tt
+]
 standing_stays k (Event.Withdraw d) rd o c n = move_stays k.world (Withdraws d) c (unlike d c n)
 standing_stays k (Event.Cancel d t) rd o c n = move_stays k.world (Cancels d t) c tt
 standing_stays k (Event.Learn t id) rd o c n = move_stays k.world (Learns t id) c tt
 standing_stays k (Event.Release t) rd o c n = move_stays k.world (Releases t) c tt
 standing_stays k (Event.Turn t) rd o c n = move_stays k.world (Turns t) c tt
-standing_stays k (Event.Take s) rd o c n = by_memory (is_no_memory o)
-  where
-    by_memory : (b : Bool) → Stays k.world (run (cond b [] (Takes s ∷ [])) k.world) c
-    by_memory true = refl
-    by_memory false = move_stays k.world (Takes s) c (unlike _ c n)
+standing_stays k (Event.Take s) rd o c n = elim (is_no_memory o) as (λ (b : Bool). Stays k.world (run (cond b [] (Takes s ∷ [])) k.world) c) [ true ↦ refl | false ↦ move_stays k.world (Takes s) c (unlike _ c n) ]
 standing_stays k (Event.Leave d) rd o c n = move_stays k.world (Leaves d) c (unlike d c n)
 standing_stays k (Event.Lost d) rd o c n = move_stays k.world (Lost d) c (unlike d c n)
 
@@ -149,8 +134,7 @@ alone b fs e = ap (λ (z : Bool). cond z fs []) e
 
 -- nothing is replied to it
 unreplied : (w : World) (c : ℕ) (older : List CoreStep) (account : List Answer) (e : Event) (rd : Reading) (o : Outcome)
-    → ((s : ℕ) → (beginning_of s account).connection ≡ (subscription_at w s).connection) → event_connection w e ≢ Some c
-    → replies_to c older account e rd o ≡ []
+    → ((s : ℕ) → (beginning_of s account).connection ≡ (subscription_at w s).connection) → event_connection w e ≢ Some c → replies_to c older account e rd o ≡ []
 unreplied w c older account (Event.Next d) rd o own n = alone (d == c) (next_replies (frame_in rd) o) (differ d c (unlike d c n))
 unreplied w c older account (Event.Take s) rd o own n =
     alone ((beginning_of s account).connection == c) (take_replies s older account o) (differ _ c (λ e. unlike _ c n (sym (own s) ∙ e)))
@@ -167,9 +151,7 @@ unreplied w c older account e rd o own n = refl
 -- a step changes no connection but its event's own
 pub other_connections_stay : OtherConnectionsStay
 other_connections_stay topics capacity step older run c n =
-    let k = core_of topics capacity older in
-    let w = k.world in
-    let named : k.names ≡ topics.names = ap (λ (z : Core). z.names) (core_is topics capacity older) in
+    let k = core_of topics capacity older in let w = k.world in let named : k.names ≡ topics.names = ap (λ (z : Core). z.names) (core_is topics capacity older) in
     let there : k.steps ≡ older = ap (λ (z : Core). z.steps) (core_is topics capacity older) in
     let own : (s : ℕ) → (beginning_of s (account_of k.names k.steps)).connection ≡ (subscription_at w s).connection =
     λ s. ap (λ (z : List Answer). (beginning_of s z).connection) (λ i. account_of (named i) (there i)) ∙ owned topics capacity older run.1 s in
@@ -195,7 +177,5 @@ open_are_live topics capacity steps many run c reading =
 -- an accepted UNSUBSCRIBE names one that is live
 pub unsubscribes_find : UnsubscribesFind
 unsubscribes_find topics capacity steps many run c f command idle none =
-    let k = core_of topics capacity steps in
-    let reached : IsReached k = record { topics = topics; capacity = capacity; steps = steps; as_many = many; is = refl; run = run } in
-    let live = names_live k c f reached (idle_reads k.world c idle) command none in
-    unsubscribe_free k.world c (number_by c (id_of f) k.steps) idle live.there live.live
+    let k = core_of topics capacity steps in let reached : IsReached k = record { topics = topics; capacity = capacity; steps = steps; as_many = many; is = refl; run = run } in
+    let live = names_live k c f reached (idle_reads k.world c idle) command none in unsubscribe_free k.world c (number_by c (id_of f) k.steps) idle live.there live.live

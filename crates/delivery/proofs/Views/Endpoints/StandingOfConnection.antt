@@ -1,24 +1,13 @@
 -- How each move changes the connections: one more is open, one isn't open any more, or none is changed. So a
 -- connection is closed where its standing says so, and never opens again.
-use Rattle.delivery.proofs.Words.Std.{◌≡◌, ◌≢◌, ℕ, ◌<◌, ◌≤◌, ◌==◌, Bool, true, false, not, ◌||◌, ◌⊎◌, inl, inr, List, [], ◌∷◌, ◌++◌, length, get_or, set, Some, None, refl, sym, ap, subst, ◌∙◌, arith, eqb-true, eq-eqb, false≢true, or_parts, not-false, cases_lt, length_push}
-use Rattle.delivery.proofs.Words.Lemmas.{at_set, at_set_within, not_true}
-use Rattle.delivery.proofs.Words.Machine.{World, Connection, Standing, is_reading, nobody, subscription_at, Move, Answer, world_after, answer_to, move_refusal, move_effect, move_answer, leave_answer, run, Run, answers_of, final_world, closes, Opens, Connects, Disconnects, Errs, Lost, Leaves, Withdraws, Takes}
-use Rattle.delivery.proofs.Words.Core.{has_closed}
-use Rattle.delivery.proofs.Machine.SubscriptionSteps.{at_old, set_length, beyond}
-use Rattle.delivery.proofs.Machine.InvariantIsKept.{by_refusal, checked}
-use Rattle.delivery.proofs.Machine.ByFound.{InEachCase, by_found, by_entry}
-use Rattle.delivery.proofs.Core.ByRun.{by_run}
-use Rattle.delivery.proofs.Core.Speaking.{open_in}
-use Rattle.delivery.proofs.Core.AccountOfRun.{spoken}
+use Rattle.delivery.proofs.Words.All.{◌≡◌, ◌≢◌, ℕ, ◌<◌, ◌≤◌, ◌==◌, Bool, true, false, not, ◌||◌, ◌⊎◌, inl, inr, List, [], ◌∷◌, ◌++◌, length, get_or, set, None, refl, sym, ap, subst, ◌∙◌, arith, eqb-true, eq-eqb, false≢true, or_parts, not-false, cases_lt, length_push, at_set, at_set_within, not_true, World, Connection, Standing, is_reading, nobody, subscription_at, Move, Answer, world_after, answer_to, move_refusal, run, Run, answers_of, final_world, closes, Opens, Connects, Disconnects, Errs, Lost, Leaves, Withdraws, Takes, has_closed}
+use Rattle.delivery.proofs.Words.Steps.{at_old, set_length, beyond, by_refusal, checked, InEachCase, by_found, always, by_run}
+use Rattle.delivery.proofs.Core.Speaking.{open_in, spoken}
 use Rattle.delivery.proofs.Core.Tests.{connection_there}
 
 -- two numbers are one, or they aren't
 pub same_or : (m n : ℕ) → (m ≡ n) ⊎ (m ≢ n)
-same_or m n = by_case (m == n) refl
-  where
-    by_case : (b : Bool) → (m == n) ≡ b → (m ≡ n) ⊎ (m ≢ n)
-    by_case true e = inl (eqb-true m n e)
-    by_case false e = inr (λ d. false≢true (sym e ∙ eq-eqb m n d))
+same_or m n = (elim (m == n) as (λ (b : Bool). (m == n) ≡ b → (m ≡ n) ⊎ (m ≢ n)) [ true ↦ λ e. inl (eqb-true m n e) | false ↦ λ e. inr (λ d. false≢true (sym e ∙ eq-eqb m n d)) ]) refl
 
 -- an open connection is there
 pub open_there : (cs : List Connection) (c : ℕ) → open_in cs c ≡ true → c < length cs
@@ -75,27 +64,19 @@ differ c d n = not_true (c == d) refl (λ e. n (eqb-true c d e))
 
 -- ---- each move
 
-abbrev After : World → Move → Type 0
-After w e = Stands w.connections (move_effect w e).connections (move_answer w e)
-
 happens : (w : World) (e : Move) → move_refusal w e ≡ None → InEachCase (λ v o. Stands w.connections v.connections o) w e
-happens w Opens n =
-    let h : After w Opens = inr (inr (inl (record { new = record { sender = None; standing = Standing.Open }; pushed = refl; none = λ d. refl }))) in (h, λ k. h)
-happens w (Connects c claimed) n =
-    let h : After w (Connects c claimed) = inr (inr (inr (record { number = c; new = _; set_to = refl; standing = refl; none = λ d. refl }))) in (h, λ k. h)
-happens w (Disconnects c) n =
-    let h : After w (Disconnects c) = shuts w.connections c _ _ (connection_there w c (checked w (Disconnects c) n).0) refl (λ d k. differ c d k) in (h, λ k. h)
-happens w (Errs c) n = let h : After w (Errs c) = shuts w.connections c _ _ (connection_there w c (checked w (Errs c) n).0) refl (λ d k. differ c d k) in (h, λ k. h)
-happens w (Lost c) n = let h : After w (Lost c) = shuts w.connections c _ _ (connection_there w c (checked w (Lost c) n).0) refl (λ d k. differ c d k) in (h, λ k. h)
+happens w Opens n = always (inr (inr (inl (record { new = record { sender = None; standing = Standing.Open }; pushed = refl; none = λ d. refl }))))
+happens w (Connects c claimed) n = always (inr (inr (inr (record { number = c; new = _; set_to = refl; standing = refl; none = λ d. refl }))))
+happens w (Disconnects c) n = always (shuts w.connections c _ _ (connection_there w c (checked w (Disconnects c) n).0) refl (λ d k. differ c d k))
+happens w (Errs c) n = always (shuts w.connections c _ _ (connection_there w c (checked w (Errs c) n).0) refl (λ d k. differ c d k))
+happens w (Lost c) n = always (shuts w.connections c _ _ (connection_there w c (checked w (Lost c) n).0) refl (λ d k. differ c d k))
 happens w (Leaves c) n = (
   shuts w.connections c _ _ (connection_there w c (checked w (Leaves c) n).0) refl (λ d k. refl),
-  λ s. by_entry (λ v. Stands w.connections v.connections (leave_answer w c (Some s))) w s (stay w.connections _ (λ d. refl)) (λ k. stay w.connections _ (λ d. refl)),
+  λ s. (stay w.connections _ (λ d. refl), λ k. stay w.connections _ (λ d. refl)),
 )
-happens w (Withdraws c) n =
-    let h : After w (Withdraws c) = shuts w.connections c _ _ (connection_there w c (checked w (Withdraws c) n).0) refl (λ d k. differ c d k) in (h, λ k. h)
+happens w (Withdraws c) n = always (shuts w.connections c _ _ (connection_there w c (checked w (Withdraws c) n).0) refl (λ d k. differ c d k))
 happens w (Takes s) n =
-    let c = (subscription_at w s).connection in
-    let l = open_there w.connections c (not-false (open_in w.connections c) (or_parts _ _ (checked w (Takes s) n).1.0).1) in
+    let c = (subscription_at w s).connection in let l = open_there w.connections c (not-false (open_in w.connections c) (or_parts _ _ (checked w (Takes s) n).1.0).1) in
     (shuts w.connections c _ _ l refl (λ d k. differ c d k), λ k. stay w.connections _ (λ d. refl))
 happens w _ n = (stay w.connections _ (λ d. refl), λ k. stay w.connections _ (λ d. refl))
 
@@ -116,8 +97,7 @@ grown_once before after o (inr (inr (inl h))) = let m = ap (λ (z : List Connect
 -- after these moves there are no fewer connections
 pub grown : (es : List Move) (w : World) → length w.connections ≤ length (run es w).connections
 grown [] w = omega arith
-grown (e ∷ es) w =
-    let a = grown_once w.connections (world_after w e).connections (answer_to w e) (stands_after w e) in let b = grown es (world_after w e) in omega arith
+grown (e ∷ es) w = let a = grown_once w.connections (world_after w e).connections (answer_to w e) (stands_after w e) in let b = grown es (world_after w e) in omega arith
 
 -- a connection is changed that stands as it stood
 same_open : (before : List Connection) (n : ℕ) (new : Connection) → new.standing ≡ (get_or before n nobody).standing → (c : ℕ) → open_in (set before n new) c ≡ open_in before c
@@ -151,8 +131,7 @@ unclosed c o past e h = ap (λ b. b || has_closed c past) e ∙ h
 calm_once : (before after : List Connection) (o : Answer) (past : List Answer) → Stands before after o
     → ((c : ℕ) → (c < length before → open_in before c ≡ true) → has_closed c past ≡ false)
     → (c : ℕ) → (c < length after → open_in after c ≡ true) → has_closed c (o ∷ past) ≡ false
-calm_once before after o past (inl s) h c p =
-    unclosed c o past (s.none c) (h c (subst (λ z. c < length z → open_in z c ≡ true) s.same p))
+calm_once before after o past (inl s) h c p = unclosed c o past (s.none c) (h c (subst (λ z. c < length z → open_in z c ≡ true) s.same p))
 calm_once before after o past (inr (inl s)) h c p =
     let q : c < length (set before s.number s.new) → open_in (set before s.number s.new) c ≡ true = subst (λ z. c < length z → open_in z c ≡ true) s.set_to p in
     let m = set_length before s.number s.new in let t = s.there in
@@ -164,8 +143,7 @@ calm_once before after o past (inr (inl s)) h c p =
     ]
 calm_once before after o past (inr (inr (inr s))) h c p =
     let q : c < length (set before s.number s.new) → open_in (set before s.number s.new) c ≡ true = subst (λ z. c < length z → open_in z c ≡ true) s.set_to p in
-    let m = set_length before s.number s.new in
-    unclosed c o past (s.none c) (h c (λ l. sym (same_open before s.number s.new s.standing c) ∙ q (omega arith)))
+    let m = set_length before s.number s.new in unclosed c o past (s.none c) (h c (λ l. sym (same_open before s.number s.new s.standing c) ∙ q (omega arith)))
 calm_once before after o past (inr (inr (inl s))) h c p =
     let q : c < length (before ++ s.new ∷ []) → open_in (before ++ s.new ∷ []) c ≡ true = subst (λ z. c < length z → open_in z c ≡ true) s.pushed p in
     let m = length_push before s.new in
@@ -179,8 +157,4 @@ calm = by_run Calm (λ capacity log_limit clocks c p. refl)
 
 -- a connection was closed where it isn't open
 pub closed_where_shut : (r : Run) (c : ℕ) → c < length (final_world r).connections → has_closed c (answers_of r) ≡ not (open_in (final_world r).connections c)
-closed_where_shut r c l = by_case (open_in (final_world r).connections c) refl
-  where
-    by_case : (b : Bool) → open_in (final_world r).connections c ≡ b → has_closed c (answers_of r) ≡ not b
-    by_case true e = calm r c (λ k. e)
-    by_case false e = (spoken r).speaking.shut c l e
+closed_where_shut r c l = (elim (open_in (final_world r).connections c) as (λ (b : Bool). open_in (final_world r).connections c ≡ b → has_closed c (answers_of r) ≡ not b) [ true ↦ λ e. calm r c (λ k. e) | false ↦ λ e. (spoken r).speaking.shut c l e ]) refl

@@ -1,24 +1,12 @@
 -- A ticket is cancelled.
-use Rattle.delivery.proofs.Words.Std.{◌≡◌, ℕ, suc, ◌+◌, ◌<◌, ◌==◌, Bool, true, false, cond, not, ◌&&◌, nat_lt, List, [], ◌∷◌, map, length, get_or, set, Option, Some, None, Result, Ok, Err, inl, inr, refl, sym, ap, subst, ◌∙◌, arith, slice_get, lt-ltb, ltb-true, cases_Bool, append-nil, position, position_or_len, remove, is_some, option_or, option_map}
-use Rattle.delivery.proofs.Words.Topics.{Ticket, Topic, TxnId, Stamp, same_id, In, CancelFault, GroupState, result_of, Pending, cancel_fault, cancel_fault_of, after_cancel}
-use Rattle.delivery.proofs.Words.Lemmas.{id_itself, refusal_first, refusal_after, Waits, found_part, finds_part, none_some, some_same}
-use Rattle.delivery.proofs.Words.Machine.{Objection, refusal_of, World, Leftover, SenderState, topic_at, sender_at, speaker, with_sender, with_topic, speaker_number, Move, Answer, move_refusal, needs_connection, is_topic, find_leftover, drop_leftover, cancel_objection, cancel_objection_of, cancel_effect, cancel_answer, Run, final_world}
-use Rattle.delivery.proofs.Words.Core.{Event, Outcome, Refusal, CoreStep, Reading, accepted_of, text_out, subscribe_frame, Core, names_at, unread_at}
-use Rattle.delivery.proofs.Words.Views.{there_objection, speaker_at, sender_in, is_group, cancel_refusal_in, cancelled_view, IsReached, Makes, step_of, View, SenderView, view_of, view_after, sender_view, group_view, ticket_of, group_in, no_group}
+use Rattle.delivery.proofs.Words.All.{◌≡◌, ℕ, suc, ◌+◌, ◌<◌, ◌==◌, Bool, true, false, cond, not, ◌&&◌, nat_lt, List, [], ◌∷◌, map, length, get_or, set, Option, Some, None, Result, Ok, Err, inl, inr, refl, sym, ap, subst, ◌∙◌, arith, slice_get, lt-ltb, ltb-true, cases_Bool, append-nil, position, position_or_len, remove, is_some, option_or, option_map, Ticket, Topic, TxnId, Stamp, same_id, In, CancelFault, GroupState, result_of, Pending, cancel_fault, cancel_fault_of, after_cancel, id_itself, refusal_first, refusal_after, Waits, found_part, finds_part, none_some, some_same, Objection, refusal_of, World, Leftover, SenderState, topic_at, sender_at, speaker, with_sender, with_topic, speaker_number, Move, Answer, move_refusal, needs_connection, is_topic, find_leftover, drop_leftover, cancel_objection, cancel_objection_of, cancel_effect, cancel_answer, Run, final_world, Event, Outcome, Refusal, CoreStep, Reading, accepted_of, text_out, subscribe_frame, Core, names_at, unread_at, there_objection, speaker_at, sender_in, is_group, cancel_refusal_in, cancelled_view, IsReached, Makes, step_of, View, SenderView, view_of, sender_view, group_view, ticket_of, group_in, no_group}
 use Rattle.delivery.specs.declared.refusal.Refusal.TheVariants as refusal
 use Rattle.delivery.specs.Inner.Senders.{no_ticket, leftover_at, leftover_in, leftover_view}
-use Rattle.delivery.proofs.Machine.Effects.{made_world, made_answer}
-use Rattle.delivery.proofs.Machine.Invariant.{topic_in}
-use Rattle.delivery.proofs.Machine.SenderSteps.{leftover_found}
-use Rattle.delivery.proofs.Theorem.AcceptedIsDue.{reached}
-use Rattle.delivery.proofs.Views.Runs.ByRunOfCore.{by_world}
+use Rattle.delivery.proofs.Words.Steps.{made_world, made_answer, topic_in, leftover_found, reached}
+use Rattle.delivery.proofs.Words.Changes.{by_world, IsQuiet, held_leftovers, sender_of, speaker_of, sender_of_endpoint, in_outcome, quiet_makes}
 use Rattle.delivery.proofs.Views.Events.ProposeStep.{group_there}
-use Rattle.delivery.proofs.Views.Endpoints.EndpointsStay.{IsQuiet, quiet_view}
 use Rattle.delivery.proofs.Views.Events.ReleaseStep.{group_at}
-use Rattle.delivery.proofs.Views.Senders.HeldSenders.{held_leftovers}
-use Rattle.delivery.proofs.Views.Senders.SenderChanges.{sender_of, speaker_of, sender_of_endpoint}
 use Rattle.delivery.proofs.Views.Senders.SameSeqAndReceipt.{sender_quiet, topic_quiet}
-use Rattle.delivery.proofs.Views.Events.OneMove.{in_outcome}
 use Rattle.delivery.proofs.Views.Events.ConnectionIsThere.{cancelling_speaking, there_checked, is_there, still_there, refused_step, refused_outcome}
 
 -- ---- the place of a ticket
@@ -52,8 +40,7 @@ found_at t (l ∷ ls) k e = go (l.ticket.topic.0 == t.0) refl (found_at t ls k) 
       others = ap (λ (b : Bool). map as_ticket (cond b ls (l ∷ drop_leftover t ls))) (sym same);
     }
     go false same later e =
-        let h = later e in
-        let next : 1 + h.index ≡ suc h.index = omega arith in
+        let h = later e in let next : 1 + h.index ≡ suc h.index = omega arith in
         record {
           index = suc h.index;
           place = ap (λ (b : Bool). cond (not b) (1 + position_or_len (is_of t) (map as_ticket ls)) 0) same
@@ -66,12 +53,10 @@ found_at t (l ∷ ls) k e = go (l.ticket.topic.0 == t.0) refl (found_at t ls k) 
 
 not_found : (t : Topic) (ks : List Leftover) → find_leftover t ks ≡ None → position_or_len (is_of t) (map as_ticket ks) ≡ length (map as_ticket ks)
 not_found t [] e = refl
-not_found t (l ∷ ls) e = go (l.ticket.topic.0 == t.0) (not_found t ls) e
-  where
-    go : (b : Bool) → (find_leftover t ls ≡ None → position_or_len (is_of t) (map as_ticket ls) ≡ length (map as_ticket ls)) → cond b (Some l) (find_leftover t ls) ≡ None
-        → cond (not b) (1 + position_or_len (is_of t) (map as_ticket ls)) 0 ≡ suc (length (map as_ticket ls))
-    go true later e = none_some l (sym e)
-    go false later e = let same = later e in omega (arith, same)
+not_found t (l ∷ ls) e = (elim (l.ticket.topic.0 == t.0) as (λ (b : Bool). (find_leftover t ls ≡ None → position_or_len (is_of t) (map as_ticket ls) ≡ length (map as_ticket ls)) → cond b (Some l) (find_leftover t ls) ≡ None → cond (not b) (1 + position_or_len (is_of t) (map as_ticket ls)) 0 ≡ suc (length (map as_ticket ls))) [
+  | true ↦ λ later e. none_some l (sym e)
+  | false ↦ λ later e. (let same = later e in omega (arith, same))
+]) (not_found t ls) e
 
 -- the place of one that is found
 place_is : (t : Topic) (ks : List Leftover) (k : Leftover) (h : FoundAt t ks k) → position (is_of t) (map as_ticket ks) ≡ Some h.index
@@ -94,12 +79,8 @@ no_place t ks e =
 -- a ticket that is to be cancelled is of a part that is pending and has learnt no stamp
 free_in : (r : Run) (s : ℕ) (t : Topic) (k : Leftover) → find_leftover t (sender_at (final_world r) s).leftovers ≡ Some k → cancel_fault k.id (topic_at (final_world r) t) ≡ None
 free_in r s t k e =
-    let w = final_world r in
-    let inv = (reached r).inv in
-    let g = leftover_found t (sender_at w s).leftovers k e in
-    let left = (inv.serves s).left k g.stands in
-    let waits = subst (λ u. Waits k.id (topic_in w.topics u).pending) g.topic left.waits in
-    let found = finds_part k.id (topic_at w t).pending waits.part waits.stands waits.is in
+    let w = final_world r in let inv = (reached r).inv in let g = leftover_found t (sender_at w s).leftovers k e in let left = (inv.serves s).left k g.stands in
+    let waits = subst (λ u. Waits k.id (topic_in w.topics u).pending) g.topic left.waits in let found = finds_part k.id (topic_at w t).pending waits.part waits.stands waits.is in
     let part = found_part k.id (topic_at w t).pending found.part found.found in
     ap cancel_fault_of found.found ∙ go found.part found.part.learnt refl part.stands part.is left.uncommitted
   where
@@ -107,12 +88,10 @@ free_in r s t k e =
         → Rattle.delivery.proofs.Machine.Invariant.Uncommitted (final_world r).commits k.id → cancel_fault_of (Some p) ≡ None
     go p None is stands own un = ap (λ (o : Option Stamp). cond (is_some o) (Some CancelFault.Decided) None) is
     go p (Some stamp) is stands own un =
-        let d = ((reached r).inv.tied t).decided p stands stamp is in
-        absurd (un d.row d.stands (ap (λ (i : TxnId). same_id i k.id) (d.id_is ∙ own) ∙ id_itself k.id))
+        let d = ((reached r).inv.tied t).decided p stands stamp is in absurd (un d.row d.stands (ap (λ (i : TxnId). same_id i k.id) (d.id_is ∙ own) ∙ id_itself k.id))
 
 cancel_free : (q : Core) (s : ℕ) (t : Topic) (k : Leftover) → IsReached q → find_leftover t (sender_at q.world s).leftovers ≡ Some k → cancel_fault k.id (topic_at q.world t) ≡ None
-cancel_free q s t k was =
-    by_world (λ w. find_leftover t (sender_at w s).leftovers ≡ Some k → cancel_fault k.id (topic_at w t) ≡ None) q was (λ r. free_in r s t k)
+cancel_free q s t k was = by_world (λ w. find_leftover t (sender_at w s).leftovers ≡ Some k → cancel_fault k.id (topic_at w t) ≡ None) q was (λ r. free_in r s t k)
 
 -- ---- what stands against it
 
@@ -159,8 +138,7 @@ refusal_checked q c s t was free own =
 
 -- the topic takes out the part of each ticket that is to be cancelled there
 pub cancel_takes : (q : Core) (s : ℕ) (t : Topic) (i : ℕ) → IsReached q → s < length q.world.senders → is_group t (view_of q).groups ≡ true
-    → leftover_at t (sender_in (view_of q) s) ≡ Some i
-    → cancel_fault (leftover_in (sender_in (view_of q) s) i).id (group_in (view_of q) t).topic ≡ None
+    → leftover_at t (sender_in (view_of q) s) ≡ Some i → cancel_fault (leftover_in (sender_in (view_of q) s) i).id (group_in (view_of q) t).topic ≡ None
 cancel_takes q s t i was there grouped at = by (find_leftover t ks) refl
   where
     ks : List Leftover
@@ -175,10 +153,8 @@ cancel_takes q s t i was there grouped at = by (find_leftover t ks) refl
     by : (o : Option Leftover) → find_leftover t ks ≡ o → cancel_fault (leftover_in (sender_in (view_of q) s) i).id (group_in (view_of q) t).topic ≡ None
     by None e = none_some i (sym (no_place t ks e) ∙ placed)
     by (Some k) e =
-        let h = found_at t ks k e in
-        let same : i ≡ h.index = some_same i h.index (sym placed ∙ place_is t ks k h) in
-        let topic : is_topic q.world t ≡ true = sym (group_there q t was) ∙ grouped in
-        let group = group_at q t no_group (ltb-true t.0 (length q.world.topics) topic) in
+        let h = found_at t ks k e in let same : i ≡ h.index = some_same i h.index (sym placed ∙ place_is t ks k h) in
+        let topic : is_topic q.world t ≡ true = sym (group_there q t was) ∙ grouped in let group = group_at q t no_group (ltb-true t.0 (length q.world.topics) topic) in
         ap (λ (ts : List Ticket). cancel_fault (get_or ts i no_ticket).id (group_in (view_of q) t).topic) left
         ∙ (ap (λ (n : ℕ). cancel_fault (get_or (map as_ticket ks) n no_ticket).id (group_in (view_of q) t).topic) same
         ∙ (ap (λ (y : Ticket). cancel_fault y.id (group_in (view_of q) t).topic) h.is
@@ -245,18 +221,10 @@ quiet names c t older = record { accepted = λ d. append-nil (accepted_of d olde
 pub cancel_makes : (q : Core) (c s : ℕ) (t : Topic) → IsReached q → there_objection (slice_get (view_of q).endpoints c) ≡ None → s ≡ speaker_at (view_of q) c
     → None ≡ cancel_refusal_in t s (view_of q) → Makes q (Event.Cancel c t) Outcome.Cancelled (cancelled_view t s (view_of q))
 cancel_makes q c s t was free own allowed =
-    let w = q.world in
-    let v = view_of q in
-    let n = speaker_number w c in
-    let x = speaker w c in
-    let there = is_there q c free in
-    let can = cancels w c t (allowed ∙ refusal_checked q c s t was free own) in
-    let k = can.ticket in
-    let h = found_at t x.leftovers k can.found in
-    let held = sender_of_endpoint q c s was there (still_there q c free) own in
-    let y = after_cancel k.id (topic_at w t) in
+    let w = q.world in let v = view_of q in let n = speaker_number w c in let x = speaker w c in let there = is_there q c free in
+    let can = cancels w c t (allowed ∙ refusal_checked q c s t was free own) in let k = can.ticket in let h = found_at t x.leftovers k can.found in
+    let held = sender_of_endpoint q c s was there (still_there q c free) own in let y = after_cancel k.id (topic_at w t) in
     let new : SenderState = record x { leftovers = drop_leftover t x.leftovers } in
-    let step = step_of (Event.Cancel c t) Reading.Nothing Outcome.Cancelled in
     let moved : move_refusal w (Move.Cancels c t) ≡ None =
     move_checked q c t was free
     ∙ (ap (λ (b : Bool). cond b (left_objection (find_leftover t x.leftovers)) (Some Objection.NotNamed)) can.topic ∙ ap left_objection can.found) in
@@ -270,18 +238,10 @@ cancel_makes q c s t was free own allowed =
     ∙ (ap (λ (ts : List Ticket). set v.senders s (record (sender_view n x) { leftovers = ts })) h.others
     ∙ ap (λ (m : ℕ). set v.senders m (sender_view n new)) (own ∙ speaker_of q c there)) in
     let world = made_world w (Move.Cancels c t) moved ∙ ap (cancel_effect w c t) can.found in
-    record {
-      reading = Reading.Nothing;
-      may = record {
-        reading = refl;
-        outcome = in_outcome q (Move.Cancels c t) Outcome.Cancelled (Answer.Cancelled k.id t)
-            (made_answer w (Move.Cancels c t) moved ∙ ap (cancel_answer t) can.found) refl;
-      };
-      view = ap (leftover_view t s v) place
-          ∙ ((λ i. record v { groups = groups i; senders = senders i })
-          ∙ (ap (λ (u : View). record u { groups = set u.groups t.0 (group_view w y) })
-          (sender_quiet q c new was there (cancelling_speaking q c k free (leftover_found t x.leftovers k can.found).stands) refl (λ accepted. refl) (λ m. accepted_of m q.steps) (λ m. unread_at m q.steps) (λ m. text_out q.names m q.steps) (λ m. subscribe_frame m q.steps))
-          ∙ (topic_quiet (names_at q) (with_sender w n new) t y (λ m. accepted_of m q.steps) (λ m. unread_at m q.steps) (λ m. text_out q.names m q.steps) (λ m. subscribe_frame m q.steps)
-          ∙ (sym (quiet_view q.names step q.steps (with_topic (with_sender w n new) t y) (quiet q.names c t q.steps))
-          ∙ ap (λ (z : World). view_after q.names z (step ∷ q.steps)) (sym world)))));
-    }
+    quiet_makes q (Event.Cancel c t) Outcome.Cancelled (with_topic (with_sender w n new) t y) (quiet q.names c t q.steps) refl
+    (in_outcome q (Move.Cancels c t) Outcome.Cancelled (Answer.Cancelled k.id t) (made_answer w (Move.Cancels c t) moved ∙ ap (cancel_answer t) can.found) refl) world
+    (ap (leftover_view t s v) place
+    ∙ ((λ i. record v { groups = groups i; senders = senders i })
+    ∙ (ap (λ (u : View). record u { groups = set u.groups t.0 (group_view w y) })
+    (sender_quiet q c new was there (cancelling_speaking q c k free (leftover_found t x.leftovers k can.found).stands) refl (λ accepted. refl) (λ m. accepted_of m q.steps) (λ m. unread_at m q.steps) (λ m. text_out q.names m q.steps) (λ m. subscribe_frame m q.steps))
+    ∙ topic_quiet (names_at q) (with_sender w n new) t y (λ m. accepted_of m q.steps) (λ m. unread_at m q.steps) (λ m. text_out q.names m q.steps) (λ m. subscribe_frame m q.steps))))

@@ -1,32 +1,21 @@
 -- A Next whose frame is a CONNECT: its connection speaks for the sender that it claims.
-use Rattle.delivery.proofs.Words.Std.{◌≡◌, ◌≢◌, ℕ, ◌<◌, nat_lt, Bool, true, false, cond, not, List, [], ◌∷◌, ◌++◌, length, get_or, set, Option, Some, None, refl, sym, ap, subst, ◌∙◌, arith, append-nil, flat_map, is_some, option_map, option_map_or, option_or, unwrap_or, lt-ltb, ltb-true, get_or-set_same, get_or-set_other, set-get_or}
-use Rattle.delivery.proofs.Words.Topics.{first_refusal, GateState, SendersState, after_claim, claim_refusal, claimed_gate, new_gate}
-use Rattle.delivery.proofs.Words.Frames.{is_connect, RawFrame, Unread, connected_frame, spelling_of, client_of}
-use Rattle.delivery.proofs.Words.Lemmas.{some_same, none_some, not_true}
-use Rattle.delivery.proofs.Words.Machine.{Objection, World, Connection, SenderState, Undecided, is_gone, nobody, new_sender, connection_at, sender_at, speaker, speaks_for, is_in_use, Move, claimed_senders, connect_effect, move_refusal, needs_idle, run}
-use Rattle.delivery.proofs.Words.Core.{ConnectionFault, Event, Outcome, Sending, begun_count, claim_of, claimed_sender, claims_of, is_one_too_many, receipts_of, subscribe_frame, text_out, claim_fault, frame_no_memory, Core, core_for, next_moves, session_at, unread_at, Reading, accepted_of, each_number, live_numbers}
-use Rattle.delivery.proofs.Words.Views.{AreClaimed, AreClients, MakesBoth, MayResume, refused_claim, with_sender_of, Asks, MayEnd, no_sender, sender_in, EndpointView, SenderView, View, endpoint_view, held_sender, sender_view, sending_view, stage_view, verdict_list, view_after, view_with, written_endpoint}
+use Rattle.delivery.proofs.Words.All.{◌≡◌, ◌≢◌, ℕ, ◌<◌, nat_lt, Bool, true, false, cond, not, List, [], ◌∷◌, ◌++◌, length, get_or, set, Option, Some, None, refl, sym, ap, subst, ◌∙◌, arith, append-nil, flat_map, is_some, option_map, option_map_or, option_or, unwrap_or, lt-ltb, ltb-true, get_or-set_same, get_or-set_other, set-get_or, first_refusal, GateState, SendersState, after_claim, claim_refusal, claimed_gate, new_gate, is_connect, RawFrame, Unread, connected_frame, spelling_of, client_of, some_same, none_some, not_true, Objection, World, Connection, SenderState, Undecided, is_gone, nobody, new_sender, connection_at, sender_at, speaker, speaks_for, is_in_use, Move, claimed_senders, connect_effect, move_refusal, needs_idle, run, ConnectionFault, Event, Outcome, Sending, begun_count, claim_of, claimed_sender, claims_of, is_one_too_many, receipts_of, subscribe_frame, text_out, claim_fault, frame_no_memory, Core, core_for, next_moves, session_at, unread_at, Reading, accepted_of, each_number, live_numbers, AreClaimed, AreClients, MakesBoth, MayResume, refused_claim, with_sender_of, Asks, MayEnd, no_sender, sender_in, EndpointView, SenderView, View, endpoint_view, held_sender, sender_view, sending_view, stage_view, verdict_list, view_after, view_with, written_endpoint}
 use Rattle.stomp_session.specs.declared.action.Action.TheVariants as actions
 use Rattle.sender_gate.specs.declared.fault.ClaimFault.{ClaimFault}
 use Rattle.delivery.specs.Machine.Moves.{claim_refusals}
-use Rattle.delivery.proofs.Core.ClaimsStand.{connect_of, connect_plain}
+use Rattle.delivery.proofs.Words.Changes.{connect_of, connect_plain, with_endpoint, length-each_number, speaks_of, stand_of, held_leftovers, held_same, spoken_used, unused_rests, used_held, number_at, number_set}
 use Rattle.delivery.proofs.Core.FrameWorld.{framed_none}
 use Rattle.delivery.proofs.Machine.SubscriptionSteps.{beyond}
 use Rattle.delivery.proofs.Theorem.SendersAreOwn.{silent, speaks, spoken_sender, unspoken}
 use Rattle.delivery.proofs.Views.Clients.Claiming.{UsesOne, after_it, claimed_begun, claimed_number, new_gate_is, own_gate_is, refused_alike}
 use Rattle.delivery.proofs.Views.Clients.RestingStay.{any_set}
-use Rattle.delivery.proofs.Views.Endpoints.EndpointChanges.{with_endpoint}
 use Rattle.delivery.proofs.Views.Events.NextFaults.{asked_objection, by_fault, fault_of_frame, may_lack}
 use Rattle.delivery.proofs.Views.Events.WantsMemory.{connect_wants}
 use Rattle.delivery.proofs.Views.Events.NextFrames.{move_may, moved_world, names_for, replied_view}
 use Rattle.delivery.proofs.Views.Events.NextStep.{held_still, idle_flight, idle_open, idle_there, next_of}
 use Rattle.delivery.proofs.Views.Events.NextTxns.{later_free}
 use Rattle.delivery.proofs.Views.Events.OpenStep.{get_or-push_default, pushed}
-use Rattle.delivery.proofs.Views.Lists.ByNumber.{length-each_number}
-use Rattle.delivery.proofs.Views.Runs.ByRunOfCore.{speaks_of, stand_of}
 use Rattle.delivery.proofs.Views.Senders.ConnectedSpeak.{has_none}
-use Rattle.delivery.proofs.Views.Senders.HeldSenders.{held_leftovers, held_same, spoken_used, unused_rests, used_held}
-use Rattle.delivery.proofs.Views.Senders.SenderChanges.{number_at, number_set}
 
 -- ---- the machine
 
@@ -39,16 +28,14 @@ same_sender w c (Some s) r = refl
 claimed_used : (w : World) (c : ℕ) (claimed : Option ℕ) → c < length w.connections → is_gone (connection_at w c).standing ≡ false
     → is_in_use (connect_effect w c claimed) (unwrap_or claimed (length w.senders)) ≡ true
 claimed_used w c claimed there staying =
-    let s = unwrap_or claimed (length w.senders) in
-    let x : Connection = record { sender = Some s; standing = (connection_at w c).standing } in
+    let s = unwrap_or claimed (length w.senders) in let x : Connection = record { sender = Some s; standing = (connection_at w c).standing } in
     spoken_used (connect_effect w c claimed) c s (ap (speaks_for s) (get_or-set_same w.connections c x nobody there) ∙ speaks s x staying refl)
 
 -- and each other one where it was
 others_used : (w : World) (c : ℕ) (claimed : Option ℕ) → (connection_at w c).sender ≡ None
     → (r : ℕ) → r ≢ unwrap_or claimed (length w.senders) → is_in_use (connect_effect w c claimed) r ≡ is_in_use w r
 others_used w c claimed none r apart =
-    let s = unwrap_or claimed (length w.senders) in
-    let x : Connection = record { sender = Some s; standing = (connection_at w c).standing } in
+    let s = unwrap_or claimed (length w.senders) in let x : Connection = record { sender = Some s; standing = (connection_at w c).standing } in
     any_set (speaks_for r) w.connections c x nobody
     (not_true (speaks_for r x) refl (λ e. apart (some_same r s (sym (spoken_sender r x e)))) ∙ sym (silent r (connection_at w c) none))
 
@@ -76,22 +63,15 @@ other_speaker w c claimed n other None e =
 other_endpoint : (names : List (List ℕ)) (w : World) (c : ℕ) (claimed : Option ℕ) (n : ℕ) (accepted : List RawFrame) (unread : Unread) (text : List ℕ) → n ≢ c
     → endpoint_view names w n accepted unread text ≡ endpoint_view names (connect_effect w c claimed) n accepted unread text
 other_endpoint names w c claimed n accepted unread text other =
-    let v = connect_effect w c claimed in
-    let same : connection_at w n ≡ connection_at v n = sym (get_or-set_other w.connections c n _ nobody other) in
+    let v = connect_effect w c claimed in let same : connection_at w n ≡ connection_at v n = sym (get_or-set_other w.connections c n _ nobody other) in
     let spoken : speaker w n ≡ speaker v n =
     other_speaker w c claimed n other (connection_at w n).sender refl ∙ ap (λ (x : Connection). sender_at v (unwrap_or x.sender (length v.senders))) same in
-    λ i. record {
-      sender = (same i).sender;
-      stage = stage_view names (same i).standing (spoken i).flight accepted unread;
-      live = live_numbers n 0 w.subscriptions;
-      output = text;
-    }
+    λ i. record { sender = (same i).sender; stage = stage_view names (same i).standing (spoken i).flight accepted unread; live = live_numbers n 0 w.subscriptions; output = text }
 
 own_endpoint : (names : List (List ℕ)) (w : World) (c : ℕ) (claimed : Option ℕ) (gate : GateState) (accepted : List RawFrame) (unread : Unread) (text : List ℕ) → ConnectsFree w c claimed gate
     → record (endpoint_view names w c accepted unread text) { sender = Some gate.sender.0 } ≡ endpoint_view names (connect_effect w c claimed) c accepted unread text
 own_endpoint names w c claimed gate accepted unread text h =
-    let v = connect_effect w c claimed in
-    let s = unwrap_or claimed (length w.senders) in
+    let v = connect_effect w c claimed in let s = unwrap_or claimed (length w.senders) in
     let x : Connection = record { sender = Some s; standing = (connection_at w c).standing } in
     let now : connection_at v c ≡ x = get_or-set_same w.connections c x nobody h.there in
     let flight : (speaker w c).flight ≡ (speaker v c).flight =
@@ -144,22 +124,18 @@ claimed_whole names w c claimed gate d h accepted unread text began = by claimed
     woken : View → View
     woken v = record v { senders = set v.senders gate.sender.0 (record (sender_in v gate.sender.0) { sending = Sending.Idle gate }) }
 
-    by : (o : Option ℕ) → claimed ≡ o
-        → set (each_number (λ n. endpoint_view names w n (accepted n) (unread n) (text n)) 0 w.connections) c
+    by : (o : Option ℕ) → claimed ≡ o → set (each_number (λ n. endpoint_view names w n (accepted n) (unread n) (text n)) 0 w.connections) c
         (record (get_or (each_number (λ n. endpoint_view names w n (accepted n) (unread n) (text n)) 0 w.connections) c d) { sender = Some gate.sender.0 })
         ≡ each_number (λ n. endpoint_view names (connect_effect w c claimed) n (accepted n) (unread n) (text n)) 0 (connect_effect w c claimed).connections
         → spoken_for c gate.sender.0 d (with_sender_of gate (view_with names w accepted unread text began)) ≡ view_with names (connect_effect w c claimed) accepted unread text began
     by None e ends =
-        let v0 = view_with names w accepted unread text began in
-        let new = connect_effect w c claimed in
-        let is_new : new.senders ≡ w.senders ++ new_sender ∷ [] = ap (claimed_senders w.senders) e in
-        let gate_is = h.fresh e in
+        let v0 = view_with names w accepted unread text began in let new = connect_effect w c claimed in
+        let is_new : new.senders ≡ w.senders ++ new_sender ∷ [] = ap (claimed_senders w.senders) e in let gate_is = h.fresh e in
         let next : unwrap_or claimed (length w.senders) ≡ length w.senders = ap (λ (o : Option ℕ). unwrap_or o (length w.senders)) e in
         let number : gate.sender.0 ≡ length w.senders = ap (λ (g : GateState). g.sender.0) gate_is in
         let beyond_all : nat_lt gate.sender.0 (length v0.senders) ≡ false =
         not_true (nat_lt gate.sender.0 (length v0.senders)) refl (λ t. (let q = ltb-true gate.sender.0 (length v0.senders) t in absurd (omega (arith, q, number, many)))) in
-        let x : SenderView = record { sending = Sending.Idle gate; leftovers = [] } in
-        let state : (n : ℕ) → sender_at new n ≡ sender_at w n = same_sender w c claimed in
+        let x : SenderView = record { sending = Sending.Idle gate; leftovers = [] } in let state : (n : ℕ) → sender_at new n ≡ sender_at w n = same_sender w c claimed in
         let last : sender_at new (length w.senders) ≡ new_sender = state (length w.senders) ∙ beyond w.senders (length w.senders) new_sender (omega arith) in
         let senders : v0.senders ++ x ∷ [] ≡ each_number (held_sender new) 0 new.senders =
         pushed (held_sender w) (held_sender new) w.senders new_sender x (λ n l. others n (λ is. absurd (omega (arith, l, is, next))))
@@ -174,15 +150,11 @@ claimed_whole names w c claimed gate d h accepted unread text began = by claimed
         ap (λ (b : Bool). spoken_for c gate.sender.0 d (cond b (woken v0) (grown v0))) beyond_all
         ∙ (λ i. record v0 { senders = senders i; verdicts = verdicts i; endpoints = ends i })
     by (Some s) e ends =
-        let v0 = view_with names w accepted unread text began in
-        let new = connect_effect w c claimed in
+        let v0 = view_with names w accepted unread text began in let new = connect_effect w c claimed in
         let same : w.senders ≡ new.senders = sym (ap (claimed_senders w.senders) e) in
-        let state : (n : ℕ) → sender_at w n ≡ sender_at new n = λ n. sym (same_sender w c claimed n) in
-        let l = h.within s e in
-        let chosen : unwrap_or claimed (length w.senders) ≡ s = ap (λ (o : Option ℕ). unwrap_or o (length w.senders)) e in
-        let number : gate.sender.0 ≡ s = h.number ∙ chosen in
-        let below : nat_lt gate.sender.0 (length v0.senders) ≡ true = lt-ltb gate.sender.0 (length v0.senders) (omega (arith, l, number, many)) in
-        let x = sender_at w s in
+        let state : (n : ℕ) → sender_at w n ≡ sender_at new n = λ n. sym (same_sender w c claimed n) in let l = h.within s e in
+        let chosen : unwrap_or claimed (length w.senders) ≡ s = ap (λ (o : Option ℕ). unwrap_or o (length w.senders)) e in let number : gate.sender.0 ≡ s = h.number ∙ chosen in
+        let below : nat_lt gate.sender.0 (length v0.senders) ≡ true = lt-ltb gate.sender.0 (length v0.senders) (omega (arith, l, number, many)) in let x = sender_at w s in
         let flight : x.flight ≡ None = ap (λ (n : ℕ). (sender_at w n).flight) (sym chosen) ∙ h.rests in
         let sending : Sending.Idle gate ≡ sending_view s x.seq x.floor x.flight =
         ap Sending.Idle (h.goes_on s e) ∙ ap (λ (o : Option Undecided). sending_view s x.seq x.floor o) (sym flight) in
@@ -211,19 +183,15 @@ sender_endpoints gate v = by (nat_lt gate.sender.0 (length v.senders))
 
 -- ---- nothing stands against it
 
-claim_passes : (w : World) (claimed : Option ℕ) → ((s : ℕ) → claimed ≡ Some s → s < length w.senders) → option_map_or (is_in_use w) claimed false ≡ false
-    → first_refusal (claim_refusals w claimed) ≡ None
-claim_passes w None within unused = refl
-claim_passes w (Some s) within unused =
-    (λ i. first_refusal ((not (lt-ltb s (length w.senders) (within s refl) i), Objection.NoSender) ∷ (unused i, Objection.InUse) ∷ []))
-
 pub connect_free : (w : World) (c : ℕ) (claimed : Option ℕ) → first_refusal (needs_idle w c) ≡ None → (connection_at w c).sender ≡ None
-    → ((s : ℕ) → claimed ≡ Some s → s < length w.senders) → option_map_or (is_in_use w) claimed false ≡ false
-    → move_refusal w (Move.Connects c claimed) ≡ None
+    → ((s : ℕ) → claimed ≡ Some s → s < length w.senders) → option_map_or (is_in_use w) claimed false ≡ false → move_refusal w (Move.Connects c claimed) ≡ None
 connect_free w c claimed idle none within unused =
     ap (λ (o : Option Objection). option_or o None)
     (later_free (needs_idle w c) ((is_some (connection_at w c).sender, Objection.HasSender) ∷ claim_refusals w claimed) idle
-    (ap (λ (o : Option ℕ). first_refusal ((is_some o, Objection.HasSender) ∷ claim_refusals w claimed)) none ∙ claim_passes w claimed within unused))
+    (ap (λ (o : Option ℕ). first_refusal ((is_some o, Objection.HasSender) ∷ claim_refusals w claimed)) none ∙ (elim claimed as (λ (claimed : Option ℕ). ((s : ℕ) → claimed ≡ Some s → s < length w.senders) → option_map_or (is_in_use w) claimed false ≡ false → first_refusal (claim_refusals w claimed) ≡ None) [
+      | None ↦ λ within unused. refl
+      | Some s ↦ λ within unused. (λ i. first_refusal ((not (lt-ltb s (length w.senders) (within s refl) i), Objection.NoSender) ∷ (unused i, Objection.InUse) ∷ []))
+    ]) within unused))
 
 -- the first of two refusals
 pub first_fails : (a b : Bool) → first_refusal ((a, ConnectionFault.SenderInUse) ∷ (b, ConnectionFault.TooManyClients) ∷ []) ≡ None → a ≡ false
@@ -272,15 +240,17 @@ module _ (k : Core) (c : ℕ) (f : RawFrame) (left : Unread) (client receipt : O
   sender_unused allowed s e = ap (λ (o : Option ℕ). option_map_or (is_in_use k.world) o false) (sym e) ∙ unused allowed
 
   -- nothing stands against it
-  connects_free : claim_refusal client clients ≡ None
-      → ConnectsFree (core_for k f).world c (claimed_sender client (claims_of k.steps)) (claimed_gate client clients)
+  connects_free : claim_refusal client clients ≡ None → ConnectsFree (core_for k f).world c (claimed_sender client (claims_of k.steps)) (claimed_gate client clients)
   connects_free allowed =
       subst (λ (z : Core). ConnectsFree z.world c (claimed_sender client (claims_of k.steps)) (claimed_gate client clients)) (sym same_core) (record {
         there = idle_there k.world c asks.idle;
         staying = ap is_gone (idle_open k.world c asks.idle);
         none = speaks_for_none;
         idle = idle_flight k.world c asks.idle;
-        rests = rested (claimed_sender client (claims_of k.steps)) refl;
+        rests = (elim (claimed_sender client (claims_of k.steps)) as (λ (o : Option ℕ). claimed_sender client (claims_of k.steps) ≡ o → (sender_at k.world (unwrap_or o (length k.world.senders))).flight ≡ None) [
+          | None ↦ λ e. ap (λ (y : SenderState). y.flight) (beyond k.world.senders (length k.world.senders) new_sender (omega arith))
+          | Some s ↦ λ e. ((speaks_of k asks.reached).resting s (unspoken k.world s (sender_unused allowed s e))).0
+        ]) refl;
         number = claimed_number k.world (claims_of k.steps) clients kept client
             ∙ ap (λ (n : ℕ). unwrap_or (claimed_sender client (claims_of k.steps)) n) (sym many);
         fresh = λ none. new_gate_is k.world (claims_of k.steps) clients kept client none ∙ ap (λ (n : ℕ). new_gate (record { 0 = n })) (sym many);
@@ -288,10 +258,6 @@ module _ (k : Core) (c : ℕ) (f : RawFrame) (left : Unread) (client receipt : O
         within = within;
         free = connect_free k.world c (claimed_sender client (claims_of k.steps)) asks.idle speaks_for_none within (unused allowed);
       })
-    where
-      rested : (o : Option ℕ) → claimed_sender client (claims_of k.steps) ≡ o → (sender_at k.world (unwrap_or o (length k.world.senders))).flight ≡ None
-      rested None e = ap (λ (y : SenderState). y.flight) (beyond k.world.senders (length k.world.senders) new_sender (omega arith))
-      rested (Some s) e = ((speaks_of k asks.reached).resting s (unspoken k.world s (sender_unused allowed s e))).0
 
   -- a refusal of theirs ends it
   pub claim_refused : (fault : ClaimFault) → claim_refusal client clients ≡ Some fault → MayEnd k c f (refused_claim fault)
@@ -342,21 +308,12 @@ module _ (k : Core) (c : ℕ) (f : RawFrame) (left : Unread) (client receipt : O
 
   -- its connection speaks for the sender that it claims, and is answered by CONNECTED
   pub connect_both : (written mid new : View) (s : ℕ) (later : SendersState) (d : EndpointView) → claim_refusal client clients ≡ None
-      → written ≡ with_endpoint held c (written_endpoint (spelling_of connected_frame) (get_or held.endpoints c d))
-      → (claimed_gate client clients).sender.0 ≡ s
-      → mid ≡ with_sender_of (claimed_gate client clients) written
-      → new ≡ spoken_for c s d mid
-      → later ≡ after_claim client clients
+      → written ≡ with_endpoint held c (written_endpoint (spelling_of connected_frame) (get_or held.endpoints c d)) → (claimed_gate client clients).sender.0 ≡ s
+      → mid ≡ with_sender_of (claimed_gate client clients) written → new ≡ spoken_for c s d mid → later ≡ after_claim client clients
       → MakesBoth k (Event.Next c) Outcome.Done new later
   connect_both written mid new s later d allowed wrote number claimed spoke after =
-      let before = claims_of k.steps in
-      let sender = claimed_sender client before in
-      let gate = claimed_gate client clients in
-      let move = Move.Connects c sender in
-      let step = next_of c (Reading.Finds f left) Outcome.Done in
-      let steps = step ∷ k.steps in
-      let q = core_for k f in
-      let can = connects_free allowed in
+      let before = claims_of k.steps in let sender = claimed_sender client before in let gate = claimed_gate client clients in let move = Move.Connects c sender in
+      let step = next_of c (Reading.Finds f left) Outcome.Done in let steps = step ∷ k.steps in let q = core_for k f in let can = connects_free allowed in
       let unclaimed : claim_fault k (actions.Connected client) ≡ None = claim_alike ∙ ap (option_map refused_claim) allowed in
       let whole = claimed_whole (names_for k f) q.world c sender gate d can (λ n. accepted_of n steps) (λ n. unread_at n steps) (λ n. text_out k.names n steps) (λ n. subscribe_frame n k.steps) in
       let world : run (next_moves k c (Reading.Finds f left) Outcome.Done) k.world ≡ connect_effect q.world c sender =

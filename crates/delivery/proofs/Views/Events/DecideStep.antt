@@ -1,11 +1,5 @@
 -- A transaction is decided.
-use Rattle.delivery.proofs.Words.Std.{◌≡◌, ◌≢◌, ℕ, zero, suc, ◌-◌, ◌<◌, ◌==◌, Bool, true, false, cond, not, ◌&&◌, ◌||◌, List, [], ◌∷◌, ◌++◌, map, length, get_or, set, Option, Some, None, refl, sym, ap, ◌∙◌, slice_get, eq-eqb, lt-ltb, map-append, append-nil, set-get_or, list_any, list_all, flat_map, is_some, option_map, option_map_or, option_and_then}
-use Rattle.delivery.proofs.Words.Topics.{Topic, TxnId, Stamp, Decision, row_at, first_refusal, LogRow, greatest, topics_of, ProposeFault}
-use Rattle.delivery.proofs.Words.Frames.{RawFrame, Unread, receipt_of, receipt_frame, spelling_of}
-use Rattle.delivery.proofs.Words.Lemmas.{refusal_first, refusal_after}
-use Rattle.delivery.proofs.Words.Machine.{log_row, Objection, refusal_of, World, Undecided, SenderState, Connection, Standing, is_reading, is_gone, nobody, connection_at, sender_at, speaker, with_sender, speaker_number, Move, Answer, move_refusal, needs_connection, has_ticket, is_complete, undecided_or_none, undecided_at, decide_effect, with_leaving, run}
-use Rattle.delivery.proofs.Words.Core.{Event, Outcome, Refusal, Sending, account_of, has_closed, receipts_of, receipt_asked, commit_frame, replies_to, text_out, subscribe_frame, Reading, accepted_of, Core, unread_at, names_at, each_number, move_outcome, is_any}
-use Rattle.delivery.proofs.Words.Views.{there_objection, speaker_at, sender_in, decide_refusal, decision_of, decided_row, decided_sender, decided_view, receipt_in, confirmed_view, IsReached, Makes, step_of, EndpointView, SenderView, held_sender, view_of, view_with, view_after, sender_view, sending_view, undecided_view, endpoint_view, stage_view, parting_receipt, leaving_endpoint, no_endpoint, verdict_list}
+use Rattle.delivery.proofs.Words.All.{◌≡◌, ◌≢◌, ℕ, zero, suc, ◌-◌, ◌<◌, ◌==◌, Bool, true, false, cond, not, ◌&&◌, ◌||◌, List, [], ◌∷◌, ◌++◌, map, length, get_or, set, Option, Some, None, refl, sym, ap, ◌∙◌, slice_get, eq-eqb, lt-ltb, map-append, append-nil, set-get_or, list_any, list_all, flat_map, is_some, option_map, option_map_or, option_and_then, Topic, TxnId, Stamp, Decision, row_at, first_refusal, LogRow, greatest, topics_of, ProposeFault, RawFrame, Unread, receipt_of, receipt_frame, spelling_of, refusal_first, refusal_after, log_row, Objection, refusal_of, World, Undecided, SenderState, Connection, Standing, is_reading, is_gone, nobody, connection_at, sender_at, speaker, with_sender, speaker_number, Move, Answer, move_refusal, needs_connection, has_ticket, is_complete, undecided_or_none, undecided_at, decide_effect, with_leaving, run, Event, Outcome, Refusal, Sending, account_of, has_closed, receipts_of, receipt_asked, commit_frame, replies_to, text_out, subscribe_frame, Reading, accepted_of, Core, unread_at, names_at, each_number, move_outcome, is_any, there_objection, speaker_at, sender_in, decide_refusal, decision_of, decided_row, decided_sender, decided_view, receipt_in, confirmed_view, IsReached, Makes, step_of, EndpointView, SenderView, held_sender, view_of, view_with, view_after, sender_view, sending_view, undecided_view, endpoint_view, stage_view, parting_receipt, leaving_endpoint, no_endpoint, verdict_list}
 use Rattle.std.specs.List.{find}
 use Rattle.std.specs.Option.{is_none}
 use Rattle.delivery.specs.declared.refusal.Refusal.TheVariants as refusal
@@ -14,9 +8,7 @@ use Rattle.delivery.proofs.Machine.Effects.{made_world, made_answer}
 use Rattle.delivery.proofs.Views.Runs.AccountOfTransactions.{flight_id}
 use Rattle.delivery.proofs.Views.Endpoints.SpeakerAndEnd.{closed_is}
 use Rattle.delivery.proofs.Views.Endpoints.DisconnectIsLast.{not_parting}
-use Rattle.delivery.proofs.Views.Senders.SenderChanges.{IsSpeaking, number_at, number_set, endpoint_of_stage, speaker_of, held_of, endpoint_of, sender_of_endpoint, speaker_there, speaker_with, speaking_used, lists_with, endpoint_with_sender, stage_kept}
-use Rattle.delivery.proofs.Views.Endpoints.StandingOfConnection.{differ}
-use Rattle.delivery.proofs.Views.Events.OneMove.{left_view}
+use Rattle.delivery.proofs.Words.Changes.{IsSpeaking, number_at, number_set, endpoint_of_stage, speaker_of, held_of, endpoint_of, sender_of_endpoint, speaker_there, speaker_with, speaking_used, lists_with, endpoint_with_sender, stage_kept, differ, left_view, step_makes}
 use Rattle.delivery.proofs.Views.Events.ConnectionIsThere.{there_checked, is_there, still_there, flying_speaking, reported, refused_step, refused_outcome, answered_outcome, replied_in, cut_in}
 use Rattle.delivery.proofs.Views.Senders.TicketsOfTopics.{tickets_are}
 use Rattle.delivery.proofs.Views.Verdicts.VerdictOfSender.{undecided_unvoted, undecided_seq, list_stays, list_filled}
@@ -55,16 +47,12 @@ incomplete true = refl
 incomplete false = refl
 
 -- the sender's refusal is that of the first check that fails
-pub decide_checked : (s seq : ℕ) (floor : Stamp) (o : Option Undecided)
-    → decide_refusal (sending_view s seq floor o) ≡ option_and_then refusal_of (first_refusal (decide_checks o))
+pub decide_checked : (s seq : ℕ) (floor : Stamp) (o : Option Undecided) → decide_refusal (sending_view s seq floor o) ≡ option_and_then refusal_of (first_refusal (decide_checks o))
 decide_checked s seq floor None = refl
-decide_checked s seq floor (Some f) = go f.mark
-  where
-    go : (m : Option ProposeFault)
-        → decide_refusal (undecided_view floor f m)
-        ≡ option_and_then refusal_of (first_refusal ((is_some m, Objection.Marked) ∷ (not (is_complete f), Objection.Incomplete) ∷ []))
-    go (Some fault) = refl
-    go None = ap (λ (b : Bool). cond b (Some refusal.Incomplete) None) (lacks f.given (topics_of f.txn.sends)) ∙ incomplete (is_complete f)
+decide_checked s seq floor (Some f) = elim f.mark as (λ (m : Option ProposeFault). decide_refusal (undecided_view floor f m) ≡ option_and_then refusal_of (first_refusal ((is_some m, Objection.Marked) ∷ (not (is_complete f), Objection.Incomplete) ∷ []))) [
+  | Some fault ↦ refl
+  | None ↦ ap (λ (b : Bool). cond b (Some refusal.Incomplete) None) (lacks f.given (topics_of f.txn.sends)) ∙ incomplete (is_complete f)
+]
 
 -- where none fails there is a transaction, and no topic refused it
 pub record Decidable (o : Option Undecided) : Type 0 where
@@ -105,9 +93,7 @@ decide_gone k c o why stands is =
 pub decide_refused : (k : Core) (c s : ℕ) (why : Refusal) → IsReached k → there_objection (slice_get (view_of k).endpoints c) ≡ None → s ≡ speaker_at (view_of k) c
     → Some why ≡ decide_refusal (sender_in (view_of k) s).sending → Makes k (Event.Decide c) (Outcome.Refused why) (view_of k)
 decide_refused k c s why reached free is refused =
-    let x = speaker k.world c in
-    let there = is_there k c free in
-    let checks = decide_checks x.flight in
+    let x = speaker k.world c in let there = is_there k c free in let checks = decide_checks x.flight in
     let found = reported (first_refusal checks) why
     (refused ∙ (ap (λ (y : SenderView). decide_refusal y.sending) (sender_of_endpoint k c s reached there (still_there k c free) is)
     ∙ decide_checked (speaker_number k.world c) x.seq x.floor x.flight)) in
@@ -132,8 +118,7 @@ flying_is s x f is unmarked = ap (λ (o : Option Undecided). sending_view s x.se
 decided_is : (k : Core) (s : ℕ) (f : Undecided) → IsReached k → (sender_at k.world s).flight ≡ Some f → f.mark ≡ None
     → decided_sender (sender_view s (sender_at k.world s)) ≡ sender_view s (decided_state (sender_at k.world s) f)
 decided_is k s f reached flight unmarked =
-    let x = sender_at k.world s in
-    let leftovers = (sender_view s x).leftovers in
+    let x = sender_at k.world s in let leftovers = (sender_view s x).leftovers in
     ap (λ (z : Sending). decided_sender (record { sending = z; leftovers = leftovers })) (flying_is s x f flight unmarked)
     ∙ (ap (λ (rows : List Stamp). record { sending = Sending.Idle (record { sender = f.txn.id.sender; seq = f.txn.id.seq; floor = greatest rows }); leftovers = leftovers })
     (tickets_are k s f reached flight)
@@ -154,28 +139,12 @@ row_is k s f reached flight unmarked =
 -- ---- the RECEIPT
 
 -- the octets with the RECEIPT are those with the replies
-receipted : (text : List ℕ) (frame : Option RawFrame)
-    → with_receipt text (receipt_asked frame) ≡ text ++ flat_map spelling_of (option_map_or receipts_of frame [])
+receipted : (text : List ℕ) (frame : Option RawFrame) → with_receipt text (receipt_asked frame) ≡ text ++ flat_map spelling_of (option_map_or receipts_of frame [])
 receipted text None = sym (append-nil text)
-receipted text (Some f) = go (receipt_of f)
-  where
-    go : (o : Option (List ℕ)) → with_receipt text o ≡ text ++ flat_map spelling_of (option_map_or (λ id. receipt_frame id ∷ []) o [])
-    go None = sym (append-nil text)
-    go (Some id) = ap (λ (octets : List ℕ). text ++ octets) (sym (append-nil (spelling_of (receipt_frame id))))
-
--- the same by the endpoint's stage
-confirmed_text : (names : List (List ℕ)) (standing : Standing) (f : Undecided) (accepted : List RawFrame) (unread : Unread) (text : List ℕ)
-    → with_receipt text (receipt_in (stage_view names standing (Some f) accepted unread))
-    ≡ text ++ flat_map spelling_of (cond (not (not (is_reading standing))) (option_map_or receipts_of (commit_frame accepted) []) [])
-confirmed_text names Standing.Open f accepted unread text = receipted text (commit_frame accepted)
-confirmed_text names Standing.Leaving f accepted unread text = sym (append-nil text)
-confirmed_text names Standing.Gone f accepted unread text = sym (append-nil text)
-
-confirmed_stage : (names : List (List ℕ)) (standing : Standing) (f : Undecided) (accepted : List RawFrame) (unread : Unread)
-    → asked_stage None (stage_view names standing (Some f) accepted unread) ≡ stage_view names standing None accepted unread
-confirmed_stage names Standing.Open f accepted unread = refl
-confirmed_stage names Standing.Leaving f accepted unread = refl
-confirmed_stage names Standing.Gone f accepted unread = refl
+receipted text (Some f) = elim (receipt_of f) as (λ (o : Option (List ℕ)). with_receipt text o ≡ text ++ flat_map spelling_of (option_map_or (λ id. receipt_frame id ∷ []) o [])) [
+  | None ↦ sym (append-nil text)
+  | Some id ↦ ap (λ (octets : List ℕ). text ++ octets) (sym (append-nil (spelling_of (receipt_frame id))))
+]
 
 -- only an open endpoint asked for one
 asked_open : (names : List (List ℕ)) (standing : Standing) (flight : Option Undecided) (accepted : List RawFrame) (unread : Unread)
@@ -226,19 +195,12 @@ pub record AreDecided (k : Core) (c s : ℕ) : Type 0 where
 
 are_decided : (k : Core) (c s : ℕ) → s ≡ speaker_at (view_of k) c → Decides k c → AreDecided k c s
 are_decided k c s is h =
-    let w = k.world in
-    let there = is_there k c h.free in
-    let n = speaker_number w c in
-    let known = speaker_there k c h.reached (decides_speaking k c h) in
-    let f = h.can.flight in
-    let flight : (sender_at w n).flight ≡ Some f = h.can.is in
-    let same : s ≡ n = is ∙ speaker_of k c there in
-    let held = held_of k n known (speaking_used w c (decides_speaking k c h)) in
-    let undecided : undecided_at w c ≡ f = ap undecided_or_none h.can.is in
+    let w = k.world in let there = is_there k c h.free in let n = speaker_number w c in let known = speaker_there k c h.reached (decides_speaking k c h) in let f = h.can.flight in
+    let flight : (sender_at w n).flight ≡ Some f = h.can.is in let same : s ≡ n = is ∙ speaker_of k c there in
+    let held = held_of k n known (speaking_used w c (decides_speaking k c h)) in let undecided : undecided_at w c ≡ f = ap undecided_or_none h.can.is in
     let decision : Decision = record { id = f.txn.id; rows = f.given } in
     let found : decision_of (sender_in (view_of k) n).sending ≡ decision = ap (λ (y : SenderView). decision_of y.sending) held ∙ decision_is k n f h.reached flight h.can.unmarked in
-    let own = flight_id k n f h.reached flight in
-    let list = number_at (λ m. verdict_list w.verdicts m (sender_at w m).seq) w.senders n [] known in
+    let own = flight_id k n f h.reached flight in let list = number_at (λ m. verdict_list w.verdicts m (sender_at w m).seq) w.senders n [] known in
     let seq : (sender_at w n).seq ≢ 0 = λ z. undecided_seq k n f h.reached flight (ap (λ (id : TxnId). id.seq) own ∙ z) in
     record {
       senders =
@@ -267,38 +229,36 @@ are_decided k c s is h =
 decided_text : (k : Core) (c n : ℕ) (stamp : Stamp) → n ≢ c
     → text_out k.names n k.steps ≡ text_out k.names n (step_of (Event.Decide c) Reading.Nothing (Outcome.Decided stamp false) ∷ k.steps)
 decided_text k c n stamp other =
-    let account = account_of k.names k.steps in
-    let replies = option_map_or receipts_of (commit_frame (accepted_of n k.steps)) [] in
+    let account = account_of k.names k.steps in let replies = option_map_or receipts_of (commit_frame (accepted_of n k.steps)) [] in
     sym (ap (λ (b : Bool). text_out k.names n k.steps ++ flat_map spelling_of (cond (b && not (has_closed n account)) replies [])) (differ c n (λ z. other (sym z)))
     ∙ append-nil (text_out k.names n k.steps))
 
 -- what is held with the RECEIPT, if one was asked for
-decided_whole : (k : Core) (c s : ℕ) (stamp : Stamp) → s ≡ speaker_at (view_of k) c → Decides k c
-    → confirmed_view false c (decided_view s (view_of k))
+decided_whole : (k : Core) (c s : ℕ) (stamp : Stamp) → s ≡ speaker_at (view_of k) c → Decides k c → confirmed_view false c (decided_view s (view_of k))
     ≡ view_after k.names (decide_effect k.world c) (step_of (Event.Decide c) Reading.Nothing (Outcome.Decided stamp false) ∷ k.steps)
 decided_whole k c s stamp is h =
-    let w = k.world in
-    let v = decide_effect w c in
-    let step = step_of (Event.Decide c) Reading.Nothing (Outcome.Decided stamp false) in
-    let there = is_there k c h.free in
-    let are = are_decided k c s is h in
-    let account = account_of k.names k.steps in
-    let accepted = accepted_of c k.steps in
-    let unread = unread_at c k.steps in
-    let text = text_out k.names c k.steps in
-    let x = decided_state (speaker w c) (undecided_at w c) in
-    let standing = (connection_at w c).standing in
+    let w = k.world in let v = decide_effect w c in let step = step_of (Event.Decide c) Reading.Nothing (Outcome.Decided stamp false) in let there = is_there k c h.free in
+    let are = are_decided k c s is h in let account = account_of k.names k.steps in let accepted = accepted_of c k.steps in let unread = unread_at c k.steps in
+    let text = text_out k.names c k.steps in let x = decided_state (speaker w c) (undecided_at w c) in let standing = (connection_at w c).standing in
     let old = λ (n : ℕ). endpoint_view (names_at k) w n (accepted_of n k.steps) (unread_at n k.steps) (text_out k.names n k.steps) in
     let new = λ (n : ℕ). endpoint_view (names_at k) v n (accepted_of n k.steps) (unread_at n k.steps) (text_out k.names n (step ∷ k.steps)) in
     let replies = option_map_or receipts_of (commit_frame accepted) [] in
     let texts : with_receipt text (receipt_in (old c).stage) ≡ text_out k.names c (step ∷ k.steps) =
     ap (λ (o : Option Undecided). with_receipt text (receipt_in (stage_view (names_at k) standing o accepted unread))) h.can.is
-    ∙ (confirmed_text (names_at k) standing h.can.flight accepted unread text
+    ∙ (elim standing as (λ (standing : Standing). with_receipt text (receipt_in (stage_view (names_at k) standing (Some h.can.flight) accepted unread)) ≡ text ++ flat_map spelling_of (cond (not (not (is_reading standing))) (option_map_or receipts_of (commit_frame accepted) []) [])) [
+      | Standing.Open ↦ receipted text (commit_frame accepted)
+      | Standing.Leaving ↦ sym (append-nil text)
+      | Standing.Gone ↦ sym (append-nil text)
+    ]
     ∙ (ap (λ (b : Bool). text ++ flat_map spelling_of (cond (not b) replies [])) (sym (closed_is k c h.reached there))
     ∙ ap (λ (b : Bool). text ++ flat_map spelling_of (cond (b && not (has_closed c account)) replies [])) (sym (eq-eqb c c refl)))) in
     let stages : asked_stage None (old c).stage ≡ (new c).stage =
     ap (λ (o : Option Undecided). asked_stage None (stage_view (names_at k) standing o accepted unread)) h.can.is
-    ∙ (confirmed_stage (names_at k) standing h.can.flight accepted unread
+    ∙ (elim standing as (λ (standing : Standing). asked_stage None (stage_view (names_at k) standing (Some h.can.flight) accepted unread) ≡ stage_view (names_at k) standing None accepted unread) [
+      | Standing.Open ↦ refl
+      | Standing.Leaving ↦ refl
+      | Standing.Gone ↦ refl
+    ]
     ∙ sym (ap (λ (l : EndpointView). l.stage) (endpoint_with_sender (names_at k) k c x accepted unread text h.reached (decides_speaking k c h)))) in
     let endpoint : confirmed_endpoint (get_or (view_of k).endpoints c no_endpoint) ≡ new c =
     ap confirmed_endpoint (endpoint_of k c no_endpoint there)
@@ -315,8 +275,7 @@ decided_whole k c s stamp is h =
 
 -- ---- without memory for the RECEIPT
 
-open_free : (standing : Standing) → is_reading standing ≡ true
-    → first_refusal ((is_gone standing, Objection.Gone) ∷ (not (is_reading standing), Objection.Busy) ∷ []) ≡ None
+open_free : (standing : Standing) → is_reading standing ≡ true → first_refusal ((is_gone standing, Objection.Gone) ∷ (not (is_reading standing), Objection.Busy) ∷ []) ≡ None
 open_free Standing.Open e = refl
 open_free Standing.Leaving e = absurd (cc)
 open_free Standing.Gone e = absurd (cc)
@@ -339,12 +298,8 @@ decided_cut : (k : Core) (c s : ℕ) (stamp : Stamp) → s ≡ speaker_at (view_
     → confirmed_view true c (decided_view s (view_of k))
     ≡ view_after k.names (with_leaving (decide_effect k.world c) c) (step_of (Event.Decide c) Reading.Nothing (Outcome.Decided stamp true) ∷ k.steps)
 decided_cut k c s stamp is h reads =
-    let w = k.world in
-    let v = decide_effect w c in
-    let step = step_of (Event.Decide c) Reading.Nothing (Outcome.Decided stamp true) in
-    let after : Core = record { names = k.names; world = v; steps = step ∷ k.steps } in
-    let there = is_there k c h.free in
-    let are = are_decided k c s is h in
+    let w = k.world in let v = decide_effect w c in let step = step_of (Event.Decide c) Reading.Nothing (Outcome.Decided stamp true) in
+    let after : Core = record { names = k.names; world = v; steps = step ∷ k.steps } in let there = is_there k c h.free in let are = are_decided k c s is h in
     let x = decided_state (speaker w c) (undecided_at w c) in
     let old = λ (n : ℕ). endpoint_view (names_at k) w n (accepted_of n k.steps) (unread_at n k.steps) (text_out k.names n k.steps) in
     let new = λ (n : ℕ). endpoint_view (names_at k) v n (accepted_of n (step ∷ k.steps)) (unread_at n k.steps) (text_out k.names n (step ∷ k.steps)) in
@@ -374,8 +329,7 @@ decided_cut k c s stamp is h reads =
 stamp_is : (k : Core) (c s : ℕ) (stamp : Stamp) → s ≡ speaker_at (view_of k) c → Decides k c → stamp ≡ (decided_row (sender_in (view_of k) s).sending).stamp
     → greatest (undecided_at k.world c).given ≡ stamp
 stamp_is k c s stamp is h kept =
-    let there = is_there k c h.free in
-    let n = speaker_number k.world c in
+    let there = is_there k c h.free in let n = speaker_number k.world c in
     ap (λ (o : Option Undecided). greatest (undecided_or_none o).given) h.can.is
     ∙ sym (kept ∙ (ap (λ (y : SenderView). (decided_row y.sending).stamp) (sender_of_endpoint k c s h.reached there (still_there k c h.free) is)
     ∙ ap (λ (r : LogRow). r.stamp) (row_is k n h.can.flight h.reached h.can.is h.can.unmarked)))
@@ -412,16 +366,11 @@ decide_makes k c s stamp cut reached free is allowed kept asked = go cut asked
 
     go : (cut : Bool) → (cut ≡ true → is_some (receipt_in (get_or (view_of k).endpoints c no_endpoint).stage) ≡ true)
         → Makes k (Event.Decide c) (Outcome.Decided stamp cut) (confirmed_view cut c (decided_view s (view_of k)))
-    go false asked = record {
-      reading = Reading.Nothing;
-      may = record { reading = refl; outcome = replied_in k c (Event.Decide c) (Move.Decides c) (Outcome.Decided stamp false) outcome };
-      view = decided_whole k c s stamp is decides
-          ∙ ap (λ (v : World). view_after k.names v (step_of (Event.Decide c) Reading.Nothing (Outcome.Decided stamp false) ∷ k.steps)) (sym world);
-    }
+    go false asked =
+        step_makes k (Event.Decide c) (Outcome.Decided stamp false) (decide_effect k.world c) refl
+        (replied_in k c (Event.Decide c) (Move.Decides c) (Outcome.Decided stamp false) outcome) world (decided_whole k c s stamp is decides)
     go true asked =
-        let standing = (connection_at k.world c).standing in
-        let accepted = accepted_of c k.steps in
-        let account = account_of k.names k.steps in
+        let standing = (connection_at k.world c).standing in let accepted = accepted_of c k.steps in let account = account_of k.names k.steps in
         let wants : is_some (receipt_in (stage_view (names_at k) standing (speaker k.world c).flight accepted (unread_at c k.steps))) ≡ true =
         ap (λ (l : EndpointView). is_some (receipt_in l.stage)) (sym (endpoint_of k c no_endpoint there)) ∙ asked refl in
         let reads = asked_open (names_at k) standing (speaker k.world c).flight accepted (unread_at c k.steps) wants in
@@ -434,9 +383,5 @@ decide_makes k c s stamp cut reached free is allowed kept asked = go cut asked
         let worlds : run (Move.Decides c ∷ Move.Lost c ∷ []) k.world ≡ with_leaving (decide_effect k.world c) c =
         ap (λ (w : World). run (Move.Lost c ∷ []) w) world
         ∙ made_world (decide_effect k.world c) (Move.Lost c) (lost_free (decide_effect k.world c) c there reads) in
-        record {
-          reading = Reading.Nothing;
-          may = record { reading = refl; outcome = cut_in k c (Event.Decide c) (Move.Decides c) (Outcome.Decided stamp false) outcome any };
-          view = decided_cut k c s stamp is decides reads
-              ∙ ap (λ (v : World). view_after k.names v (step_of (Event.Decide c) Reading.Nothing (Outcome.Decided stamp true) ∷ k.steps)) (sym worlds);
-        }
+        step_makes k (Event.Decide c) (Outcome.Decided stamp true) (with_leaving (decide_effect k.world c) c) refl
+        (cut_in k c (Event.Decide c) (Move.Decides c) (Outcome.Decided stamp false) outcome any) worlds (decided_cut k c s stamp is decides reads)

@@ -1,11 +1,5 @@
 -- A Next whose frame is accepted: its destination has its topic before anything else is done.
-use Rattle.delivery.proofs.Words.Std.{◌≡◌, ℕ, Bool, true, false, cond, not, ◌&&◌, List, [], ◌∷◌, ◌++◌, map, length, Option, refl, sym, ap, subst, ◌∙◌, codes, length-map, map-append}
-use Rattle.delivery.proofs.Words.Topics.{In, GroupState, new_topic}
-use Rattle.delivery.proofs.Words.Frames.{RawFrame, Unread, field, has_destination, with_destination, is_known, IsKnownTo}
-use Rattle.delivery.proofs.Words.Lemmas.{state-later}
-use Rattle.delivery.proofs.Words.Machine.{Standing, Undecided, connection_at, speaker, Move, run}
-use Rattle.delivery.proofs.Words.Core.{Stage, live_numbers, text_out, each_number, Core, core_for, log_limit, names_at, unread_at, accepted_of}
-use Rattle.delivery.proofs.Words.Views.{IsReached, View, EndpointView, endpoint_view, group_view, made_group, new_group, stage_view, view_of}
+use Rattle.delivery.proofs.Words.All.{◌≡◌, ℕ, Bool, true, false, cond, not, ◌&&◌, List, [], ◌∷◌, ◌++◌, map, length, Option, refl, sym, ap, subst, ◌∙◌, codes, length-map, map-append, In, GroupState, new_topic, RawFrame, Unread, field, has_destination, with_destination, is_known, IsKnownTo, state-later, Standing, Undecided, connection_at, speaker, Move, run, Stage, live_numbers, text_out, each_number, Core, core_for, log_limit, names_at, unread_at, accepted_of, IsReached, EndpointView, endpoint_view, group_view, made_group, new_group, stage_view, view_of}
 use Rattle.delivery.specs.Inner.View.{named_view}
 use Rattle.delivery.proofs.Core.Counts.{limit_counted}
 use Rattle.delivery.proofs.Core.FrameWorld.{with_topic}
@@ -17,8 +11,7 @@ use Rattle.delivery.proofs.Views.Lists.ByNumber.{each_number-same}
 
 -- an endpoint's session takes nothing from names that come later
 stage_later : (names more : List (List ℕ)) (standing : Standing) (flight : Option Undecided) (accepted : List RawFrame) (unread : Unread)
-    → ((g : RawFrame) → In g accepted → IsKnownTo names g)
-    → stage_view names standing flight accepted unread ≡ stage_view (names ++ more) standing flight accepted unread
+    → ((g : RawFrame) → In g accepted → IsKnownTo names g) → stage_view names standing flight accepted unread ≡ stage_view (names ++ more) standing flight accepted unread
 stage_later names more Standing.Open flight accepted unread known =
     ap (λ s. Stage.Open (record { reader = unread; session = s; receipt = Rattle.delivery.specs.Inner.View.pending_receipt accepted flight })) (sym (state-later names more accepted known))
 stage_later names more Standing.Leaving flight accepted unread known = refl

@@ -1,23 +1,15 @@
 -- The steps of a connection's leaving.
 use Rattle.std.proofs.Common.{filter}
-use Rattle.delivery.proofs.Words.Std.{◌≡◌, ◌≢◌, ℕ, ◌+◌, ◌<◌, ◌≤◌, ◌==◌, nat_lt, Bool, true, false, cond, not, ◌&&◌, ◌||◌, ◌⊎◌, inl, inr, List, [], ◌∷◌, ◌++◌, length, get_or, set, Option, Some, None, refl, sym, ap, subst, ◌∙◌, arith, eq-eqb, slice_get, flat_map, is_some, option_map, option_map_or, option_and_then, option_or, option_to_list, unwrap_or, lt-ltb, ltb-true, ltb-false, false≢true, cases_Bool, cases_lt, slice_get-get_or, slice_get_past, append-nil, length-map, get_or-set_same, get_or-set_other}
-use Rattle.delivery.proofs.Words.Topics.{In, first_refusal, Stamp}
-use Rattle.delivery.proofs.Words.Frames.{RawFrame, Unread, receipt_frame, spelling_of, is_disconnect}
-use Rattle.delivery.proofs.Words.Lemmas.{some_same, none_some}
-use Rattle.delivery.proofs.Words.Machine.{Objection, refusal_of, World, Undecided, SenderState, Connection, Subscription, Standing, nobody, new_sender, connection_at, sender_at, speaker, is_reading, is_gone, speaker_number, Move, Answer, move_refusal, move_refusals, oldest_live, is_live, leave_effect, leave_answer, close_effect, end_now, run}
-use Rattle.delivery.proofs.Words.Core.{Event, Outcome, Refusal, Stage, Reading, accepted_of, account_of, text_out, subscribe_frame, receipts_of, replies_to, Core, unread_at, names_at, outcome_of, move_outcome, reply_outcomes, is_any, each_number, live_numbers}
-use Rattle.delivery.proofs.Words.Views.{IsReached, Makes, step_of, View, EndpointView, SenderView, LeftView, view_of, view_after, view_with, sender_view, sending_view, undecided_view, stage_view, endpoint_view, parting_receipt, no_endpoint, is_undecided, number_among, held_sender, no_sub, left_at, closed_if_left, closed_view, rested_view, end_with, leaving_objection, waits, leave_objection, oldest_end, oldest_closed, has_parting, gone_view}
+use Rattle.delivery.proofs.Words.All.{◌≡◌, ◌≢◌, ℕ, ◌+◌, ◌<◌, ◌≤◌, ◌==◌, nat_lt, Bool, true, false, cond, not, ◌&&◌, ◌||◌, ◌⊎◌, inl, inr, List, [], ◌∷◌, ◌++◌, length, get_or, set, Option, Some, None, refl, sym, ap, subst, ◌∙◌, arith, eq-eqb, slice_get, flat_map, is_some, option_map, option_map_or, option_and_then, option_or, option_to_list, unwrap_or, lt-ltb, ltb-true, ltb-false, false≢true, cases_Bool, cases_lt, slice_get-get_or, slice_get_past, append-nil, length-map, get_or-set_same, get_or-set_other, In, first_refusal, Stamp, RawFrame, Unread, receipt_frame, spelling_of, is_disconnect, some_same, none_some, Objection, refusal_of, World, Undecided, SenderState, Connection, Subscription, Standing, nobody, new_sender, connection_at, sender_at, speaker, is_reading, is_gone, speaker_number, Move, Answer, move_refusal, move_refusals, oldest_live, is_live, leave_effect, leave_answer, close_effect, end_now, run, Event, Outcome, Refusal, Stage, Reading, accepted_of, account_of, text_out, subscribe_frame, receipts_of, replies_to, Core, unread_at, names_at, outcome_of, move_outcome, reply_outcomes, is_any, each_number, live_numbers, IsReached, Makes, step_of, View, EndpointView, SenderView, LeftView, view_of, view_with, sender_view, sending_view, undecided_view, stage_view, endpoint_view, parting_receipt, no_endpoint, is_undecided, number_among, held_sender, no_sub, left_at, closed_if_left, closed_view, rested_view, end_with, leaving_objection, waits, leave_objection, oldest_end, oldest_closed, has_parting, gone_view}
 use Rattle.delivery.specs.Inner.Leaving.{is_busy, oldest_in, parting_text, gone_endpoint}
-use Rattle.delivery.proofs.Machine.Effects.{made_world, made_answer, refused_answer}
-use Rattle.delivery.proofs.Machine.SubscriptionSteps.{set_length, beyond}
+use Rattle.delivery.proofs.Words.Steps.{made_world, made_answer, refused_answer, set_length, beyond, is_oldest}
 use Rattle.delivery.proofs.Views.Lists.ByNumber.{each_number-set, get_or-each_number, length-each_number}
-use Rattle.delivery.proofs.Views.Endpoints.EndpointsStay.{quiet_view, leave_is_quiet}
-use Rattle.delivery.proofs.Views.Events.OneMove.{refused_makes, endpoint_is, endpoint_at, no_endpoint as no_endpoint_there, same_endpoint, endpoint_read, with_connection}
+use Rattle.delivery.proofs.Views.Endpoints.EndpointsStay.{leave_is_quiet}
+use Rattle.delivery.proofs.Views.Events.OneMove.{refused_makes, endpoint_is, endpoint_at, no_endpoint as no_endpoint_there, same_endpoint, endpoint_read, with_connection, quiet_makes, step_makes}
 use Rattle.delivery.proofs.Views.Endpoints.DisconnectIsLast.{parting_is}
 use Rattle.delivery.proofs.Views.Endpoints.StandingOfConnection.{differ}
 use Rattle.delivery.proofs.Views.Clients.GivenBack.{gone_rests}
 use Rattle.delivery.proofs.Views.Subscriptions.ClosedIsDropped.{closed_is, closed_end}
-use Rattle.delivery.proofs.Theorem.MovesAreAnswered.{is_oldest}
 use Rattle.delivery.proofs.Views.Senders.HeldSenders.{held_undecided, held_leftovers}
 
 -- ---- what stands against it
@@ -25,16 +17,14 @@ use Rattle.delivery.proofs.Views.Senders.HeldSenders.{held_undecided, held_lefto
 -- a sender is busy as its view says
 busy_view : (s : ℕ) (x : SenderState) → is_busy (sender_view s x) ≡ (is_some x.flight || nat_lt 0 (length x.leftovers))
 busy_view s x =
-    ap (λ (b : Bool). b || nat_lt 0 (length (sender_view s x).leftovers)) (undecided x.flight)
+    ap (λ (b : Bool). b || nat_lt 0 (length (sender_view s x).leftovers)) (elim x.flight as (λ (flight : Option Undecided). is_undecided (sending_view s x.seq x.floor flight) ≡ is_some flight) [
+      | None ↦ refl
+      | Some f ↦ elim f.mark as (λ mark. is_undecided (undecided_view x.floor f mark) ≡ true) [ None ↦ refl | Some fault ↦ refl ]
+    ])
     ∙ ap (λ (n : ℕ). is_some x.flight || nat_lt 0 n) (length-map x.leftovers _)
-  where
-    undecided : (flight : Option Undecided) → is_undecided (sending_view s x.seq x.floor flight) ≡ is_some flight
-    undecided None = refl
-    undecided (Some f) = elim f.mark as (λ mark. is_undecided (undecided_view x.floor f mark) ≡ true) [ None ↦ refl | Some fault ↦ refl ]
 
 -- of a sender that isn't there neither is
-sender_busy : (w : World) (s : ℕ)
-    → option_map_or is_busy (slice_get (each_number (held_sender w) 0 w.senders) s) false
+sender_busy : (w : World) (s : ℕ) → option_map_or is_busy (slice_get (each_number (held_sender w) 0 w.senders) s) false
     ≡ (is_some (sender_at w s).flight || nat_lt 0 (length (sender_at w s).leftovers))
 sender_busy w s = elim (cases_lt s (length w.senders)) [ inl l ↦ here l | inr l ↦ none l ]
   where
@@ -46,8 +36,7 @@ sender_busy w s = elim (cases_lt s (length w.senders)) [ inl l ↦ here l | inr 
 
     here : s < length w.senders → option_map_or is_busy (slice_get (each_number f 0 w.senders) s) false ≡ (is_some (sender_at w s).flight || nat_lt 0 (length (sender_at w s).leftovers))
     here l =
-        let many : s < length (each_number f 0 w.senders) = omega (arith, l, length-each_number f 0 w.senders) in
-        let e : 0 + s ≡ s = omega arith in
+        let many : s < length (each_number f 0 w.senders) = omega (arith, l, length-each_number f 0 w.senders) in let e : 0 + s ≡ s = omega arith in
         ap (λ (o : Option SenderView). option_map_or is_busy o false) (slice_get-get_or (each_number f 0 w.senders) s (f s) many)
         ∙ (ap is_busy (get_or-each_number f 0 w.senders s (f s) l ∙ ap f e)
         ∙ (busy ∙ busy_view s (sender_at w s)))
@@ -61,12 +50,10 @@ sender_busy w s = elim (cases_lt s (length w.senders)) [ inl l ↦ here l | inr 
 -- the oldest live subscription is the first of the endpoint
 pub oldest_is : (c i : ℕ) (xs : List Subscription) → slice_get (live_numbers c i xs) 0 ≡ oldest_live c i xs
 oldest_is c i [] = refl
-oldest_is c i (x ∷ xs) = by (is_live c x) (oldest_is c (i + 1) xs)
-  where
-    by : (b : Bool) → slice_get (live_numbers c (i + 1) xs) 0 ≡ oldest_live c (i + 1) xs
-        → slice_get (cond b (i ∷ live_numbers c (i + 1) xs) (live_numbers c (i + 1) xs)) 0 ≡ cond b (Some i) (oldest_live c (i + 1) xs)
-    by true rest = refl
-    by false rest = rest
+oldest_is c i (x ∷ xs) = (elim (is_live c x) as (λ (b : Bool). slice_get (live_numbers c (i + 1) xs) 0 ≡ oldest_live c (i + 1) xs → slice_get (cond b (i ∷ live_numbers c (i + 1) xs) (live_numbers c (i + 1) xs)) 0 ≡ cond b (Some i) (oldest_live c (i + 1) xs)) [
+  | true ↦ λ rest. refl
+  | false ↦ λ rest. rest
+]) (oldest_is c (i + 1) xs)
 
 some_first : (ns : List ℕ) → nat_lt 0 (length ns) ≡ is_some (slice_get ns 0)
 some_first [] = refl
@@ -82,9 +69,7 @@ stage_leaving names Standing.Gone flight accepted unread busy = refl
 -- what stands against the endpoint stands against the move
 pub leave_checked : (k : Core) (c : ℕ) → leave_objection (view_of k).senders (slice_get (view_of k).endpoints c) ≡ first_refusal (move_refusals k.world (Move.Leaves c))
 leave_checked k c =
-    let w = k.world in
-    let x = connection_at w c in
-    let endpoint = endpoint_view (names_at k) w c (accepted_of c k.steps) (unread_at c k.steps) (text_out k.names c k.steps) in
+    let w = k.world in let x = connection_at w c in let endpoint = endpoint_view (names_at k) w c (accepted_of c k.steps) (unread_at c k.steps) (text_out k.names c k.steps) in
     let wait = not (is_some (oldest_live c 0 w.subscriptions)) && (is_some (speaker w c).flight || nat_lt 0 (length (speaker w c).leftovers)) in
     let checks = λ (b : Bool). first_refusal ((not b, Objection.NoConn) ∷ (is_gone x.standing, Objection.Gone) ∷ (is_reading x.standing, Objection.NotLeaving) ∷ (wait, Objection.Busy) ∷ []) in
     let busy : option_map_or is_busy (slice_get (view_of k).senders (number_among (view_of k).senders endpoint)) false ≡ (is_some (speaker w c).flight || nat_lt 0 (length (speaker w c).leftovers)) =
@@ -189,12 +174,10 @@ ends_as : (k : Core) (c s : ℕ) → IsReached k → c < length k.world.connecti
 ends_as k c s reached there e =
     let o = is_oldest k.world c s e in
     ap (λ (z : Option ℕ). option_and_then (λ n. option_map (end_with n) (left_at n (view_of k))) z) (endpoint_oldest k c there ∙ e)
-    ∙ pair (left_at s (view_of k)) (closed_end k c s reached o.there o.live (λ n. accepted_of n k.steps) (λ n. unread_at n k.steps) (λ n. text_out k.names n k.steps) (λ n. subscribe_frame n k.steps))
-  where
-    pair : (left : Option LeftView) → option_map (λ (z : LeftView). z.to) left ≡ Some (end_now k.world s)
-        → option_map (end_with s) left ≡ Some (s, end_now k.world s)
-    pair None h = none_some (end_now k.world s) h
-    pair (Some left) h = ap (λ (to : Stamp). Some (s, to)) (some_same left.to (end_now k.world s) h)
+    ∙ (elim (left_at s (view_of k)) as (λ (left : Option LeftView). option_map (λ (z : LeftView). z.to) left ≡ Some (end_now k.world s) → option_map (end_with s) left ≡ Some (s, end_now k.world s)) [
+      | None ↦ λ h. none_some (end_now k.world s) h
+      | Some left ↦ λ h. ap (λ (to : Stamp). Some (s, to)) (some_same left.to (end_now k.world s) h)
+    ]) (closed_end k c s reached o.there o.live (λ n. accepted_of n k.steps) (λ n. unread_at n k.steps) (λ n. text_out k.names n k.steps) (λ n. subscribe_frame n k.steps))
 
 -- the oldest subscription is closed
 pub leave_closes : (k : Core) (c s : ℕ) (to : Stamp) → IsReached k → leave_objection (view_of k).senders (slice_get (view_of k).endpoints c) ≡ None
@@ -210,36 +193,29 @@ leave_closes k c s to reached is found = go (oldest_live c 0 k.world.subscriptio
         none_some (s, to) (sym none ∙ found)
     go (Some n) e =
         let end : end_pair n (end_now k.world n) ≡ end_pair s to = some_same (end_pair n (end_now k.world n)) (end_pair s to) (sym (ends_as k c n reached can.there e) ∙ found) in
-        let same : n ≡ s = ap (λ (p : ℕ × Stamp). p.0) end in
-        let stamp : end_now k.world n ≡ to = ap (λ (p : ℕ × Stamp). p.1) end in
+        let same : n ≡ s = ap (λ (p : ℕ × Stamp). p.0) end in let stamp : end_now k.world n ≡ to = ap (λ (p : ℕ × Stamp). p.1) end in
         subst (λ (m : ℕ). Makes k (Event.Leave c) (Outcome.Unsubscribed m to) (oldest_closed (view_of k) c)) same
         (subst (λ (z : Stamp). Makes k (Event.Leave c) (Outcome.Unsubscribed n z) (oldest_closed (view_of k) c)) stamp (closes n e))
       where
         closes : (n : ℕ) → oldest_live c 0 k.world.subscriptions ≡ Some n → Makes k (Event.Leave c) (Outcome.Unsubscribed n (end_now k.world n)) (oldest_closed (view_of k) c)
         closes n e =
-            let step = step_of (Event.Leave c) Reading.Nothing (Outcome.Unsubscribed n (end_now k.world n)) in
             let o = is_oldest k.world c n e in
             let alone : move_outcome k (Move.Leaves c) ≡ Outcome.Unsubscribed n (end_now k.world n) ∷ [] =
             ap (λ (b : Answer). option_to_list (outcome_of b)) (made_answer k.world (Move.Leaves c) can.free ∙ ap (leave_answer k.world c) e) in
             let world : run (Move.Leaves c ∷ []) k.world ≡ close_effect k.world n = made_world k.world (Move.Leaves c) can.free ∙ ap (leave_effect k.world c) e in
-            record {
-              reading = Reading.Nothing;
-              may = record { reading = refl; outcome = rw (ap (reply_outcomes k c (Event.Leave c)) alone) (inl refl) };
-              view = ap (λ (z : Option ℕ). option_map_or (λ m. closed_view m (view_of k)) z (view_of k)) (endpoint_oldest k c can.there ∙ e)
-                  ∙ (closed_is k c n reached can.there o.there o.live (λ n. accepted_of n k.steps) (λ n. unread_at n k.steps) (λ n. text_out k.names n k.steps) (λ n. subscribe_frame n k.steps)
-                  ∙ (sym (quiet_view k.names step k.steps (close_effect k.world n) (leave_is_quiet k.names c n (end_now k.world n) k.steps))
-                  ∙ ap (λ (v : World). view_after k.names v (step ∷ k.steps)) (sym world)));
-            }
+            quiet_makes k (Event.Leave c) (Outcome.Unsubscribed n (end_now k.world n)) (close_effect k.world n) (leave_is_quiet k.names c n (end_now k.world n) k.steps) refl
+            (rw (ap (reply_outcomes k c (Event.Leave c)) alone) (inl refl)) world
+            (ap (λ (z : Option ℕ). option_map_or (λ m. closed_view m (view_of k)) z (view_of k)) (endpoint_oldest k c can.there ∙ e)
+            ∙ closed_is k c n reached can.there o.there o.live (λ n. accepted_of n k.steps) (λ n. unread_at n k.steps) (λ n. text_out k.names n k.steps) (λ n. subscribe_frame n k.steps))
 
 -- ---- the connection is gone
 
 -- there is none to close
 pub none_to_close : (k : Core) (c : ℕ) → IsReached k → c < length k.world.connections → oldest_end (view_of k) c ≡ None → oldest_live c 0 k.world.subscriptions ≡ None
-none_to_close k c reached there none = go (oldest_live c 0 k.world.subscriptions) refl
-  where
-    go : (o : Option ℕ) → oldest_live c 0 k.world.subscriptions ≡ o → oldest_live c 0 k.world.subscriptions ≡ None
-    go None e = e
-    go (Some n) e = none_some _ (sym none ∙ ends_as k c n reached there e)
+none_to_close k c reached there none = (elim (oldest_live c 0 k.world.subscriptions) as (λ (o : Option ℕ). oldest_live c 0 k.world.subscriptions ≡ o → oldest_live c 0 k.world.subscriptions ≡ None) [
+  | None ↦ λ e. e
+  | Some n ↦ λ e. none_some _ (sym none ∙ ends_as k c n reached there e)
+]) refl
 
 -- what was held stays
 pub none_closed : (k : Core) (c : ℕ) → IsReached k → leave_objection (view_of k).senders (slice_get (view_of k).endpoints c) ≡ None
@@ -248,15 +224,9 @@ none_closed k c reached is none =
     let can = can_leave k c is in
     ap (λ (z : Option ℕ). option_map_or (λ m. closed_view m (view_of k)) z (view_of k)) (endpoint_oldest k c can.there ∙ none_to_close k c reached can.there none)
 
--- the RECEIPT of its DISCONNECT, as it is spelled
-text_of : (parting : Option (List ℕ)) → flat_map spelling_of (option_map_or (λ id. receipt_frame id ∷ []) parting []) ≡ parting_text (Stage.Leaving parting)
-text_of None = refl
-text_of (Some id) = append-nil (spelling_of (receipt_frame id))
-
 -- what the step writes to connection n
 abbrev written : Core → ℕ → Bool → ℕ → List ℕ
-written k c cut n =
-    cond cut [] (flat_map spelling_of (cond (c == n) (flat_map receipts_of (filter (λ f. is_disconnect f.command) (accepted_of n k.steps))) []))
+written k c cut n = cond cut [] (flat_map spelling_of (cond (c == n) (flat_map receipts_of (filter (λ f. is_disconnect f.command) (accepted_of n k.steps))) []))
 
 written_none : (cut b : Bool) (fs : List RawFrame) → b ≡ false → cond cut [] (flat_map spelling_of (cond b fs [])) ≡ []
 written_none true b fs e = refl
@@ -271,36 +241,29 @@ cut_outcome : (k : Core) (c : ℕ) → IsReached k → has_parting (Stage.Leavin
 cut_outcome k c reached asked =
     ap (λ (b : Bool). is_any (cond b (flat_map receipts_of (filter (λ f. is_disconnect f.command) (accepted_of c k.steps))) [])) (eq-eqb c c refl)
     ∙ (ap is_any (parting_is k c reached)
-    ∙ any (parting_receipt (accepted_of c k.steps)) asked)
-  where
-    any : (parting : Option (List ℕ)) → has_parting (Stage.Leaving parting) ≡ true → is_any (option_map_or (λ id. receipt_frame id ∷ []) parting []) ≡ true
-    any None e = absurd (false≢true e)
-    any (Some id) e = refl
+    ∙ (elim (parting_receipt (accepted_of c k.steps)) as (λ (parting : Option (List ℕ)). has_parting (Stage.Leaving parting) ≡ true → is_any (option_map_or (λ id. receipt_frame id ∷ []) parting []) ≡ true) [
+      | None ↦ λ e. absurd (false≢true e)
+      | Some id ↦ λ e. refl
+    ]) asked)
 
 -- the connection is gone, with its RECEIPT or without
 pub leave_gone : (k : Core) (c : ℕ) (cut : Bool) → IsReached k → leave_objection (view_of k).senders (slice_get (view_of k).endpoints c) ≡ None
     → oldest_end (view_of k) c ≡ None → (cut ≡ true → has_parting (get_or (view_of k).endpoints c no_endpoint).stage ≡ true)
     → Makes k (Event.Leave c) (Outcome.Gone cut) (gone_view cut c (rested_view c (view_of k)))
 leave_gone k c cut reached is none asked =
-    let can = can_leave k c is in
-    let w = k.world in
-    let steps = k.steps in
-    let step = step_of (Event.Leave c) Reading.Nothing (Outcome.Gone cut) in
-    let x : Connection = record { sender = (connection_at w c).sender; standing = Standing.Gone } in
-    let u = with_connection w c x in
-    let oldest = none_to_close k c reached can.there none in
-    let accepted = λ (n : ℕ). accepted_of n steps in
-    let unread = λ (n : ℕ). unread_at n steps in
-    let text = λ (n : ℕ). text_out k.names n steps in
-    let later = λ (n : ℕ). text_out k.names n steps ++ written k c cut n in
-    let f = λ (n : ℕ). endpoint_view (names_at k) w n (accepted n) (unread n) (text n) in
-    let g = λ (n : ℕ). endpoint_view (names_at k) u n (accepted n) (unread n) (later n) in
-    let now : connection_at u c ≡ x = get_or-set_same w.connections c x nobody can.there in
-    let parting = parting_receipt (accepted c) in
+    let can = can_leave k c is in let w = k.world in let steps = k.steps in let step = step_of (Event.Leave c) Reading.Nothing (Outcome.Gone cut) in
+    let x : Connection = record { sender = (connection_at w c).sender; standing = Standing.Gone } in let u = with_connection w c x in
+    let oldest = none_to_close k c reached can.there none in let accepted = λ (n : ℕ). accepted_of n steps in let unread = λ (n : ℕ). unread_at n steps in
+    let text = λ (n : ℕ). text_out k.names n steps in let later = λ (n : ℕ). text_out k.names n steps ++ written k c cut n in
+    let f = λ (n : ℕ). endpoint_view (names_at k) w n (accepted n) (unread n) (text n) in let g = λ (n : ℕ). endpoint_view (names_at k) u n (accepted n) (unread n) (later n) in
+    let now : connection_at u c ≡ x = get_or-set_same w.connections c x nobody can.there in let parting = parting_receipt (accepted c) in
     let staged : (f c).stage ≡ Stage.Leaving parting = ap (λ (z : Standing). stage_view (names_at k) z (speaker w c).flight (accepted c) (unread c)) can.leaving in
     let own : written k c cut c ≡ cond cut [] (parting_text (f c).stage) =
     written_own cut (c == c) _ (eq-eqb c c refl)
-    ∙ ap (λ (z : List ℕ). cond cut [] z) (ap (λ (rs : List RawFrame). flat_map spelling_of rs) (parting_is k c reached) ∙ (text_of parting ∙ ap parting_text (sym staged))) in
+    ∙ ap (λ (z : List ℕ). cond cut [] z) (ap (λ (rs : List RawFrame). flat_map spelling_of rs) (parting_is k c reached) ∙ (elim parting as (λ (parting : Option (List ℕ)). flat_map spelling_of (option_map_or (λ id. receipt_frame id ∷ []) parting []) ≡ parting_text (Stage.Leaving parting)) [
+      | None ↦ refl
+      | Some id ↦ append-nil (spelling_of (receipt_frame id))
+    ] ∙ ap parting_text (sym staged))) in
     let endpoint : gone_endpoint cut (f c) ≡ g c = λ i. record {
       sender = (sym now i).sender;
       stage = stage_view (names_at k) (sym now i).standing (sender_at w (unwrap_or (sym now i).sender (length w.senders))).flight (accepted c) (unread c);
@@ -319,14 +282,11 @@ leave_gone k c cut reached is none asked =
     let world : run (Move.Leaves c ∷ []) w ≡ u = made_world w (Move.Leaves c) can.free ∙ ap (leave_effect w c) oldest in
     let alone : move_outcome k (Move.Leaves c) ≡ Outcome.Gone false ∷ [] =
     ap (λ (b : Answer). option_to_list (outcome_of b)) (made_answer w (Move.Leaves c) can.free ∙ ap (leave_answer w c) oldest) in
-    record {
-      reading = Reading.Nothing;
-      may = record { reading = refl; outcome = rw (ap (reply_outcomes k c (Event.Leave c)) alone) (either cut (λ e. cut_outcome k c reached (asked_here (asked e) staged))) };
-      view = ap (gone_view cut c) (gone_rests k c reached can.there (ap is_gone can.leaving))
-          ∙ (ap (λ (ls : List EndpointView). record (view_of k) { senders = each_number (held_sender u) 0 w.senders; endpoints = ls }) endpoints
-          ∙ ((λ i. view_with (names_at k) u (λ n. sym (append-nil (accepted n)) i) unread later (λ s. subscribe_frame s steps))
-          ∙ ap (λ (v : World). view_after k.names v (step ∷ steps)) (sym world)));
-    }
+    step_makes k (Event.Leave c) (Outcome.Gone cut) u refl
+    (rw (ap (reply_outcomes k c (Event.Leave c)) alone) (either cut (λ e. cut_outcome k c reached (asked_here (asked e) staged)))) world
+    (ap (gone_view cut c) (gone_rests k c reached can.there (ap is_gone can.leaving))
+    ∙ (ap (λ (ls : List EndpointView). record (view_of k) { senders = each_number (held_sender u) 0 w.senders; endpoints = ls }) endpoints
+    ∙ (λ i. view_with (names_at k) u (λ n. sym (append-nil (accepted n)) i) unread later (λ s. subscribe_frame s steps))))
   where
     asked_here : has_parting (get_or (view_of k).endpoints c no_endpoint).stage ≡ true
         → (endpoint_view (names_at k) k.world c (accepted_of c k.steps) (unread_at c k.steps) (text_out k.names c k.steps)).stage ≡ Stage.Leaving (parting_receipt (accepted_of c k.steps))

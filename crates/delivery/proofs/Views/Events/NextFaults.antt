@@ -1,26 +1,17 @@
 -- A Next that reads no whole frame, and one that ends its connection by an ERROR.
-use Rattle.delivery.proofs.Words.Std.{◌≡◌, ℕ, ◌<◌, Bool, true, false, cond, inl, inr, List, [], ◌∷◌, ◌++◌, length, get_or, Option, Some, None, refl, sym, ap, subst, ◌∙◌, arith, ◌||◌, Result, Ok, Err, flat_map, list_any, option_map, option_map_or, option_or, option_and_then, option_to_list, unwrap_or, append-nil, get_or-set_same, true≢false}
-use Rattle.delivery.proofs.Words.Topics.{first_refusal, In}
-use Rattle.delivery.proofs.Words.Frames.{CaseFault, RawFrame, Command, case_fault, is_connect, Unread, receipt_of, spelling_of, Step, SessionFault, Action, action_by, takes_memory, with_destination, Held, held_after, state_of, session_fault}
-use Rattle.delivery.proofs.Words.Machine.{Objection, refusal_of, World, Connection, Standing, nobody, connection_at, sender_at, speaker, is_gone, Move, needs_idle, move_refusal, with_leaving}
-use Rattle.delivery.proofs.Words.Core.{Event, ConnectionFault, OpenEndpoint, Outcome, Refusal, Stage, Reading, frame_in, accepted_of, is_cut, receipt_asked, says_version, next_replies, text_out, Core, IsReadBy, core_for, frame_move, session_at, unread_at, names_at, claim_fault, fault_outcomes, frame_fault, frame_no_memory, frame_outcome, reading_outcomes, unless, accepted_outcomes, is_any, outcomes_without, wants_memory, live_numbers}
-use Rattle.delivery.proofs.Words.Views.{AsksNamed, IsRefusedAs, Judgement, EndpointFault, error_text, failed_endpoint, idle_objection, staged_endpoint, accepted_stage, MayEnd, MayLack, IsReached, Makes, step_of, View, EndpointView, view_of, view_after, stage_view, endpoint_view, no_endpoint, parting_receipt}
+use Rattle.delivery.proofs.Words.All.{◌≡◌, ℕ, ◌<◌, Bool, true, false, cond, inl, inr, List, [], ◌∷◌, ◌++◌, length, get_or, Option, Some, None, refl, sym, ap, subst, ◌∙◌, arith, ◌||◌, Result, Ok, Err, flat_map, list_any, option_map, option_map_or, option_or, option_and_then, option_to_list, unwrap_or, append-nil, get_or-set_same, true≢false, first_refusal, In, CaseFault, RawFrame, Command, case_fault, is_connect, Unread, receipt_of, spelling_of, Step, SessionFault, Action, action_by, takes_memory, with_destination, Held, held_after, state_of, session_fault, Objection, refusal_of, World, Connection, Standing, nobody, connection_at, sender_at, speaker, is_gone, Move, needs_idle, move_refusal, with_leaving, Event, ConnectionFault, OpenEndpoint, Outcome, Refusal, Stage, Reading, frame_in, accepted_of, is_cut, receipt_asked, says_version, next_replies, text_out, Core, IsReadBy, core_for, frame_move, session_at, unread_at, names_at, claim_fault, fault_outcomes, frame_fault, frame_no_memory, frame_outcome, reading_outcomes, unless, accepted_outcomes, is_any, outcomes_without, wants_memory, live_numbers, AsksNamed, IsRefusedAs, Judgement, EndpointFault, error_text, failed_endpoint, idle_objection, staged_endpoint, accepted_stage, MayEnd, MayLack, IsReached, Makes, View, EndpointView, view_of, view_after, stage_view, endpoint_view, no_endpoint, parting_receipt}
 use Rattle.stomp_frame.specs.declared.command.Command.TheVariants as commands
 use Rattle.stomp_session.specs.declared.action.Action.TheVariants as actions
 use Rattle.stomp_session.specs.Answers.{Refuses}
 use Rattle.delivery.specs.Core.State.{left_by}
 use Rattle.delivery.specs.Inner.Nexts.{Ends, HasFault, JudgesReading, JudgesAt}
 use Rattle.delivery.proofs.Machine.Effects.{made_world}
-use Rattle.delivery.proofs.Core.ClaimsStand.{connect_of}
+use Rattle.delivery.proofs.Words.Changes.{connect_of, with_endpoint, endpoint_again, length-each_number, refused_is_quiet, in_one, endpoint_at, quiet_makes}
 use Rattle.delivery.proofs.Core.FramesRead.{unanswered}
 use Rattle.delivery.proofs.Core.NamesKnown.{known_all}
 use Rattle.delivery.proofs.Views.Events.ReadingChecks.{idle_checked}
-use Rattle.delivery.proofs.Views.Endpoints.EndpointChanges.{with_endpoint, endpoint_again}
-use Rattle.delivery.proofs.Views.Lists.ByNumber.{length-each_number}
 use Rattle.delivery.proofs.Views.Events.NextStep.{ReadsUnless, view_by, next_of, next_endpoint, next_makes, next_still, next_written, frames_added, text_added, idle_there, idle_reads, idle_stage, idle_open}
 use Rattle.delivery.proofs.Views.Endpoints.DisconnectIsLast.{not_parting}
-use Rattle.delivery.proofs.Views.Endpoints.EndpointsStay.{quiet_view, refused_is_quiet}
-use Rattle.delivery.proofs.Views.Events.OneMove.{in_one, endpoint_at}
 use Rattle.delivery.proofs.Views.Clients.RestingStay.{standing_speaks}
 
 -- ---- the endpoint of a connection
@@ -30,10 +21,8 @@ abbrev pub endpoint_of : List (List ℕ) → Core → ℕ → EndpointView
 endpoint_of names k c = endpoint_view names k.world c (accepted_of c k.steps) (unread_at c k.steps) (text_out k.names c k.steps)
 
 -- that the view has
-pub endpoint_there : (names : List (List ℕ)) (k : Core) (c : ℕ) (d : EndpointView) → c < length k.world.connections
-    → get_or (view_by names k).endpoints c d ≡ endpoint_of names k c
-endpoint_there names k c d there =
-    endpoint_at k c d (λ n. endpoint_view names k.world n (accepted_of n k.steps) (unread_at n k.steps) (text_out k.names n k.steps)) there
+pub endpoint_there : (names : List (List ℕ)) (k : Core) (c : ℕ) (d : EndpointView) → c < length k.world.connections → get_or (view_by names k).endpoints c d ≡ endpoint_of names k c
+endpoint_there names k c d there = endpoint_at k c d (λ n. endpoint_view names k.world n (accepted_of n k.steps) (unread_at n k.steps) (text_out k.names n k.steps)) there
 
 -- there are as many endpoints
 pub within_endpoints : (names : List (List ℕ)) (k : Core) (c : ℕ) → c < length k.world.connections → c < length (view_by names k).endpoints
@@ -51,19 +40,12 @@ idle_endpoint k c = record { reader = unread_at c k.steps; session = state_of (s
 pub next_refused : (k : Core) (c : ℕ) (why : Objection) (reason : Refusal) → idle_objection (view_of k) c ≡ Some why
     → refusal_of why ≡ Some reason → Makes k (Event.Next c) (Outcome.Refused reason) (view_of k)
 next_refused k c why reason is reported =
-    let o = Outcome.Refused reason in
-    let step = step_of (Event.Next c) Reading.Nothing o in
-    let objected = sym (idle_checked k c) ∙ is in
-    record {
-      reading = Reading.Nothing;
-      may = record {
-        reading = subst (ReadsUnless (unread_at c k.steps) Reading.Nothing) (sym objected) refl;
-        outcome = in_one o (unless (first_refusal (needs_idle k.world c)) (reading_outcomes k c Reading.Nothing))
-            (ap (λ (x : Option Objection). unless x (reading_outcomes k c Reading.Nothing)) objected
-            ∙ ap (λ (r : Option Refusal). option_to_list (option_map Outcome.Refused r)) reported);
-      };
-      view = sym (quiet_view k.names step k.steps k.world (refused_is_quiet k.names (Event.Next c) reason k.steps));
-    }
+    let o = Outcome.Refused reason in let objected = sym (idle_checked k c) ∙ is in
+    quiet_makes k (Event.Next c) o k.world (refused_is_quiet k.names (Event.Next c) reason k.steps)
+    (subst (ReadsUnless (unread_at c k.steps) Reading.Nothing) (sym objected) refl)
+    (in_one o (unless (first_refusal (needs_idle k.world c)) (reading_outcomes k c Reading.Nothing))
+    (ap (λ (x : Option Objection). unless x (reading_outcomes k c Reading.Nothing)) objected
+    ∙ ap (λ (r : Option Refusal). option_to_list (option_map Outcome.Refused r)) reported)) refl refl
 
 -- ---- what was judged
 
@@ -88,8 +70,7 @@ judged_at k c stage new result held reached idle view is h =
     }
 
 -- the endpoint of an idle connection is judged
-pub judged : (k : Core) (c : ℕ) (result : Result (Option Step) EndpointFault) (held : View) (d : EndpointView) → IsReached k
-    → first_refusal (needs_idle k.world c) ≡ None
+pub judged : (k : Core) (c : ℕ) (result : Result (Option Step) EndpointFault) (held : View) (d : EndpointView) → IsReached k → first_refusal (needs_idle k.world c) ≡ None
     → held ≡ with_endpoint (record (view_of k) { names = held.names }) c (staged_endpoint (get_or held.endpoints c d).stage (get_or (view_of k).endpoints c d))
     → JudgesAt (names_at k) (get_or (view_of k).endpoints c d).stage result (get_or held.endpoints c d).stage held.names → IsJudged k c result held
 judged k c result held d reached idle view h =
@@ -112,14 +93,12 @@ read_judged k c old held result known d reached free is view h same =
 -- where no name was added, the view is that of before with another endpoint
 unnamed : (k : Core) (c : ℕ) (held : View) (endpoint : EndpointView) → held.names ≡ names_at k → held ≡ with_endpoint (record (view_of k) { names = held.names }) c endpoint
     → held ≡ with_endpoint (view_of k) c endpoint
-unnamed k c held endpoint names view =
-    view ∙ ap (λ (ns : List (List ℕ)). with_endpoint (record (view_of k) { names = ns }) c endpoint) names
+unnamed k c held endpoint names view = view ∙ ap (λ (ns : List (List ℕ)). with_endpoint (record (view_of k) { names = ns }) c endpoint) names
 
 -- ---- no whole frame
 
 staged_is : (k : Core) (c : ℕ) (stage : Stage) (accepted : List RawFrame) (unread : Unread) (text : List ℕ)
-    → stage_view (names_at k) (connection_at k.world c).standing (speaker k.world c).flight accepted unread ≡ stage
-    → text ≡ text_out k.names c k.steps
+    → stage_view (names_at k) (connection_at k.world c).standing (speaker k.world c).flight accepted unread ≡ stage → text ≡ text_out k.names c k.steps
     → staged_endpoint stage (endpoint_of (names_at k) k c) ≡ endpoint_view (names_at k) k.world c accepted unread text
 staged_is k c stage accepted unread text is same = λ i. record {
   sender = (connection_at k.world c).sender;
@@ -133,9 +112,7 @@ waits_by : (k : Core) (c : ℕ) (held : View) (after : OpenEndpoint) (reading : 
     → IsReadBy (unread_at c k.steps) reading → JudgesReading (accepted_of c k.steps) (names_at k) (idle_endpoint k c) reading (Ok None) after held.names
     → Makes k (Event.Next c) (Outcome.Refused Refusal.NoFrame) held
 waits_by k c held after (Reading.Waits left) idle view read is =
-    let o = Outcome.Refused Refusal.NoFrame in
-    let reading = Reading.Waits left in
-    let accepted = accepted_of c k.steps ++ frames_added reading o in
+    let o = Outcome.Refused Refusal.NoFrame in let reading = Reading.Waits left in let accepted = accepted_of c k.steps ++ frames_added reading o in
     let endpoint = staged_is k c (Stage.Open (record { reader = left; session = state_of (held_after (names_at k) accepted); receipt = None })) accepted left
     (text_out k.names c k.steps ++ text_added reading o) (idle_stage (names_at k) k c accepted left idle) (append-nil (text_out k.names c k.steps)) in
     let session : after ≡ record { reader = left; session = state_of (held_after (names_at k) accepted); receipt = None } =
@@ -156,29 +133,18 @@ next_waits k c held idle h = waits_by k c held h.after h.judgement.reading idle 
 
 -- ---- ERRORs
 
-reply_is : (read : Option RawFrame) (fault : ConnectionFault) (cut : Bool)
-    → flat_map spelling_of (next_replies read (Outcome.Faulted fault cut)) ≡ error_text fault (receipt_asked read) (says_version read fault)
-reply_is None fault cut = append-nil (error_text fault (receipt_asked None) (says_version None fault))
-reply_is (Some f) fault cut = append-nil (error_text fault (receipt_asked (Some f)) (says_version (Some f) fault))
-
 cut_text : (cut : Bool) (old text new : List ℕ) → new ≡ text → cond cut old (old ++ text) ≡ old ++ cond cut [] new
 cut_text true old text new is = sym (append-nil old)
 cut_text false old text new is = ap (λ (octets : List ℕ). old ++ octets) (sym is)
 
 -- the connection is leaving, with its ERROR or without
 pub next_ends : (k : Core) (c : ℕ) (reading : Reading) (fault : ConnectionFault) (receipt : Option (List ℕ)) (version cut : Bool) (stage : Stage) (held new : View) (d : EndpointView)
-    → Ends k c reading fault receipt version
-    → held ≡ with_endpoint (view_of k) c (staged_endpoint stage (endpoint_of (names_at k) k c))
-    → new ≡ with_endpoint held c (failed_endpoint cut (error_text fault receipt version) (get_or held.endpoints c d))
-    → Makes k (Event.Next c) (Outcome.Faulted fault cut) new
+    → Ends k c reading fault receipt version → held ≡ with_endpoint (view_of k) c (staged_endpoint stage (endpoint_of (names_at k) k c))
+    → new ≡ with_endpoint held c (failed_endpoint cut (error_text fault receipt version) (get_or held.endpoints c d)) → Makes k (Event.Next c) (Outcome.Faulted fault cut) new
 next_ends k c reading fault receipt version cut stage held new d ends view is =
-    let o = Outcome.Faulted fault cut in
-    let there = idle_there k.world c ends.idle in
-    let endpoints : c < length (view_of k).endpoints = within_endpoints (names_at k) k c there in
-    let x : Connection = record { sender = (connection_at k.world c).sender; standing = Standing.Leaving } in
-    let w = with_leaving k.world c in
-    let now : connection_at w c ≡ x = get_or-set_same k.world.connections c x nobody there in
-    let accepted = accepted_of c k.steps in
+    let o = Outcome.Faulted fault cut in let there = idle_there k.world c ends.idle in let endpoints : c < length (view_of k).endpoints = within_endpoints (names_at k) k c there in
+    let x : Connection = record { sender = (connection_at k.world c).sender; standing = Standing.Leaving } in let w = with_leaving k.world c in
+    let now : connection_at w c ≡ x = get_or-set_same k.world.connections c x nobody there in let accepted = accepted_of c k.steps in
     let parted : parting_receipt (accepted ++ []) ≡ None =
     ap parting_receipt (append-nil accepted)
     ∙ ap (λ (f : Option RawFrame). option_and_then receipt_of f) (not_parting k c ends.reached (idle_reads k.world c ends.idle)) in
@@ -191,7 +157,10 @@ next_ends k c reading fault receipt version cut stage held new d ends view is =
           ∙ ap (λ (y : Connection). stage_view (names_at k) y.standing (sender_at k.world (unwrap_or y.sender (length k.world.senders))).flight (accepted ++ []) (left_by (unread_at c k.steps) reading)) (sym now)) i;
       live = live_numbers c 0 k.world.subscriptions;
       output = cut_text cut (text_out k.names c k.steps) (error_text fault receipt version) (flat_map spelling_of (next_replies (frame_in reading) o))
-          (reply_is (frame_in reading) fault cut ∙ sym text) i;
+          (elim (frame_in reading) as (λ (read : Option RawFrame). flat_map spelling_of (next_replies read (Outcome.Faulted fault cut)) ≡ error_text fault (receipt_asked read) (says_version read fault)) [
+            | None ↦ append-nil (error_text fault (receipt_asked None) (says_version None fault))
+            | Some f ↦ append-nil (error_text fault (receipt_asked (Some f)) (says_version (Some f) fault))
+          ] ∙ sym text) i;
     } in
     let free : move_refusal k.world (Move.Errs c) ≡ None = ap (λ (why : Option Objection). option_or why None) ends.idle in
     next_makes k c reading o new ends.idle ends.read (ends.may cut)
@@ -221,8 +190,7 @@ by_fault k c f fault cut e =
 
 -- what the machine has against an accepted frame
 abbrev pub asked_objection : Core → ℕ → RawFrame → Option Objection
-asked_objection k c f =
-    option_and_then (λ move. move_refusal (core_for k f).world move) (frame_move k c (action_by f.command (session_at k c) f))
+asked_objection k c f = option_and_then (λ move. move_refusal (core_for k f).world move) (frame_move k c (action_by f.command (session_at k c) f))
 
 -- what is at fault with it but for that
 abbrev pub asked_claim : Core → ℕ → RawFrame → Option ConnectionFault
@@ -335,8 +303,7 @@ faulted_by k c after fault frame (Reading.Fails check left) later reached idle r
 
 -- an endpoint that ends by its fault
 pub next_faults : (k : Core) (c : ℕ) (fault : ConnectionFault) (frame : Option RawFrame) (held : View) → IsReached k
-    → first_refusal (needs_idle k.world c) ≡ None → IsJudged k c (Err (fault, frame)) held
-    → HasFault k c fault frame held
+    → first_refusal (needs_idle k.world c) ≡ None → IsJudged k c (Err (fault, frame)) held → HasFault k c fault frame held
 next_faults k c fault frame held reached idle h =
     let by = faulted_by k c h.after fault frame h.judgement.reading held.names reached idle h.judgement.read h.judgement.judged in
     record {
@@ -350,8 +317,7 @@ next_faults k c fault frame held reached idle h =
 -- it ends by an ERROR
 pub next_fails : (k : Core) (c : ℕ) (fault : ConnectionFault) (frame : Option RawFrame) (receipt : Option (List ℕ)) (version : Bool) (held new : View) (o : Outcome) (d : EndpointView)
     → HasFault k c fault frame held → receipt ≡ receipt_asked frame → version ≡ says_version frame fault → o ≡ Outcome.Faulted fault (is_cut o)
-    → new ≡ with_endpoint held c (failed_endpoint (is_cut o) (error_text fault receipt version) (get_or held.endpoints c d))
-    → Makes k (Event.Next c) o new
+    → new ≡ with_endpoint held c (failed_endpoint (is_cut o) (error_text fault receipt version) (get_or held.endpoints c d)) → Makes k (Event.Next c) o new
 next_fails k c fault frame receipt version held new o d h same says is view =
     subst (λ (p : Outcome). Makes k (Event.Next c) p new) (sym is)
     (next_ends k c h.reading fault (receipt_asked frame) (says_version frame fault) (is_cut o) h.stage held new d h.ends
@@ -366,8 +332,7 @@ pub record IsTakenUp (k : Core) (c : ℕ) (step : Step) (held : View) : Type 0 w
   pub left : Unread
   pub asks : AsksNamed k c frame left step.action step.receipt held
 
-takes_by : (k : Core) (c : ℕ) (held : View) (after : OpenEndpoint) (step : Step) (reading : Reading) → IsReached k
-    → first_refusal (needs_idle k.world c) ≡ None
+takes_by : (k : Core) (c : ℕ) (held : View) (after : OpenEndpoint) (step : Step) (reading : Reading) → IsReached k → first_refusal (needs_idle k.world c) ≡ None
     → held ≡ with_endpoint (record (view_of k) { names = held.names }) c (staged_endpoint (Stage.Open after) (endpoint_of (names_at k) k c))
     → IsReadBy (unread_at c k.steps) reading → JudgesReading (accepted_of c k.steps) (names_at k) (idle_endpoint k c) reading (Ok (Some step)) after held.names
     → IsTakenUp k c step held
@@ -399,5 +364,4 @@ takes_by k c held after step (Reading.Fails check left) reached idle view read i
 -- the frame that a Next read is accepted
 pub next_takes : (k : Core) (c : ℕ) (step : Step) (held : View) → IsReached k → first_refusal (needs_idle k.world c) ≡ None
     → IsJudged k c (Ok (Some step)) held → IsTakenUp k c step held
-next_takes k c step held reached idle h =
-    takes_by k c held h.after step h.judgement.reading reached idle h.view h.judgement.read h.judgement.judged
+next_takes k c step held reached idle h = takes_by k c held h.after step h.judgement.reading reached idle h.view h.judgement.read h.judgement.judged

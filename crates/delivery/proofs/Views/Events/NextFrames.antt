@@ -1,25 +1,17 @@
 -- A Next whose frame is accepted, and asks for nothing of the machine but that its connection ends.
-use Rattle.delivery.proofs.Words.Std.{◌≡◌, ℕ, ◌<◌, Bool, true, false, cond, inl, List, [], ◌∷◌, ◌++◌, length, get_or, Option, Some, None, refl, sym, ap, subst, ◌∙◌, codes, flat_map, option_map, option_map_or, option_or, option_and_then, option_to_list, unwrap_or, append-nil, get_or-set_same}
-use Rattle.delivery.proofs.Words.Topics.{In, SentMessage, first_refusal}
-use Rattle.delivery.proofs.Words.Frames.{Command, RawFrame, is_connect, first_of, Unread, receipt_of, connected_frame, receipt_frame, spelling_of, Action, action_by, commit, with_destination, is_disconnect, send_of, transaction_of, Held, sends_in}
-use Rattle.delivery.proofs.Words.Lemmas.{In-append_left}
-use Rattle.delivery.proofs.Words.Machine.{Objection, World, Connection, Standing, nobody, connection_at, sender_at, speaker, is_gone, Move, move_refusal, move_effect, move_answer, needs_idle, with_leaving, run}
-use Rattle.delivery.proofs.Words.Core.{ConnectionFault, Event, Outcome, Stage, Reading, has_effect, accepted_of, is_cut, receipts_of, text_out, Core, core_for, frame_move, is_faulted, next_moves, session_at, names_at, topic_moves, MayStep, claim_fault, fault_outcomes, frame_fault, frame_no_memory, frame_outcome, move_outcome, outcome_of, reading_outcomes, accepted_outcomes, outcomes_without, wants_memory, live_numbers}
-use Rattle.delivery.proofs.Words.Views.{Asks, AsksUnnamed, accepted_stage, error_text, failed_endpoint, receipt_text, staged_endpoint, MayEnd, Makes, View, EndpointView, view_of, view_after, stage_view, leaving_endpoint, no_endpoint, parting_receipt, written_endpoint}
+use Rattle.delivery.proofs.Words.All.{◌≡◌, ℕ, ◌<◌, Bool, true, false, cond, inl, List, [], ◌∷◌, ◌++◌, length, get_or, Option, Some, None, refl, sym, ap, subst, ◌∙◌, flat_map, option_map, option_map_or, option_or, option_and_then, option_to_list, unwrap_or, append-nil, get_or-set_same, In, first_refusal, RawFrame, Unread, receipt_of, connected_frame, receipt_frame, spelling_of, Action, action_by, with_destination, is_disconnect, In-append_left, Objection, World, Connection, Standing, nobody, connection_at, sender_at, speaker, is_gone, Move, move_refusal, move_effect, move_answer, needs_idle, with_leaving, run, ConnectionFault, Event, Outcome, Stage, Reading, has_effect, accepted_of, is_cut, receipts_of, text_out, Core, core_for, frame_move, is_faulted, next_moves, session_at, names_at, topic_moves, MayStep, claim_fault, fault_outcomes, frame_fault, frame_no_memory, frame_outcome, move_outcome, outcome_of, reading_outcomes, accepted_outcomes, outcomes_without, wants_memory, live_numbers, Asks, AsksUnnamed, accepted_stage, error_text, failed_endpoint, receipt_text, staged_endpoint, MayEnd, Makes, View, EndpointView, view_of, view_after, stage_view, leaving_endpoint, no_endpoint, parting_receipt, written_endpoint}
 use Rattle.std.specs.List.{find}
-use Rattle.stomp_frame.specs.declared.command.Command.TheVariants as commands
 use Rattle.stomp_session.specs.declared.action.Action.TheVariants as actions
-use Rattle.delivery.proofs.Machine.Effects.{made_answer, made_world}
-use Rattle.delivery.proofs.Views.Endpoints.EndpointChanges.{with_endpoint, endpoint_again}
-use Rattle.delivery.proofs.Core.ByRun.{run_append}
+use Rattle.delivery.proofs.Words.Steps.{made_answer, made_world, run_append}
+use Rattle.delivery.proofs.Words.Changes.{with_endpoint, endpoint_again, in_outcome}
 use Rattle.delivery.proofs.Core.FrameWorld.{idle_for}
 use Rattle.delivery.proofs.Views.Events.FrameTopic.{named_is}
 use Rattle.delivery.proofs.Views.Events.UntoldVersion.{untold}
 use Rattle.delivery.proofs.Views.Events.NextFaults.{asked_objection, fault_is, endpoint_of, endpoint_there, next_ends, within_endpoints}
 use Rattle.delivery.proofs.Views.Events.NextStep.{view_by, held_still, next_of, next_endpoint, next_makes, next_may, next_still, next_written, text_added, frames_added, idle_there, idle_reads, idle_stage, idle_open}
 use Rattle.delivery.proofs.Views.Endpoints.DisconnectIsLast.{not_parting}
-use Rattle.delivery.proofs.Views.Events.OneMove.{in_outcome}
 use Rattle.delivery.proofs.Views.Clients.RestingStay.{standing_speaks}
+use Rattle.delivery.proofs.Core.Actions.{frame_fits}
 
 -- ---- what is held
 
@@ -32,8 +24,7 @@ pub there_for : (k : Core) (f : RawFrame) (c : ℕ) → first_refusal (needs_idl
 there_for k f c idle = idle_there (core_for k f).world c (idle_for k f c idle)
 
 -- once the frame is accepted, and its destination has its topic
-pub accepted_view : (k : Core) (c : ℕ) (f : RawFrame) (left : Unread) (action : Action) (receipt : Option (List ℕ)) (held : View)
-    → Asks k c f left action receipt held
+pub accepted_view : (k : Core) (c : ℕ) (f : RawFrame) (left : Unread) (action : Action) (receipt : Option (List ℕ)) (held : View) → Asks k c f left action receipt held
     → held ≡ with_endpoint (view_by (names_for k f) (core_for k f)) c (staged_endpoint (accepted_stage k c f left) (endpoint_of (names_for k f) (core_for k f) c))
 accepted_view k c f left action receipt held asks =
     let names = names_for k f in let q = core_for k f in
@@ -57,9 +48,7 @@ pub replied_view : (k : Core) (c : ℕ) (f : RawFrame) (left : Unread) (action :
     → new ≡ with_endpoint held c (written_endpoint text (get_or held.endpoints c d))
     → new ≡ held_still (names_for k f) (core_for k f) (core_for k f).world c (Reading.Finds f left) o
 replied_view k c f left action receipt held new o text d asks effect text_is is =
-    let names = names_for k f in let q = core_for k f in let w = q.world in
-    let reading = Reading.Finds f left in
-    let accepted = accepted_of c k.steps in
+    let names = names_for k f in let q = core_for k f in let w = q.world in let reading = Reading.Finds f left in let accepted = accepted_of c k.steps in
     let frames : f ∷ [] ≡ frames_added reading o = ap (λ (b : Bool). cond b (f ∷ []) []) (sym effect) in
     let endpoint : written_endpoint text (staged_endpoint (accepted_stage k c f left) (endpoint_of names q c)) ≡ next_endpoint names q w c reading o =
     λ i. record {
@@ -78,19 +67,11 @@ replied_view k c f left action receipt held new o text d asks effect text_is is 
 -- the frame has no effect, its destination has no topic, and the connection ends by an ERROR
 pub next_ends_with : (k : Core) (c : ℕ) (f : RawFrame) (left : Unread) (action : Action) (fault : ConnectionFault) (receipt said : Option (List ℕ)) (held new : View) (o : Outcome) (d : EndpointView)
     → AsksUnnamed k c f left action receipt held → MayEnd k c f fault → said ≡ receipt → o ≡ Outcome.Faulted fault (is_cut o)
-    → new ≡ with_endpoint held c (failed_endpoint (is_cut o) (error_text fault said false) (get_or held.endpoints c d))
-    → Makes k (Event.Next c) o new
+    → new ≡ with_endpoint held c (failed_endpoint (is_cut o) (error_text fault said false) (get_or held.endpoints c d)) → Makes k (Event.Next c) o new
 next_ends_with k c f left action fault receipt said held new o d asks may same is view =
     subst (λ (p : Outcome). Makes k (Event.Next c) p new) (sym is)
     (next_ends k c (Reading.Finds f left) fault receipt false (is_cut o) (accepted_stage k c f left) held new d
-    (record {
-      reached = asks.reached;
-      idle = asks.idle;
-      read = asks.read;
-      may = may;
-      asked = sym asks.wants;
-      said = sym (untold k c f fault asks.cased asks.free may);
-    })
+    (record { reached = asks.reached; idle = asks.idle; read = asks.read; may = may; asked = sym asks.wants; said = sym (untold k c f fault asks.cased asks.free may) })
     (asks.view
     ∙ ap (λ (l : EndpointView). with_endpoint (view_of k) c (staged_endpoint (accepted_stage k c f left) l)) (endpoint_there (names_at k) k c no_endpoint (idle_there k.world c asks.idle)))
     (view ∙ ap (λ (r : Option (List ℕ)). with_endpoint held c (failed_endpoint (is_cut o) (error_text fault r false) (get_or held.endpoints c d))) same))
@@ -110,8 +91,7 @@ unfaulted k c f left action receipt held asks unclaimed none o may =
 -- a frame that asks for no move is done
 pub done_makes : (k : Core) (c : ℕ) (f : RawFrame) (left : Unread) (action : Action) (receipt : Option (List ℕ)) (held new : View) (text : List ℕ) (d : EndpointView)
     → Asks k c f left action receipt held → claim_fault k action ≡ None → frame_move k c action ≡ None → text ≡ text_added (Reading.Finds f left) Outcome.Done
-    → new ≡ with_endpoint held c (written_endpoint text (get_or held.endpoints c d))
-    → Makes k (Event.Next c) Outcome.Done new
+    → new ≡ with_endpoint held c (written_endpoint text (get_or held.endpoints c d)) → Makes k (Event.Next c) Outcome.Done new
 done_makes k c f left action receipt held new text d asks unclaimed none text_is is =
     let q = core_for k f in let ts = topic_moves (names_at k) f in
     let move : frame_move k c (action_by f.command (session_at k c) f) ≡ None = ap (frame_move k c) asks.does ∙ none in
@@ -127,11 +107,9 @@ done_makes k c f left action receipt held new text d asks unclaimed none text_is
 -- the world after such a move
 pub moved_world : (k : Core) (c : ℕ) (f : RawFrame) (left : Unread) (action : Action) (move : Move) (o : Outcome)
     → action_by f.command (session_at k c) f ≡ action → frame_move k c action ≡ Some move → move_refusal (core_for k f).world move ≡ None
-    → has_effect o ≡ true → is_faulted o ≡ false
-    → run (next_moves k c (Reading.Finds f left) o) k.world ≡ move_effect (core_for k f).world move
+    → has_effect o ≡ true → is_faulted o ≡ false → run (next_moves k c (Reading.Finds f left) o) k.world ≡ move_effect (core_for k f).world move
 moved_world k c f left action move o does some free effect fine =
-    let q = core_for k f in let ts = topic_moves (names_at k) f in
-    let own = option_to_list (frame_move k c (action_by f.command (session_at k c) f)) in
+    let q = core_for k f in let ts = topic_moves (names_at k) f in let own = option_to_list (frame_move k c (action_by f.command (session_at k c) f)) in
     let asked : frame_move k c (action_by f.command (session_at k c) f) ≡ Some move = ap (frame_move k c) does ∙ some in
     let made : next_moves k c (Reading.Finds f left) o ≡ ts ++ move ∷ [] =
     ap (λ (b : Bool). cond b (Move.Errs c ∷ []) (cond (has_effect o) (ts ++ own) [])) fine
@@ -144,8 +122,7 @@ pub move_may : (k : Core) (c : ℕ) (f : RawFrame) (left : Unread) (action : Act
     → Asks k c f left action receipt held → claim_fault k action ≡ None → frame_move k c action ≡ Some move → move_refusal (core_for k f).world move ≡ None
     → outcome_of (move_answer (core_for k f).world move) ≡ Some o → MayStep k (next_of c (Reading.Finds f left) o)
 move_may k c f left action receipt held move o asks unclaimed some free answer =
-    let q = core_for k f in
-    let asked : frame_move k c (action_by f.command (session_at k c) f) ≡ Some move = ap (frame_move k c) asks.does ∙ some in
+    let q = core_for k f in let asked : frame_move k c (action_by f.command (session_at k c) f) ≡ Some move = ap (frame_move k c) asks.does ∙ some in
     let may : In o (frame_outcome k c f) =
     subst (λ (m : Option Move). In o (option_map_or (move_outcome q) m (Outcome.Done ∷ []))) (sym asked)
     (in_outcome q move o (move_answer q.world move) (made_answer q.world move free) answer) in
@@ -156,50 +133,13 @@ move_may k c f left action receipt held move o asks unclaimed some free answer =
 pub move_makes : (k : Core) (c : ℕ) (f : RawFrame) (left : Unread) (action : Action) (receipt : Option (List ℕ)) (held new : View) (move : Move) (o : Outcome)
     → Asks k c f left action receipt held → claim_fault k action ≡ None → frame_move k c action ≡ Some move → move_refusal (core_for k f).world move ≡ None
     → outcome_of (move_answer (core_for k f).world move) ≡ Some o → has_effect o ≡ true → is_faulted o ≡ false
-    → new ≡ view_after k.names (move_effect (core_for k f).world move) (next_of c (Reading.Finds f left) o ∷ k.steps)
-    → Makes k (Event.Next c) o new
+    → new ≡ view_after k.names (move_effect (core_for k f).world move) (next_of c (Reading.Finds f left) o ∷ k.steps) → Makes k (Event.Next c) o new
 move_makes k c f left action receipt held new move o asks unclaimed some free answer effect fine view = record {
   reading = Reading.Finds f left;
   may = move_may k c f left action receipt held move o asks unclaimed some free answer;
   view = view ∙ ap (λ (v : World). view_after k.names v (next_of c (Reading.Finds f left) o ∷ k.steps))
       (sym (moved_world k c f left action move o asks.does some free effect fine));
 }
-
--- ---- which frames these are
-
-connects_sent : {client : Option (List ℕ)} → (s : Held) (f : RawFrame) (o : Option (List ℕ)) → option_map_or (λ transaction. actions.Nothing) o (commit (send_of s.names f ∷ [])) ≡ actions.Connected client → is_connect f.command ≡ true
-connects_sent s f None e = absurd (cc)
-connects_sent s f (Some x) e = absurd (cc)
-
-connects_committed : {client : Option (List ℕ)} → (f : RawFrame) (sends : List SentMessage) → commit sends ≡ actions.Connected client → is_connect f.command ≡ true
-connects_committed f [] e = absurd (cc)
-connects_committed f (send ∷ sends) e = absurd (cc)
-
-pub connects : {client : Option (List ℕ)} → (command : Command) (s : Held) (f : RawFrame) → f.command ≡ command → action_by command s f ≡ actions.Connected client → is_connect f.command ≡ true
-connects commands.Connect s f is e = ap is_connect is
-connects commands.Stomp s f is e = ap is_connect is
-connects commands.Send s f is e = connects_sent s f (first_of (codes "transaction") f.headers) e
-connects commands.Commit s f is e = connects_committed f (sends_in (transaction_of f) s.transactions) e
-connects _ s f is e = absurd (cc)
-
-quiet_frame : (command : Command) (s : Held) (f : RawFrame) → action_by command s f ≡ actions.Nothing → is_connect command ≡ false
-quiet_frame commands.Connect s f e = absurd (cc)
-quiet_frame commands.Stomp s f e = absurd (cc)
-quiet_frame _ s f e = refl
-
-parts_sent : (s : Held) (f : RawFrame) (o : Option (List ℕ)) → option_map_or (λ transaction. actions.Nothing) o (commit (send_of s.names f ∷ [])) ≡ actions.Disconnect → is_disconnect f.command ≡ true
-parts_sent s f None e = absurd (cc)
-parts_sent s f (Some x) e = absurd (cc)
-
-parts_committed : (f : RawFrame) (sends : List SentMessage) → commit sends ≡ actions.Disconnect → is_disconnect f.command ≡ true
-parts_committed f [] e = absurd (cc)
-parts_committed f (send ∷ sends) e = absurd (cc)
-
-parts : (command : Command) (s : Held) (f : RawFrame) → f.command ≡ command → action_by command s f ≡ actions.Disconnect → is_disconnect f.command ≡ true
-parts commands.Disconnect s f is e = ap is_disconnect is
-parts commands.Send s f is e = parts_sent s f (first_of (codes "transaction") f.headers) e
-parts commands.Commit s f is e = parts_committed f (sends_in (transaction_of f) s.transactions) e
-parts _ s f is e = absurd (cc)
 
 -- ---- frames that need no more than their RECEIPT
 
@@ -214,11 +154,10 @@ receipt_is k c f left action receipt held asks = ap receipt_text (sym asks.wants
 
 -- a frame that asks for nothing is answered by its RECEIPT
 pub next_acknowledges : (k : Core) (c : ℕ) (f : RawFrame) (left : Unread) (receipt : Option (List ℕ)) (held new : View) (d : EndpointView)
-    → Asks k c f left actions.Nothing receipt held
-    → new ≡ with_endpoint held c (written_endpoint (receipt_text receipt) (get_or held.endpoints c d))
+    → Asks k c f left actions.Nothing receipt held → new ≡ with_endpoint held c (written_endpoint (receipt_text receipt) (get_or held.endpoints c d))
     → Makes k (Event.Next c) Outcome.Done new
 next_acknowledges k c f left receipt held new d asks is =
-    let other = quiet_frame f.command (session_at k c) f asks.does in
+    let other = frame_fits f.command (session_at k c) f asks.does in
     let text : receipt_text receipt ≡ text_added (Reading.Finds f left) Outcome.Done =
     receipt_is k c f left actions.Nothing receipt held asks
     ∙ ap (λ (b : Bool). flat_map spelling_of (cond b (connected_frame ∷ []) (receipts_of f))) (sym other) in
@@ -236,22 +175,15 @@ find_last p (x ∷ xs) f none is = find_more (p x) x f (find p xs) (find p (xs +
 
 -- the connection is leaving, and its RECEIPT is due later
 pub next_disconnects : (k : Core) (c : ℕ) (f : RawFrame) (left : Unread) (receipt : Option (List ℕ)) (held new : View) (d : EndpointView)
-    → Asks k c f left actions.Disconnect receipt held
-    → new ≡ with_endpoint held c (leaving_endpoint receipt (get_or held.endpoints c d))
+    → Asks k c f left actions.Disconnect receipt held → new ≡ with_endpoint held c (leaving_endpoint receipt (get_or held.endpoints c d))
     → Makes k (Event.Next c) Outcome.Leaving new
 next_disconnects k c f left receipt held new d asks is =
-    let names = names_for k f in let q = core_for k f in let w = q.world in
-    let o = Outcome.Leaving in
-    let reading = Reading.Finds f left in
-    let idle = idle_for k f c asks.idle in
-    let there = there_for k f c asks.idle in
-    let x : Connection = record { sender = (connection_at w c).sender; standing = Standing.Leaving } in
-    let v = with_leaving w c in
-    let now : connection_at v c ≡ x = get_or-set_same w.connections c x nobody there in
-    let accepted = accepted_of c k.steps in
+    let names = names_for k f in let q = core_for k f in let w = q.world in let o = Outcome.Leaving in let reading = Reading.Finds f left in let idle = idle_for k f c asks.idle in
+    let there = there_for k f c asks.idle in let x : Connection = record { sender = (connection_at w c).sender; standing = Standing.Leaving } in let v = with_leaving w c in
+    let now : connection_at v c ≡ x = get_or-set_same w.connections c x nobody there in let accepted = accepted_of c k.steps in
     let parted : parting_receipt (accepted ++ f ∷ []) ≡ receipt =
     ap (λ (g : Option RawFrame). option_and_then receipt_of g)
-    (find_last (λ g. is_disconnect g.command) accepted f (not_parting k c asks.reached (idle_reads k.world c asks.idle)) (parts f.command (session_at k c) f refl asks.does))
+    (find_last (λ g. is_disconnect g.command) accepted f (not_parting k c asks.reached (idle_reads k.world c asks.idle)) (frame_fits f.command (session_at k c) f asks.does))
     ∙ asks.wants in
     let endpoint : leaving_endpoint receipt (staged_endpoint (accepted_stage k c f left) (endpoint_of names q c)) ≡ next_endpoint names q v c reading o =
     λ i. record {

@@ -1,18 +1,9 @@
 -- A Next: the endpoint of its connection alone has another reader, session and text, and the rest is what the machine makes
 -- of it.
-use Rattle.delivery.proofs.Words.Std.{◌≡◌, ◌≢◌, ℕ, ◌+◌, ◌<◌, ◌==◌, Bool, true, false, cond, inl, inr, List, [], ◌∷◌, ◌++◌, length, set, Option, Some, None, refl, sym, ap, subst, ◌∙◌, arith, eq-eqb, flat_map, option_to_list, is_some, unwrap_or, eqb-true, ltb-true, or_parts, not-false, cases_Bool, append-nil, get_or-set_other, set-get_or}
-use Rattle.delivery.proofs.Words.Topics.{first_refusal, In}
-use Rattle.delivery.proofs.Words.Frames.{RawFrame, Unread, spelling_of, held_after, state_of}
-use Rattle.delivery.proofs.Words.Lemmas.{passes}
-use Rattle.delivery.proofs.Words.Machine.{Objection, World, Undecided, Connection, Standing, nobody, connection_at, sender_at, speaker, is_reading, speaks_for, needs_idle, run}
-use Rattle.delivery.proofs.Words.Core.{Event, Outcome, Stage, CoreStep, Reading, frame_in, has_effect, accepted_of, is_cut, next_replies, subscribe_frame, text_out, Core, IsReadBy, next_moves, unread_at, MayStep, reading_outcomes, unless, each_number, live_numbers}
-use Rattle.delivery.proofs.Words.Views.{Makes, step_of, View, EndpointView, view_with, view_after, stage_view, endpoint_view}
+use Rattle.delivery.proofs.Words.All.{◌≡◌, ◌≢◌, ℕ, ◌+◌, ◌<◌, ◌==◌, Bool, true, false, cond, inl, inr, List, [], ◌∷◌, ◌++◌, length, set, Option, Some, None, refl, sym, ap, subst, ◌∙◌, arith, eq-eqb, flat_map, option_to_list, unwrap_or, eqb-true, ltb-true, or_parts, not-false, cases_Bool, append-nil, get_or-set_other, set-get_or, first_refusal, In, RawFrame, Unread, spelling_of, held_after, state_of, passes, Objection, World, Connection, Standing, nobody, connection_at, sender_at, speaker, is_reading, speaks_for, needs_idle, run, Event, Outcome, Stage, CoreStep, Reading, frame_in, has_effect, accepted_of, is_cut, next_replies, subscribe_frame, text_out, Core, IsReadBy, next_moves, unread_at, MayStep, reading_outcomes, unless, each_number, live_numbers, Makes, step_of, View, EndpointView, view_with, view_after, stage_view, endpoint_view}
 use Rattle.delivery.specs.Core.State.{left_by}
-use Rattle.delivery.proofs.Views.Endpoints.EndpointChanges.{with_endpoint}
-use Rattle.delivery.proofs.Views.Lists.ByNumber.{each_number-set}
-use Rattle.delivery.proofs.Views.Endpoints.EndpointsStay.{if_same}
-use Rattle.delivery.proofs.Views.Events.OneMove.{with_connection}
-use Rattle.delivery.proofs.Views.Senders.HeldSenders.{senders_alike}
+use Rattle.delivery.proofs.Words.Changes.{with_endpoint, each_number-set, if_same, with_connection, senders_alike}
+use Rattle.delivery.proofs.Machine.ByFound.{none_of}
 
 -- ---- what a Next adds
 
@@ -32,33 +23,27 @@ own : (c : ℕ) → (c == c) ≡ true
 own c = eq-eqb c c refl
 
 -- of its connection these were accepted
-pub own_accepted : (c : ℕ) (reading : Reading) (o : Outcome) (older : List CoreStep)
-    → accepted_of c (next_of c reading o ∷ older) ≡ accepted_of c older ++ frames_added reading o
-own_accepted c reading o older =
-    ap (λ (b : Bool). accepted_of c older ++ cond (has_effect o) (cond b (option_to_list (frame_in reading)) []) []) (own c)
+pub own_accepted : (c : ℕ) (reading : Reading) (o : Outcome) (older : List CoreStep) → accepted_of c (next_of c reading o ∷ older) ≡ accepted_of c older ++ frames_added reading o
+own_accepted c reading o older = ap (λ (b : Bool). accepted_of c older ++ cond (has_effect o) (cond b (option_to_list (frame_in reading)) []) []) (own c)
 
 -- its reader stands for this
-pub own_unread : (c : ℕ) (reading : Reading) (o : Outcome) (older : List CoreStep)
-    → unread_at c (next_of c reading o ∷ older) ≡ left_by (unread_at c older) reading
+pub own_unread : (c : ℕ) (reading : Reading) (o : Outcome) (older : List CoreStep) → unread_at c (next_of c reading o ∷ older) ≡ left_by (unread_at c older) reading
 own_unread c reading o older = ap (λ (b : Bool). cond b (left_by (unread_at c older) reading) (unread_at c older)) (own c)
 
 -- its text out is this
 pub own_text : (names : List (List ℕ)) (c : ℕ) (reading : Reading) (o : Outcome) (older : List CoreStep)
     → text_out names c (next_of c reading o ∷ older) ≡ text_out names c older ++ text_added reading o
-own_text names c reading o older =
-    ap (λ (b : Bool). text_out names c older ++ cond (is_cut o) [] (flat_map spelling_of (cond b (next_replies (frame_in reading) o) []))) (own c)
+own_text names c reading o older = ap (λ (b : Bool). text_out names c older ++ cond (is_cut o) [] (flat_map spelling_of (cond b (next_replies (frame_in reading) o) []))) (own c)
 
 differs : (c n : ℕ) → n ≢ c → (c == n) ≡ false
 differs c n other = elim (cases_Bool (c == n)) [ inl t ↦ absurd (other (sym (eqb-true c n t))) | inr f ↦ f ]
 
-other_accepted : (c n : ℕ) (reading : Reading) (o : Outcome) (older : List CoreStep) → n ≢ c
-    → accepted_of n (next_of c reading o ∷ older) ≡ accepted_of n older
+other_accepted : (c n : ℕ) (reading : Reading) (o : Outcome) (older : List CoreStep) → n ≢ c → accepted_of n (next_of c reading o ∷ older) ≡ accepted_of n older
 other_accepted c n reading o older other =
     ap (λ (b : Bool). accepted_of n older ++ cond (has_effect o) (cond b (option_to_list (frame_in reading)) []) []) (differs c n other)
     ∙ (ap (λ (fs : List RawFrame). accepted_of n older ++ fs) (if_same (has_effect o) []) ∙ append-nil (accepted_of n older))
 
-other_unread : (c n : ℕ) (reading : Reading) (o : Outcome) (older : List CoreStep) → n ≢ c
-    → unread_at n (next_of c reading o ∷ older) ≡ unread_at n older
+other_unread : (c n : ℕ) (reading : Reading) (o : Outcome) (older : List CoreStep) → n ≢ c → unread_at n (next_of c reading o ∷ older) ≡ unread_at n older
 other_unread c n reading o older other = ap (λ (b : Bool). cond b (left_by (unread_at n older) reading) (unread_at n older)) (differs c n other)
 
 other_text : (names : List (List ℕ)) (c n : ℕ) (reading : Reading) (o : Outcome) (older : List CoreStep) → n ≢ c
@@ -90,15 +75,12 @@ held_still names k w c reading o =
 
 -- with another standing of its connection, or the same, that is the view of before with another endpoint
 pub next_written : (names : List (List ℕ)) (k : Core) (c : ℕ) (reading : Reading) (o : Outcome) (x : Connection) → c < length k.world.connections
-    → ((s : ℕ) → speaks_for s x ≡ speaks_for s (connection_at k.world c))
-    → with_endpoint (view_by names k) c (next_endpoint names k (with_connection k.world c x) c reading o)
+    → ((s : ℕ) → speaks_for s x ≡ speaks_for s (connection_at k.world c)) → with_endpoint (view_by names k) c (next_endpoint names k (with_connection k.world c x) c reading o)
     ≡ held_still names k (with_connection k.world c x) c reading o
 next_written names k c reading o x there same =
-    let w = with_connection k.world c x in
-    let steps = next_of c reading o ∷ k.steps in
+    let w = with_connection k.world c x in let steps = next_of c reading o ∷ k.steps in
     let f = λ (n : ℕ). endpoint_view names k.world n (accepted_of n k.steps) (unread_at n k.steps) (text_out k.names n k.steps) in
-    let g = λ (n : ℕ). endpoint_view names w n (accepted_of n steps) (unread_at n steps) (text_out k.names n steps) in
-    let e : c ≡ 0 + c = omega arith in
+    let g = λ (n : ℕ). endpoint_view names w n (accepted_of n steps) (unread_at n steps) (text_out k.names n steps) in let e : c ≡ 0 + c = omega arith in
     let endpoint : next_endpoint names k w c reading o ≡ g c =
     λ i. endpoint_view names w c (sym (own_accepted c reading o k.steps) i) (sym (own_unread c reading o k.steps) i) (sym (own_text k.names c reading o k.steps) i) in
     let others : (n : ℕ) → n ≢ 0 + c → f n ≡ g n = λ n differ.
@@ -115,8 +97,7 @@ next_written names k c reading o x there same =
     ap (λ (l : EndpointView). set (view_by names k).endpoints c l) endpoint
     ∙ (ap (λ (n : ℕ). set (each_number f 0 k.world.connections) c (g n)) e
     ∙ each_number-set f g 0 k.world.connections c x there (λ n low high differ. others n differ)) in
-    let senders = senders_alike k.world c x same in
-    λ i. record (view_by names k) { senders = senders i; endpoints = endpoints i }
+    let senders = senders_alike k.world c x same in λ i. record (view_by names k) { senders = senders i; endpoints = endpoints i }
 
 -- ---- an idle connection
 
@@ -136,22 +117,16 @@ is_open Standing.Gone e = absurd (cc)
 pub idle_open : (w : World) (c : ℕ) → first_refusal (needs_idle w c) ≡ None → (connection_at w c).standing ≡ Standing.Open
 idle_open w c idle = is_open (connection_at w c).standing (idle_reads w c idle)
 
-is_none : (o : Option Undecided) → is_some o ≡ false → o ≡ None
-is_none None e = refl
-is_none (Some f) e = absurd (cc)
-
 -- its sender has no undecided transaction
 pub idle_flight : (w : World) (c : ℕ) → first_refusal (needs_idle w c) ≡ None → (speaker w c).flight ≡ None
-idle_flight w c idle = is_none (speaker w c).flight (or_parts _ _ (passes (needs_idle w c) idle).1.1.0).1
+idle_flight w c idle = none_of (speaker w c).flight (or_parts _ _ (passes (needs_idle w c) idle).1.1.0).1
 
 -- how far it is
 pub idle_stage : (names : List (List ℕ)) (k : Core) (c : ℕ) (accepted : List RawFrame) (unread : Unread) → first_refusal (needs_idle k.world c) ≡ None
     → stage_view names (connection_at k.world c).standing (speaker k.world c).flight accepted unread
     ≡ Stage.Open (record { reader = unread; session = state_of (held_after names accepted); receipt = None })
 idle_stage names k c accepted unread idle =
-    let standing = idle_open k.world c idle in
-    let flight = idle_flight k.world c idle in
-    λ i. stage_view names (standing i) (flight i) accepted unread
+    let standing = idle_open k.world c idle in let flight = idle_flight k.world c idle in λ i. stage_view names (standing i) (flight i) accepted unread
 
 -- ---- worlds
 
@@ -183,10 +158,5 @@ next_may k c reading o idle read may = record {
 -- and this is held then
 pub next_makes : (k : Core) (c : ℕ) (reading : Reading) (o : Outcome) (held : View) → first_refusal (needs_idle k.world c) ≡ None
     → IsReadBy (unread_at c k.steps) reading → In o (reading_outcomes k c reading)
-    → held ≡ view_after k.names (run (next_moves k c reading o) k.world) (next_of c reading o ∷ k.steps)
-    → Makes k (Event.Next c) o held
-next_makes k c reading o held idle read may view = record {
-  reading = reading;
-  may = next_may k c reading o idle read may;
-  view = view;
-}
+    → held ≡ view_after k.names (run (next_moves k c reading o) k.world) (next_of c reading o ∷ k.steps) → Makes k (Event.Next c) o held
+next_makes k c reading o held idle read may view = record { reading = reading; may = next_may k c reading o idle read may; view = view }

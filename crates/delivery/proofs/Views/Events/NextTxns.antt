@@ -1,22 +1,17 @@
 -- A Next whose frame commits a transaction.
-use Rattle.delivery.proofs.Words.Std.{◌≡◌, ℕ, ◌≤◌, Bool, true, false, cond, not, nat_lt, ◌&&◌, List, [], ◌∷◌, ◌++◌, length, Option, Some, None, refl, sym, ap, subst, ◌∙◌, list_all, last_or, option_or, is_some, append-nil}
-use Rattle.delivery.proofs.Words.Topics.{first_refusal, SentMessage, TxnId, last_number}
-use Rattle.delivery.proofs.Words.Frames.{RawFrame, Unread, Action}
-use Rattle.delivery.proofs.Words.Machine.{Objection, World, is_gone, connection_at, speaker, speaker_number, Move, commit_effect, is_topic, move_refusal, needs_idle, next_txn}
-use Rattle.delivery.proofs.Words.Core.{Event, Outcome, Reading, accepted_of, commit_frame, receipt_asked, subscribe_frame, text_out, Core, core_for, session_at, unread_at, live_numbers}
-use Rattle.delivery.proofs.Words.Views.{Asks, accepted_stage, staged_endpoint, asked_view, launched_id, launched_view, IsReached, Makes, View, EndpointView, view_with}
+use Rattle.delivery.proofs.Words.All.{◌≡◌, ℕ, ◌≤◌, Bool, true, false, cond, not, nat_lt, ◌&&◌, List, [], ◌∷◌, ◌++◌, length, Option, Some, None, refl, sym, ap, subst, ◌∙◌, list_all, last_or, option_or, is_some, append-nil, first_refusal, SentMessage, TxnId, last_number, RawFrame, Unread, Action, Objection, World, is_gone, connection_at, speaker, speaker_number, Move, commit_effect, is_topic, move_refusal, needs_idle, next_txn, Event, Outcome, Reading, accepted_of, commit_frame, receipt_asked, subscribe_frame, text_out, Core, core_for, session_at, unread_at, live_numbers, Asks, accepted_stage, staged_endpoint, asked_view, launched_id, launched_view, IsReached, Makes, View, EndpointView, view_with}
 use Rattle.stomp_session.specs.declared.action.Action.TheVariants as actions
 use Rattle.delivery.proofs.Views.Events.BeginStep.{IsIdleIn, idle_in, begun_is, begun_id_is, begun_free}
 use Rattle.delivery.proofs.Views.Senders.SendsAreToTopics.{committed_sends}
-use Rattle.delivery.proofs.Views.Endpoints.EndpointChanges.{with_endpoint}
+use Rattle.delivery.proofs.Words.Changes.{with_endpoint, IsSpeaking}
 use Rattle.delivery.proofs.Views.Events.NextFaults.{endpoint_of}
 use Rattle.delivery.proofs.Views.Events.NextFrames.{accepted_view, move_makes, names_for, there_for}
 use Rattle.delivery.proofs.Core.FrameWorld.{by_use, idle_for, with_topic}
 use Rattle.delivery.proofs.Views.Events.NextStep.{view_by, held_still, idle_flight, idle_open, idle_reads, idle_stage, idle_there, next_endpoint, next_of, next_still, own_accepted}
-use Rattle.delivery.proofs.Views.Senders.SenderChanges.{IsSpeaking}
-use Rattle.delivery.proofs.Views.Senders.ConnectedSpeak.{has_sender, commits_other}
+use Rattle.delivery.proofs.Views.Senders.ConnectedSpeak.{has_sender}
 use Rattle.delivery.proofs.Machine.Speakers.{has_speaker}
 use Rattle.delivery.proofs.Theorem.SendersAreOwn.{speaks}
+use Rattle.delivery.proofs.Core.Actions.{frame_fits}
 
 -- ---- nothing stands against it
 
@@ -57,9 +52,7 @@ last_is o (x ∷ xs) f = last_is (Some x) xs f
 still_view : (k : Core) (c : ℕ) (f : RawFrame) (left : Unread) (action : Action) (receipt : Option (List ℕ)) (held : View) (id : TxnId)
     → Asks k c f left action receipt held → held ≡ held_still (names_for k f) (core_for k f) (core_for k f).world c (Reading.Finds f left) (Outcome.Flying id)
 still_view k c f left action receipt held id asks =
-    let names = names_for k f in let q = core_for k f in let w = q.world in
-    let o = Outcome.Flying id in
-    let reading = Reading.Finds f left in
+    let names = names_for k f in let q = core_for k f in let w = q.world in let o = Outcome.Flying id in let reading = Reading.Finds f left in
     let accepted = accepted_of c k.steps in
     let endpoint : staged_endpoint (accepted_stage k c f left) (endpoint_of names q c) ≡ next_endpoint names q w c reading o =
     λ i. record {
@@ -91,30 +84,17 @@ begun_id_for : (k : Core) (f : RawFrame) (c : ℕ) (sends : List SentMessage) �
     → (accepted : ℕ → List RawFrame) (unread : ℕ → Unread) (text : ℕ → List ℕ) (began : ℕ → Option RawFrame)
     → launched_id (view_with (names_for k f) (core_for k f).world accepted unread text began) c ≡ (next_txn (core_for k f).world c sends).id
 begun_id_for k f c sends reached idle speaking accepted unread text began =
-    let names = names_for k f in
-    let old = begun_id_is names k c sends reached (idle_there k.world c idle) speaking (idle_flight k.world c idle) accepted unread text began in
+    let names = names_for k f in let old = begun_id_is names k c sends reached (idle_there k.world c idle) speaking (idle_flight k.world c idle) accepted unread text began in
     by_use (λ w. launched_id (view_with names w accepted unread text began) c ≡ (next_txn w c sends).id) k f old old
 
 commits_some : (k : Core) (c : ℕ) (f : RawFrame) (left : Unread) (first : SentMessage) (others : List SentMessage) (receipt : Option (List ℕ)) (held mid new : View) (id : TxnId)
-    → Asks k c f left (actions.Commit (first ∷ others)) receipt held
-    → list_all (λ send. is_topic (core_for k f).world send.topic) (first ∷ others) ≡ true
-    → id ≡ launched_id held c → id.seq ≤ last_number
-    → mid ≡ launched_view (first ∷ others) c held
-    → new ≡ asked_view receipt c mid
-    → Makes k (Event.Next c) (Outcome.Flying id) new
+    → Asks k c f left (actions.Commit (first ∷ others)) receipt held → list_all (λ send. is_topic (core_for k f).world send.topic) (first ∷ others) ≡ true
+    → id ≡ launched_id held c → id.seq ≤ last_number → mid ≡ launched_view (first ∷ others) c held → new ≡ asked_view receipt c mid → Makes k (Event.Next c) (Outcome.Flying id) new
 commits_some k c f left first others receipt held mid new id asks named is within begun asked =
-    let names = names_for k f in let q = core_for k f in let w = q.world in
-    let sends = first ∷ others in
-    let action = actions.Commit sends in
-    let last = (next_txn w c sends).id in
-    let o = Outcome.Flying last in
-    let reading = Reading.Finds f left in
-    let steps = next_of c reading o ∷ k.steps in
-    let accepted = λ (n : ℕ). accepted_of n steps in
-    let unread = λ (n : ℕ). unread_at n steps in
-    let text = λ (n : ℕ). text_out k.names n steps in
-    let began = λ (s : ℕ). subscribe_frame s k.steps in
-    let own = has_sender k c f asks.reached (commits_other f.command (session_at k c) f sends asks.does) asks.free in
+    let names = names_for k f in let q = core_for k f in let w = q.world in let sends = first ∷ others in let action = actions.Commit sends in let last = (next_txn w c sends).id in
+    let o = Outcome.Flying last in let reading = Reading.Finds f left in let steps = next_of c reading o ∷ k.steps in let accepted = λ (n : ℕ). accepted_of n steps in
+    let unread = λ (n : ℕ). unread_at n steps in let text = λ (n : ℕ). text_out k.names n steps in let began = λ (s : ℕ). subscribe_frame s k.steps in
+    let own = has_sender k c f asks.reached (frame_fits f.command (session_at k c) f asks.does) asks.free in
     let speaking = speaks (speaker_number k.world c) (connection_at k.world c) (ap is_gone (idle_open k.world c asks.idle)) (has_speaker k.world c own) in
     let still : held ≡ view_with names w accepted unread text began = still_view k c f left action receipt held last asks in
     let same : last ≡ id = sym (is ∙ (ap (λ (v : View). launched_id v c) still ∙ begun_id_for k f c sends asks.reached asks.idle speaking accepted unread text began)) in
@@ -132,10 +112,7 @@ commits_some k c f left first others receipt held mid new id asks named is withi
 
 -- the transaction begins, and its RECEIPT is due once it is decided
 pub next_commits : (k : Core) (c : ℕ) (f : RawFrame) (left : Unread) (sends : List SentMessage) (receipt : Option (List ℕ)) (held mid new : View) (id : TxnId)
-    → Asks k c f left (actions.Commit sends) receipt held
-    → id ≡ launched_id held c → id.seq ≤ last_number
-    → mid ≡ launched_view sends c held
-    → new ≡ asked_view receipt c mid
+    → Asks k c f left (actions.Commit sends) receipt held → id ≡ launched_id held c → id.seq ≤ last_number → mid ≡ launched_view sends c held → new ≡ asked_view receipt c mid
     → Makes k (Event.Next c) (Outcome.Flying id) new
 next_commits k c f left sends receipt held mid new id asks is within begun asked =
     let made = committed_sends k c f sends asks.reached asks.does in
@@ -150,13 +127,9 @@ next_commits k c f left sends receipt held mid new id asks is within begun asked
 pub next_idle : (k : Core) (c : ℕ) (f : RawFrame) (left : Unread) (sends : List SentMessage) (receipt : Option (List ℕ)) (held : View)
     → Asks k c f left (actions.Commit sends) receipt held → IsIdleIn held c
 next_idle k c f left sends receipt held asks =
-    let names = names_for k f in
-    let steps = next_of c (Reading.Finds f left) (Outcome.Flying (launched_id held c)) ∷ k.steps in
-    let accepted = λ (n : ℕ). accepted_of n steps in
-    let unread = λ (n : ℕ). unread_at n steps in
-    let text = λ (n : ℕ). text_out k.names n steps in
-    let began = λ (s : ℕ). subscribe_frame s k.steps in
-    let own = has_sender k c f asks.reached (commits_other f.command (session_at k c) f sends asks.does) asks.free in
+    let names = names_for k f in let steps = next_of c (Reading.Finds f left) (Outcome.Flying (launched_id held c)) ∷ k.steps in let accepted = λ (n : ℕ). accepted_of n steps in
+    let unread = λ (n : ℕ). unread_at n steps in let text = λ (n : ℕ). text_out k.names n steps in let began = λ (s : ℕ). subscribe_frame s k.steps in
+    let own = has_sender k c f asks.reached (frame_fits f.command (session_at k c) f asks.does) asks.free in
     let speaking = speaks (speaker_number k.world c) (connection_at k.world c) (ap is_gone (idle_open k.world c asks.idle)) (has_speaker k.world c own) in
     let old = idle_in names k c asks.reached (idle_there k.world c asks.idle) speaking (idle_flight k.world c asks.idle) accepted unread text began in
     subst (λ (v : View). IsIdleIn v c) (sym (still_view k c f left (actions.Commit sends) receipt held (launched_id held c) asks))

@@ -1,15 +1,9 @@
 -- A connection that is opened.
-use Rattle.delivery.proofs.Words.Std.{◌≡◌, ℕ, zero, suc, ◌+◌, ◌<◌, List, [], ◌∷◌, ◌++◌, length, get_or, inl, inr, refl, sym, ap, ◌∙◌, arith, None, get_or_append_left, unwrap_or}
-use Rattle.delivery.proofs.Words.Machine.{Connection, Standing, nobody, new_sender, connection_at, sender_at, speaker_number, speaks_for, Move, move_effect}
-use Rattle.delivery.proofs.Words.Core.{Event, Outcome, Reading, accepted_of, text_out, Core, unread_at, names_at, each_number}
-use Rattle.delivery.proofs.Words.Views.{Makes, step_of, view_of, stage_view, endpoint_view, with_new_endpoint}
+use Rattle.delivery.proofs.Words.All.{◌≡◌, ℕ, zero, suc, ◌+◌, ◌<◌, List, [], ◌∷◌, ◌++◌, length, get_or, inl, inr, refl, sym, ap, ◌∙◌, arith, None, get_or_append_left, unwrap_or, Connection, Standing, nobody, new_sender, connection_at, sender_at, speaker_number, speaks_for, Move, move_effect, Event, Outcome, accepted_of, text_out, Core, unread_at, names_at, each_number, Makes, view_of, stage_view, endpoint_view, with_new_endpoint}
 use Rattle.delivery.specs.Inner.View.{new_endpoint}
-use Rattle.delivery.proofs.Views.Lists.ByNumber.{each_number-push, each_number-same}
+use Rattle.delivery.proofs.Words.Changes.{each_number-push, each_number-same, open_is_quiet, open_without_is_quiet, same_endpoint, quiet_makes, senders_same}
 use Rattle.delivery.proofs.Views.Endpoints.NothingBeforeOpen.{IsUntouched}
-use Rattle.delivery.proofs.Views.Endpoints.EndpointsStay.{quiet_view, open_is_quiet, open_without_is_quiet}
 use Rattle.delivery.proofs.Machine.SubscriptionSteps.{beyond}
-use Rattle.delivery.proofs.Views.Events.OneMove.{same_endpoint}
-use Rattle.delivery.proofs.Views.Senders.HeldSenders.{senders_same}
 use Rattle.delivery.proofs.Views.Clients.RestingStay.{any_push}
 
 -- beyond the last the default stands, also where it is put at the end
@@ -27,17 +21,10 @@ get_or-push_last (y ∷ xs) x d (suc n) e = get_or-push_last xs x d n (omega (ar
 
 -- without memory nothing changes
 pub open_without : (k : Core) → Makes k Event.Open Outcome.NoMemory (view_of k)
-open_without k =
-    let step = step_of Event.Open Reading.Nothing Outcome.NoMemory in
-    record {
-      reading = Reading.Nothing;
-      may = record { reading = refl; outcome = inr (inl refl) };
-      view = sym (quiet_view k.names step k.steps k.world (open_without_is_quiet k.names k.steps));
-    }
+open_without k = quiet_makes k Event.Open Outcome.NoMemory k.world (open_without_is_quiet k.names k.steps) refl (inr (inl refl)) refl refl
 
 -- the values of one more member, where those before it stay
-pub pushed : {X Y : Type 0} (f g : ℕ → Y) (xs : List X) (x : X) (y : Y)
-    → ((n : ℕ) → n < length xs → f n ≡ g n) → g (length xs) ≡ y
+pub pushed : {X Y : Type 0} (f g : ℕ → Y) (xs : List X) (x : X) (y : Y) → ((n : ℕ) → n < length xs → f n ≡ g n) → g (length xs) ≡ y
     → each_number f 0 xs ++ y ∷ [] ≡ each_number g 0 (xs ++ x ∷ [])
 pushed {Y = Y} f g xs x y same last =
     let e : 0 + length xs ≡ length xs = omega arith in
@@ -48,11 +35,7 @@ pushed {Y = Y} f g xs x y same last =
 -- a connection is opened, which speaks for no sender yet
 pub open_makes : (k : Core) → IsUntouched k (length k.world.connections) → Makes k Event.Open (Outcome.Opened (length k.world.connections)) (with_new_endpoint (view_of k))
 open_makes k nothing =
-    let w = k.world in
-    let c = length w.connections in
-    let step = step_of Event.Open Reading.Nothing (Outcome.Opened c) in
-    let x : Connection = record { sender = None; standing = Standing.Open } in
-    let new = move_effect w Move.Opens in
+    let w = k.world in let c = length w.connections in let x : Connection = record { sender = None; standing = Standing.Open } in let new = move_effect w Move.Opens in
     let there : connection_at new c ≡ x = get_or-push_last w.connections x nobody c refl in
     let f = λ (n : ℕ). endpoint_view (names_at k) w n (accepted_of n k.steps) (unread_at n k.steps) (text_out k.names n k.steps) in
     let g = λ (n : ℕ). endpoint_view (names_at k) new n (accepted_of n k.steps) (unread_at n k.steps) (text_out k.names n k.steps) in
@@ -68,8 +51,5 @@ open_makes k nothing =
     } in
     let endpoints : (view_of k).endpoints ++ new_endpoint ∷ [] ≡ each_number g 0 new.connections = pushed f g w.connections x new_endpoint same endpoint in
     let senders = senders_same w new (λ s. any_push (speaks_for s) w.connections x refl) (λ s. refl) in
-    record {
-      reading = Reading.Nothing;
-      may = record { reading = refl; outcome = inl refl };
-      view = (λ i. record (view_of k) { senders = senders i; endpoints = endpoints i }) ∙ sym (quiet_view k.names step k.steps new (open_is_quiet k.names c k.steps));
-    }
+    quiet_makes k Event.Open (Outcome.Opened c) new (open_is_quiet k.names c k.steps) refl (inl refl) refl
+    (λ i. record (view_of k) { senders = senders i; endpoints = endpoints i })

@@ -1,10 +1,5 @@
 -- A transaction is proposed at a topic.
-use Rattle.delivery.proofs.Words.Std.{◌≡◌, ℕ, ◌<◌, ◌==◌, Bool, true, false, cond, not, ◌&&◌, ◌||◌, nat_lt, List, [], ◌∷◌, ◌++◌, map, length, get_or, set, Option, Some, None, Result, Ok, Err, is_ok, inl, inr, refl, sym, ap, subst, ◌∙◌, arith, slice_get, and_parts, eq-eqb, lt-ltb, ltb-true, cases_Bool, append-nil, get_or_default, length-map, set-get_or, is_some, option_or, option_and_then}
-use Rattle.delivery.proofs.Words.Topics.{Ticket, Topic, Stamp, row_at, first_refusal, In, part_at, Slots, slot_at, held_at, with_slot, names, TopicPart, topics_of, ProposeFault, GroupState, TopicState, next_number, propose_fault, after_propose, FlightState}
-use Rattle.delivery.proofs.Words.Lemmas.{In-append_left, id_itself, refusal_first, refusal_after, none_some, some_same}
-use Rattle.delivery.proofs.Words.Machine.{Objection, refusal_of, World, Undecided, SenderState, topic_at, sender_at, speaker, is_in_use, with_sender, with_topic, speaker_number, Move, Answer, move_refusal, needs_connection, is_topic, has_ticket, insert_ticket, undecided_or_none, undecided_at, next_ticket, proposal_fault, or_out_of_memory, propose_effect, propose_answer}
-use Rattle.delivery.proofs.Words.Core.{Event, Outcome, Refusal, Sending, CoreStep, Reading, accepted_of, has_effect, names_after, text_out, subscribe_frame, Core, names_at, unread_at, is_out_of_memory, move_outcome, outcomes}
-use Rattle.delivery.proofs.Words.Views.{there_objection, speaker_at, sender_in, gate_of, is_slot, part_refusal, part_in, taken_sender, takes_ticket, is_group, propose_refusal_in, taken_view, floor_in, ticket_in, IsProposed, no_sender, IsReached, Makes, step_of, View, SenderView, held_sender, view_of, view_after, sender_view, sending_view, undecided_view, group_view, pending_receipt, ticket_of, group_in, no_group}
+use Rattle.delivery.proofs.Words.All.{◌≡◌, ℕ, ◌<◌, ◌==◌, Bool, true, false, cond, not, ◌&&◌, ◌||◌, nat_lt, List, [], ◌∷◌, ◌++◌, map, length, get_or, set, Option, Some, None, Result, Ok, Err, is_ok, inl, inr, refl, sym, ap, subst, ◌∙◌, arith, slice_get, and_parts, eq-eqb, lt-ltb, ltb-true, cases_Bool, append-nil, get_or_default, length-map, set-get_or, is_some, option_or, option_and_then, Ticket, Topic, Stamp, row_at, first_refusal, In, part_at, Slots, slot_at, held_at, with_slot, names, TopicPart, topics_of, ProposeFault, GroupState, TopicState, next_number, propose_fault, after_propose, FlightState, In-append_left, id_itself, refusal_first, refusal_after, none_some, some_same, Objection, refusal_of, World, Undecided, SenderState, topic_at, sender_at, speaker, is_in_use, with_sender, with_topic, speaker_number, Move, Answer, move_refusal, needs_connection, is_topic, has_ticket, insert_ticket, undecided_or_none, undecided_at, next_ticket, proposal_fault, or_out_of_memory, propose_effect, propose_answer, Event, Outcome, Refusal, Sending, CoreStep, Reading, accepted_of, has_effect, names_after, text_out, subscribe_frame, Core, names_at, unread_at, is_out_of_memory, move_outcome, outcomes, there_objection, speaker_at, sender_in, gate_of, is_slot, part_refusal, part_in, taken_sender, takes_ticket, is_group, propose_refusal_in, taken_view, floor_in, ticket_in, IsProposed, no_sender, IsReached, Makes, step_of, View, SenderView, held_sender, view_of, view_after, sender_view, sending_view, undecided_view, group_view, pending_receipt, ticket_of, group_in, no_group}
 use Rattle.std.proofs.Math.Nat.{le-max_right}
 use Rattle.mcast_txn.specs.declared.fault.BallotFault.TheVariants.{NotNamed}
 use Rattle.mcast_txn.specs.Ballot.{slot_answer}
@@ -13,18 +8,12 @@ use Rattle.sender_gate.specs.Gate.{flight_answer, over_floor}
 use Rattle.delivery.specs.declared.refusal.Refusal.TheVariants as refusal
 use Rattle.delivery.specs.Inner.Senders.{flight_refusal, taken_sending, put_sender, failed_sender, proposed_view, failed_view}
 use Rattle.delivery.specs.Inner.View.{flight_view}
-use Rattle.delivery.proofs.Machine.Effects.{made_world, made_answer}
-use Rattle.delivery.proofs.Theorem.AcceptedIsDue.{reached}
+use Rattle.delivery.proofs.Words.Steps.{made_world, made_answer, reached}
 use Rattle.delivery.proofs.Views.Events.DecideStep.{flying_is}
-use Rattle.delivery.proofs.Views.Runs.ByRunOfCore.{by_world, speaks_of}
-use Rattle.delivery.proofs.Views.Endpoints.EndpointsStay.{IsQuiet, none_named, quiet_view}
+use Rattle.delivery.proofs.Words.Changes.{by_world, speaks_of, IsQuiet, none_named, length-each_number, unused_rests, held_of, sender_of, speaker_of, sender_of_endpoint, differ, quiet_makes}
 use Rattle.delivery.proofs.Views.Events.ReleaseStep.{group_at}
-use Rattle.delivery.proofs.Views.Lists.ByNumber.{length-each_number}
-use Rattle.delivery.proofs.Views.Senders.HeldSenders.{unused_rests}
-use Rattle.delivery.proofs.Views.Senders.SenderChanges.{held_of, sender_of, speaker_of, sender_of_endpoint}
 use Rattle.delivery.proofs.Views.Senders.SameSeqAndReceipt.{sender_quiet, topic_quiet}
 use Rattle.delivery.proofs.Views.Senders.SlotsOfTopics.{slot_topics, slot_named, held_named, slot_written, ticket_inserted, row_other, row_own, row_none_given}
-use Rattle.delivery.proofs.Views.Endpoints.StandingOfConnection.{differ}
 use Rattle.delivery.proofs.Views.Events.ConnectionIsThere.{flying_speaking, there_checked, is_there, still_there, reported, refused_step, refused_outcome, answered_outcome}
 use Rattle.delivery.proofs.Views.Senders.TicketsOfTopics.{tickets_are}
 
@@ -50,19 +39,11 @@ one_refusal : (b n h : Bool) (p : Option TopicPart) → (n ≡ true → is_some 
     ≡ option_and_then refusal_of (cond (not (b && n)) (Some Objection.NotNamed) (cond h (Some Objection.Twice) None))
 one_refusal false n h p e = refl
 one_refusal true false h p e = refl
-one_refusal true true h p e = ap (λ (c : Bool). cond c None (Some refusal.Twice)) (e refl) ∙ go h
-  where
-    go : (h : Bool) → cond (not h) None (Some refusal.Twice) ≡ option_and_then refusal_of (cond h (Some Objection.Twice) None)
-    go true = refl
-    go false = refl
+one_refusal true true h p e = ap (λ (c : Bool). cond c None (Some refusal.Twice)) (e refl) ∙ elim h as (λ (h : Bool). cond (not h) None (Some refusal.Twice) ≡ option_and_then refusal_of (cond h (Some Objection.Twice) None)) [ true ↦ refl | false ↦ refl ]
 
 part_stands : (f : Undecided) (t : Topic) → names t (topics_of f.txn.sends) ≡ true
     → is_some (held_at t (map {B = Topic × Option TopicPart} (λ u. (u, part_left f u)) (topics_of f.txn.sends))) ≡ not (has_ticket t f.given)
-part_stands f t named = ap is_some (held_named (part_left f) t (topics_of f.txn.sends) named) ∙ go (has_ticket t f.given)
-  where
-    go : (h : Bool) → is_some (cond h None (Some (part_at f.txn.id f.txn.sends t))) ≡ not h
-    go true = refl
-    go false = refl
+part_stands f t named = ap is_some (held_named (part_left f) t (topics_of f.txn.sends) named) ∙ elim (has_ticket t f.given) as (λ (h : Bool). is_some (cond h None (Some (part_at f.txn.id f.txn.sends t))) ≡ not h) [ true ↦ refl | false ↦ refl ]
 
 -- the sender's refusal is that of the first check that fails
 propose_checked : (w : World) (t : Topic) (s seq : ℕ) (floor : Stamp) (o : Option Undecided) (b : Bool) → b ≡ is_topic w t
@@ -71,14 +52,12 @@ propose_checked : (w : World) (t : Topic) (s seq : ℕ) (floor : Stamp) (o : Opt
 propose_checked w t s seq floor None b is = refl
 propose_checked w t s seq floor (Some f) b is = go f.mark
   where
-    go : (m : Option ProposeFault)
-        → option_or (flight_refusal (undecided_view floor f m)) (cond b (part_refusal t (undecided_view floor f m)) (Some refusal.NotNamed))
+    go : (m : Option ProposeFault) → option_or (flight_refusal (undecided_view floor f m)) (cond b (part_refusal t (undecided_view floor f m)) (Some refusal.NotNamed))
         ≡ option_and_then refusal_of (first_refusal ((is_some m, Objection.Marked)
         ∷ (not (is_topic w t && names t (topics_of f.txn.sends)), Objection.NotNamed) ∷ (has_ticket t f.given, Objection.Twice) ∷ []))
     go (Some fault) = refl
     go None =
-        let n = names t (topics_of f.txn.sends) in
-        let parts = map {B = Topic × Option TopicPart} (λ u. (u, part_left f u)) (topics_of f.txn.sends) in
+        let n = names t (topics_of f.txn.sends) in let parts = map {B = Topic × Option TopicPart} (λ u. (u, part_left f u)) (topics_of f.txn.sends) in
         ap (λ (c : Bool). cond b (cond c (cond (is_some (held_at t parts)) None (Some refusal.Twice)) (Some refusal.NotNamed)) (Some refusal.NotNamed))
         (slot_topics (number_of f) t (topics_of f.txn.sends))
         ∙ (one_refusal b n (has_ticket t f.given) (held_at t parts) (part_stands f t)
@@ -132,8 +111,7 @@ topic_own k t was = by_world (λ w. (topic_at w t).topic ≡ t) k was (λ r. ((r
 -- there is a group where there is a topic
 pub group_there : (k : Core) (t : Topic) → IsReached k → is_group t (view_of k).groups ≡ is_topic k.world t
 group_there k t was =
-    let groups = (view_of k).groups in
-    let many = length-map {B = GroupState} k.world.topics (group_view k.world) in
+    let groups = (view_of k).groups in let many = length-map {B = GroupState} k.world.topics (group_view k.world) in
     ap (λ (n : ℕ). nat_lt t.0 n && (get_or groups t.0 no_group).topic.topic.0 == t.0) many
     ∙ elim (cases_Bool (is_topic k.world t)) [
       | inl on ↦
@@ -179,8 +157,7 @@ propose_gone k c t o why stands is =
 propose_refusal_is : (k : Core) (c s : ℕ) (t : Topic) → IsReached k → there_objection (slice_get (view_of k).endpoints c) ≡ None → s ≡ speaker_at (view_of k) c
     → propose_refusal_in t s (view_of k) ≡ option_and_then refusal_of (first_refusal (propose_refusals k.world t (speaker k.world c).flight))
 propose_refusal_is k c s t was free is =
-    let x = speaker k.world c in
-    let b = is_group t (view_of k).groups in
+    let x = speaker k.world c in let b = is_group t (view_of k).groups in
     ap (λ (y : SenderView). option_or (flight_refusal y.sending) (cond b (part_refusal t y.sending) (Some refusal.NotNamed))) (sender_of_endpoint k c s was (is_there k c free) (still_there k c free) is)
     ∙ propose_checked k.world t (speaker_number k.world c) x.seq x.floor x.flight b (group_there k t was)
 
@@ -203,8 +180,7 @@ taken_kept t s seq floor (Some f) why e = go f.mark e
         ∙ ap (λ (ps : Slots TopicPart). Sending.Flying (record fl { parts = ps }) (topics_of f.txn.sends))
         (slot_written (part_left f) (part_left f) t None (topics_of f.txn.sends) (ap (λ (h : Bool). cond h None (Some (part_at f.txn.id f.txn.sends t))) given) (λ u ne. refl))
     named true false slot given e =
-        let is = sym (slot_topics (number_of f) t (topics_of f.txn.sends)) ∙ slot in
-        let some : is_some (held_at t fl.parts) ≡ true = part_stands f t is ∙ ap not given in
+        let is = sym (slot_topics (number_of f) t (topics_of f.txn.sends)) ∙ slot in let some : is_some (held_at t fl.parts) ≡ true = part_stands f t is ∙ ap not given in
         none_some why (sym (e ∙ (ap (λ (b : Bool). cond b (cond (is_some (held_at t fl.parts)) None (Some refusal.Twice)) (Some refusal.NotNamed)) slot
         ∙ ap (λ (b : Bool). cond b None (Some refusal.Twice)) some)))
 
@@ -241,8 +217,7 @@ unchanged k c s t why was free is refused = go (is_group t (view_of k).groups) r
 pub propose_refused : (k : Core) (c s : ℕ) (t : Topic) (why : Refusal) → IsReached k → there_objection (slice_get (view_of k).endpoints c) ≡ None → s ≡ speaker_at (view_of k) c
     → Some why ≡ propose_refusal_in t s (view_of k) → Makes k (Event.Propose c t) (Outcome.Refused why) (taken_view t s (view_of k))
 propose_refused k c s t why was free is refused =
-    let checks = propose_refusals k.world t (speaker k.world c).flight in
-    let found = reported (first_refusal checks) why (refused ∙ propose_refusal_is k c s t was free is) in
+    let checks = propose_refusals k.world t (speaker k.world c).flight in let found = reported (first_refusal checks) why (refused ∙ propose_refusal_is k c s t was free is) in
     let moved : move_refusal k.world (Move.Proposes c t true) ≡ Some found.0 =
     ap (λ (r : Option Objection). option_or r None)
     (refusal_after (needs_connection k.world c) checks (sym (there_checked k c) ∙ free) ∙ found.1) in
@@ -281,9 +256,7 @@ taken_is s x t f is unmarked named =
 answer_is : (floor : Stamp) (f : Undecided) (t : Topic) (x : TopicState) → names t (topics_of f.txn.sends) ≡ true → has_ticket t f.given ≡ false
     → flight_answer (less floor f t) (record { id = f.txn.id; topic = t; n = next_number floor x }) ≡ Ok tt
 answer_is floor f t x named fresh =
-    let ticket : Ticket = record { id = f.txn.id; topic = t; n = next_number floor x } in
-    let tickets = (flight_view floor f).tickets in
-    let above = le-max_right x.clock floor.n in
+    let ticket : Ticket = record { id = f.txn.id; topic = t; n = next_number floor x } in let tickets = (flight_view floor f).tickets in let above = le-max_right x.clock floor.n in
     ap (λ (b : Bool). over_floor floor ticket (cond b (slot_answer (slot_at t tickets)) (Err NotNamed))) (id_itself f.txn.id)
     ∙ (ap (λ (o : Option (Option ℕ)). over_floor floor ticket (slot_answer o))
     (slot_named (number_of f) t (topics_of f.txn.sends) named ∙ ap (λ (o : Option ℕ). Some o) (row_none_given t f.given fresh))
@@ -315,8 +288,7 @@ takes_by t s seq floor y part (Some f) e is = go f.mark e is
         → takes_ticket (ticket part) (taken_sending t (undecided_view floor f m)) ≡ true
     go (Some fault) e is = absurd (cc)
     go None e is =
-        let both = passes (is_slot t fl.tickets) (is_some (held_at t fl.parts)) e in
-        let named = sym (slot_topics (number_of f) t (topics_of f.txn.sends)) ∙ both.0 in
+        let both = passes (is_slot t fl.tickets) (is_some (held_at t fl.parts)) e in let named = sym (slot_topics (number_of f) t (topics_of f.txn.sends)) ∙ both.0 in
         let fresh : has_ticket t f.given ≡ false = ungiven (has_ticket t f.given) (sym (part_stands f t named) ∙ both.1) in
         let own : part_at f.txn.id f.txn.sends t ≡ part =
         some_same _ _ (sym (held_named (part_left f) t (topics_of f.txn.sends) named ∙ ap (λ (b : Bool). cond b None (Some (part_at f.txn.id f.txn.sends t))) fresh) ∙ is) in
@@ -331,26 +303,19 @@ floor_by s seq floor (Some f) = elim f.mark as (λ m. (gate_of (undecided_view f
 -- a sender that has a part is in use
 part_held : (k : Core) (s : ℕ) (t : Topic) (part : TopicPart) → IsReached k → s < length k.world.senders
     → part_in t (sender_in (view_of k) s).sending ≡ Some part → sender_in (view_of k) s ≡ sender_view s (sender_at k.world s)
-part_held k s t part was there is = by (is_in_use k.world s) refl
-  where
-    by : (b : Bool) → is_in_use k.world s ≡ b → sender_in (view_of k) s ≡ sender_view s (sender_at k.world s)
-    by true used = held_of k s there used
-    by false unused =
-        none_some part (sym (ap (λ (y : SenderView). part_in t y.sending) (sender_of k s there) ∙ ap (part_in t) (unused_rests k.world s (speaks_of k was) unused)) ∙ is)
+part_held k s t part was there is = (elim (is_in_use k.world s) as (λ (b : Bool). is_in_use k.world s ≡ b → sender_in (view_of k) s ≡ sender_view s (sender_at k.world s)) [
+  | true ↦ λ used. held_of k s there used
+  | false ↦ λ unused. none_some part (sym (ap (λ (y : SenderView). part_in t y.sending) (sender_of k s there) ∙ ap (part_in t) (unused_rests k.world s (speaks_of k was) unused)) ∙ is)
+]) refl
 
 -- so in what is held
 pub ticket_taken : (k : Core) (s : ℕ) (t : Topic) (part : TopicPart) → IsReached k → s < length k.world.senders → is_group t (view_of k).groups ≡ true
     → part_refusal t (sender_in (view_of k) s).sending ≡ None → part_in t (sender_in (view_of k) s).sending ≡ Some part
     → takes_ticket (ticket_in t s part (view_of k)) (taken_sender t (sender_in (view_of k) s)).sending ≡ true
 ticket_taken k s t part was there grouped free is =
-    let v = view_of k in
-    let x = sender_at k.world s in
-    let y = topic_at k.world t in
-    let held = part_held k s t part was there is in
-    let topic : is_topic k.world t ≡ true = sym (group_there k t was) ∙ grouped in
-    let group = group_at k t no_group (ltb-true t.0 (length k.world.topics) topic) in
-    let own = topic_own k t was in
-    let floor = floor_by s x.seq x.floor x.flight in
+    let v = view_of k in let x = sender_at k.world s in let y = topic_at k.world t in let held = part_held k s t part was there is in
+    let topic : is_topic k.world t ≡ true = sym (group_there k t was) ∙ grouped in let group = group_at k t no_group (ltb-true t.0 (length k.world.topics) topic) in
+    let own = topic_own k t was in let floor = floor_by s x.seq x.floor x.flight in
     ap (λ (z : SenderView). takes_ticket (record { id = part.id; topic = (group_in v t).topic.topic; n = next_number (gate_of z.sending).floor (group_in v t).topic }) (taken_sender t z).sending) held
     ∙ (ap (λ (g : GroupState). takes_ticket (record { id = part.id; topic = g.topic.topic; n = next_number (gate_of (sender_view s x).sending).floor g.topic }) (taken_sender t (sender_view s x)).sending) group
     ∙ ((λ i. takes_ticket (record { id = part.id; topic = own i; n = next_number (floor i) y }) (taken_sender t (sender_view s x)).sending)
@@ -361,8 +326,7 @@ flight_given : (floor : Stamp) (f : Undecided) (t : Topic) (n : ℕ) → has_tic
     → record (less floor f t) { tickets = with_slot t (Some n) (flight_view floor f).tickets }
     ≡ flight_view floor (record f { given = insert_ticket (record { n = n; topic = t }) f.given })
 flight_given floor f t n fresh =
-    let a : Stamp = record { n = n; topic = t } in
-    let g : Undecided = record f { given = insert_ticket a f.given } in
+    let a : Stamp = record { n = n; topic = t } in let g : Undecided = record f { given = insert_ticket a f.given } in
     let own : has_ticket t g.given ≡ true = ticket_inserted a t f.given ∙ ap (λ (b : Bool). b || has_ticket t f.given) (eq-eqb t.0 t.0 refl) in
     let tickets = slot_written (number_of f) (number_of g) t (Some n) (topics_of f.txn.sends) (row_own a t f.given refl fresh) (λ u ne. sym (row_other a u f.given (λ z. ne (sym z)))) in
     let parts = slot_written (part_left f) (part_left g) t None (topics_of f.txn.sends) (ap (λ (b : Bool). cond b None (Some (proposed_part f t))) own)
@@ -374,8 +338,7 @@ put_is : (s : ℕ) (x : SenderState) (t : Topic) (f : Undecided) (y : TopicState
     → put_sender (record { id = f.txn.id; topic = t; n = next_number x.floor y }) (taken_sender t (sender_view s x))
     ≡ sender_view s (record x { flight = Some (record f { mark = None; given = insert_ticket (record { n = next_number x.floor y; topic = t }) f.given }) })
 put_is s x t f y is unmarked named fresh =
-    let ticket : Ticket = record { id = f.txn.id; topic = t; n = next_number x.floor y } in
-    let fl = less x.floor f t in
+    let ticket : Ticket = record { id = f.txn.id; topic = t; n = next_number x.floor y } in let fl = less x.floor f t in
     ap (put_sender ticket) (taken_is s x t f is unmarked named)
     ∙ (ap (λ (r : Result Unit Rattle.sender_gate.specs.declared.fault.GateFault.GateFault). record (sender_view s x) {
       sending = cond (is_ok r) (Sending.Flying (record fl { tickets = with_slot t (Some ticket.n) fl.tickets }) (topics_of f.txn.sends)) (Sending.Flying fl (topics_of f.txn.sends));
@@ -384,8 +347,7 @@ put_is s x t f y is unmarked named fresh =
 
 -- the sender once its transaction is marked
 marked_is : (k : Core) (s : ℕ) (t : Topic) (f : Undecided) (fault : ProposeFault) → IsReached k → (sender_at k.world s).flight ≡ Some f → f.mark ≡ None → names t (topics_of f.txn.sends) ≡ true
-    → failed_sender fault (taken_sender t (sender_view s (sender_at k.world s)))
-    ≡ sender_view s (record (sender_at k.world s) { flight = Some (record f { mark = Some fault }) })
+    → failed_sender fault (taken_sender t (sender_view s (sender_at k.world s))) ≡ sender_view s (record (sender_at k.world s) { flight = Some (record f { mark = Some fault }) })
 marked_is k s t f fault was is unmarked named =
     let x = sender_at k.world s in
     ap (failed_sender fault) (taken_is s x t f is unmarked named)
@@ -469,18 +431,8 @@ ticketed w c t f =
 proposed_whole : (k : Core) (c s : ℕ) (t : Topic) (h : Proposes k c s t)
     → proposed_view t s (proposed_part h.can.flight t) (view_of k) ≡ view_after k.names (ticketed k.world c t h.can.flight) k.steps
 proposed_whole k c s t h =
-    let w = k.world in
-    let v = view_of k in
-    let f = h.can.flight in
-    let x = speaker w c in
-    let n = speaker_number w c in
-    let part = proposed_part f t in
-    let y = topic_at w t in
-    let z = after_propose x.floor part y in
-    let there = is_there k c h.free in
-    let group = group_is k c s t h in
-    let floor = floor_is k c s t h in
-    let own = topic_own k t h.was in
+    let w = k.world in let v = view_of k in let f = h.can.flight in let x = speaker w c in let n = speaker_number w c in let part = proposed_part f t in let y = topic_at w t in
+    let z = after_propose x.floor part y in let there = is_there k c h.free in let group = group_is k c s t h in let floor = floor_is k c s t h in let own = topic_own k t h.was in
     let groups : set v.groups t.0 (record (group_in v t) { topic = after_propose (floor_in v s) part (group_in v t).topic }) ≡ set v.groups t.0 (group_view w z) =
     ap (λ (a : Stamp). set v.groups t.0 (record (group_in v t) { topic = after_propose a part (group_in v t).topic })) floor
     ∙ ap (λ (g : GroupState). set v.groups t.0 (record g { topic = after_propose x.floor part g.topic })) group in
@@ -500,8 +452,7 @@ proposed_whole k c s t h =
     ∙ topic_quiet (names_at k) (with_sender w n new) t z (λ m. accepted_of m k.steps) (λ m. unread_at m k.steps) (λ m. text_out k.names m k.steps) (λ m. subscribe_frame m k.steps))
 
 -- what the topic answers is what it answers in the world
-fault_is : (k : Core) (c s : ℕ) (t : Topic) (h : Proposes k c s t)
-    → propose_fault (floor_in (view_of k) s) (proposed_part h.can.flight t) (group_in (view_of k) t).topic
+fault_is : (k : Core) (c s : ℕ) (t : Topic) (h : Proposes k c s t) → propose_fault (floor_in (view_of k) s) (proposed_part h.can.flight t) (group_in (view_of k) t).topic
     ≡ propose_fault (speaker k.world c).floor (proposed_part (undecided_at k.world c) t) (topic_at k.world t)
 fault_is k c s t h =
     let part = proposed_part h.can.flight t in
@@ -513,10 +464,7 @@ fault_is k c s t h =
 pub propose_made : (k : Core) (c s : ℕ) (t : Topic) (n : ℕ) (new : View) (h : Proposes k c s t)
     → IsProposed t s (proposed_part h.can.flight t) (Ok n) (view_of k) new → Makes k (Event.Propose c t) (Outcome.Proposed n) new
 propose_made k c s t n new h made =
-    let w = k.world in
-    let move = Move.Proposes c t true in
-    let step = step_of (Event.Propose c t) Reading.Nothing (Outcome.Proposed n) in
-    let free = proposes_free k c s t true h in
+    let w = k.world in let move = Move.Proposes c t true in let free = proposes_free k c s t true h in
     let none : proposal_fault w c t true ≡ None = ap (or_out_of_memory true) (sym (fault_is k c s t h) ∙ made.0) in
     let number : (next_ticket w c t).n ≡ n =
     sym (made.1 ∙ (ap (λ (a : Stamp). next_number a (group_in (view_of k) t).topic) (floor_is k c s t h)
@@ -524,17 +472,9 @@ propose_made k c s t n new h made =
     let answer = made_answer w move free ∙ ap (propose_answer w c t) none in
     let outcome = answered_outcome k move (Answer.Ticket (undecided_at w c).txn.id (next_ticket w c t)) (Outcome.Proposed n) answer (ap (λ (m : ℕ). Some (Outcome.Proposed m)) number) in
     let world = made_world w move free ∙ (ap (propose_effect w c t) none ∙ ap (λ (o : Option Undecided). ticketed w c t (undecided_or_none o)) h.can.is) in
-    record {
-      reading = Reading.Nothing;
-      may = record {
-        reading = refl;
-        outcome = In-append_left (Outcome.Proposed n) (move_outcome k move) (move_outcome k (Move.Proposes c t false))
-            (subst (λ (os : List Outcome). In (Outcome.Proposed n) os) (sym outcome) (inl refl));
-      };
-      view = made.2 ∙ (proposed_whole k c s t h
-          ∙ (sym (quiet_view k.names step k.steps (ticketed w c t h.can.flight) (proposed_quiet k.names c t n k.steps))
-          ∙ ap (λ (v : World). view_after k.names v (step ∷ k.steps)) (sym world)));
-    }
+    quiet_makes k (Event.Propose c t) (Outcome.Proposed n) (ticketed w c t h.can.flight) (proposed_quiet k.names c t n k.steps) refl
+    (In-append_left (Outcome.Proposed n) (move_outcome k move) (move_outcome k (Move.Proposes c t false))
+    (subst (λ (os : List Outcome). In (Outcome.Proposed n) os) (sym outcome) (inl refl))) world (made.2 ∙ proposed_whole k c s t h)
 
 -- ---- none
 
@@ -545,10 +485,7 @@ marked w c fault f = with_sender w (speaker_number w c) (with_flight (speaker w 
 failed_whole : (k : Core) (c s : ℕ) (t : Topic) (fault : ProposeFault) (h : Proposes k c s t)
     → failed_view t s fault (view_of k) ≡ view_after k.names (marked k.world c fault h.can.flight) k.steps
 failed_whole k c s t fault h =
-    let v = view_of k in
-    let f = h.can.flight in
-    let n = speaker_number k.world c in
-    let there = is_there k c h.free in
+    let v = view_of k in let f = h.can.flight in let n = speaker_number k.world c in let there = is_there k c h.free in
     let new = with_flight (speaker k.world c) (record f { mark = Some fault }) in
     let senders : set v.senders s (failed_sender fault (taken_sender t (sender_in v s))) ≡ set v.senders n (sender_view n new) =
     ap (λ (u : SenderView). set v.senders s (failed_sender fault (taken_sender t u))) (sender_of_endpoint k c s h.was there (still_there k c h.free) h.own)
@@ -558,8 +495,7 @@ failed_whole k c s t fault h =
 
 -- with the memory that the outcome says there was, the fault is the one that was reported
 fault_by : (fault : ProposeFault) (o : Option ProposeFault) → fault ≡ or_no_memory o → or_out_of_memory (not (is_out_of_memory (Outcome.Failed fault))) o ≡ Some fault
-fault_by fault None is =
-    ap (λ (z : ProposeFault). or_out_of_memory (not (is_out_of_memory (Outcome.Failed z))) None) is ∙ ap (λ (z : ProposeFault). Some z) (sym is)
+fault_by fault None is = ap (λ (z : ProposeFault). or_out_of_memory (not (is_out_of_memory (Outcome.Failed z))) None) is ∙ ap (λ (z : ProposeFault). Some z) (sym is)
 fault_by fault (Some why) is = ap (λ (z : ProposeFault). Some z) (sym is)
 
 -- an outcome with memory or without may come
@@ -575,22 +511,11 @@ in_either k c t o false here = right (move_outcome k (Move.Proposes c t true)) h
 pub propose_failed : (k : Core) (c s : ℕ) (t : Topic) (fault : ProposeFault) (new : View) (h : Proposes k c s t)
     → IsProposed t s (proposed_part h.can.flight t) (Err fault) (view_of k) new → Makes k (Event.Propose c t) (Outcome.Failed fault) new
 propose_failed k c s t fault new h made =
-    let w = k.world in
-    let memory = not (is_out_of_memory (Outcome.Failed fault)) in
-    let move = Move.Proposes c t memory in
-    let step = step_of (Event.Propose c t) Reading.Nothing (Outcome.Failed fault) in
-    let free = proposes_free k c s t memory h in
+    let w = k.world in let memory = not (is_out_of_memory (Outcome.Failed fault)) in let move = Move.Proposes c t memory in let free = proposes_free k c s t memory h in
     let some : proposal_fault w c t memory ≡ Some fault = fault_by fault _ (made.0 ∙ ap or_no_memory (fault_is k c s t h)) in
     let answer = made_answer w move free ∙ ap (propose_answer w c t) some in
     let outcome = answered_outcome k move (Answer.Failed (undecided_at w c).txn.id fault) (Outcome.Failed fault) answer refl in
     let world = made_world w move free ∙ (ap (propose_effect w c t) some ∙ ap (λ (o : Option Undecided). marked w c fault (undecided_or_none o)) h.can.is) in
-    record {
-      reading = Reading.Nothing;
-      may = record {
-        reading = refl;
-        outcome = in_either k c t (Outcome.Failed fault) memory (subst (λ (os : List Outcome). In (Outcome.Failed fault) os) (sym outcome) (inl refl));
-      };
-      view = made.1 ∙ (failed_whole k c s t fault h
-          ∙ (sym (quiet_view k.names step k.steps (marked w c fault h.can.flight) (failed_quiet k.names c t fault k.steps))
-          ∙ ap (λ (v : World). view_after k.names v (step ∷ k.steps)) (sym world)));
-    }
+    quiet_makes k (Event.Propose c t) (Outcome.Failed fault) (marked w c fault h.can.flight) (failed_quiet k.names c t fault k.steps) refl
+    (in_either k c t (Outcome.Failed fault) memory (subst (λ (os : List Outcome). In (Outcome.Failed fault) os) (sym outcome) (inl refl))) world
+    (made.1 ∙ failed_whole k c s t fault h)

@@ -1,17 +1,10 @@
 -- What stands against reading a frame of a connection.
-use Rattle.delivery.proofs.Words.Std.{◌≡◌, ℕ, ◌+◌, ◌<◌, ◌≤◌, Bool, true, false, not, nat_lt, cond, ◌||◌, inl, inr, List, [], ◌∷◌, length, get_or, Option, Some, None, refl, sym, ap, ◌∙◌, arith, slice_get, is_some, option_or, unwrap_or, ltb-true, ltb-false, cases_Bool, cases_lt, slice_get-get_or, slice_get_past, get_or_default}
-use Rattle.delivery.proofs.Words.Topics.{first_refusal, Stamp}
-use Rattle.delivery.proofs.Words.Frames.{RawFrame, Unread}
-use Rattle.delivery.proofs.Words.Machine.{Objection, Undecided, SenderState, Standing, connection_at, sender_at, speaker, is_reading, is_gone, new_sender, speaker_number, needs_idle}
-use Rattle.delivery.proofs.Words.Core.{accepted_of, text_out, Core, unread_at, names_at, each_number}
-use Rattle.delivery.proofs.Words.Views.{sending_objection, idle_objection, stage_objection, endpoint_objection, View, EndpointView, SenderView, view_of, stage_view, endpoint_view, sending_view, undecided_view, is_undecided, number_among, held_sender}
+use Rattle.delivery.proofs.Words.All.{◌≡◌, ℕ, ◌+◌, ◌<◌, ◌≤◌, Bool, true, false, not, nat_lt, cond, ◌||◌, inl, inr, List, [], ◌∷◌, length, get_or, Option, Some, None, refl, sym, ap, ◌∙◌, arith, slice_get, is_some, option_or, unwrap_or, ltb-true, ltb-false, cases_Bool, cases_lt, slice_get-get_or, slice_get_past, get_or_default, first_refusal, Stamp, RawFrame, Unread, Objection, Undecided, SenderState, Standing, connection_at, sender_at, speaker, is_reading, is_gone, new_sender, speaker_number, needs_idle, accepted_of, text_out, Core, unread_at, names_at, each_number, sending_objection, idle_objection, stage_objection, endpoint_objection, View, EndpointView, SenderView, view_of, stage_view, endpoint_view, sending_view, undecided_view, is_undecided, number_among, held_sender}
 use Rattle.std.proofs.Math.ListN.{get_or-eq_default}
 use Rattle.delivery.specs.Inner.Nexts.{is_sending}
-use Rattle.delivery.proofs.Views.Lists.ByNumber.{get_or-each_number, length-each_number}
+use Rattle.delivery.proofs.Words.Changes.{get_or-each_number, length-each_number, endpoint_at, endpoint_is, held_undecided}
 use Rattle.delivery.proofs.Views.Events.OneMove as steps
 use Rattle.delivery.specs.Inner.View as views
-use Rattle.delivery.proofs.Views.Events.OneMove.{endpoint_at, endpoint_is}
-use Rattle.delivery.proofs.Views.Senders.HeldSenders.{held_undecided}
 
 -- ---- a view
 
@@ -29,15 +22,9 @@ unobjected_there endpoints c free = elim (cases_lt c (length endpoints)) [
 pub idle_of : (v : View) (c : ℕ) (endpoint : EndpointView) → endpoint_objection (slice_get v.endpoints c) ≡ None → endpoint ≡ get_or v.endpoints c endpoint
     → idle_objection v c ≡ sending_objection v.senders (number_among v.senders endpoint)
 idle_of v c endpoint free is =
-    let none = views.no_endpoint in
-    let same : get_or v.endpoints c none ≡ endpoint = get_or_default v.endpoints c none endpoint (unobjected_there v.endpoints c free) ∙ sym is in
+    let none = views.no_endpoint in let same : get_or v.endpoints c none ≡ endpoint = get_or_default v.endpoints c none endpoint (unobjected_there v.endpoints c free) ∙ sym is in
     ap (λ (o : Option Objection). option_or o (sending_objection v.senders (number_among v.senders (get_or v.endpoints c none)))) free
     ∙ ap (λ (l : EndpointView). sending_objection v.senders (number_among v.senders l)) same
-
--- where something stands against its endpoint, that does
-pub idle_refused : (v : View) (c : ℕ) (why : Objection) → endpoint_objection (slice_get v.endpoints c) ≡ Some why → idle_objection v c ≡ Some why
-idle_refused v c why is =
-    ap (λ (o : Option Objection). option_or o (sending_objection v.senders (number_among v.senders (get_or v.endpoints c views.no_endpoint)))) is
 
 or_none : (a b : Option Objection) → option_or a b ≡ None → a ≡ None
 or_none None b e = refl
@@ -57,9 +44,7 @@ flight_is s seq floor (Some f) = elim f.mark as (λ mark. is_undecided (undecide
 -- a sender of the view has an undecided transaction where that of the machine has
 pub sending_is : (k : Core) (s : ℕ) → is_sending (slice_get (view_of k).senders s) ≡ is_some (sender_at k.world s).flight
 sending_is k s =
-    let w = k.world in
-    let f = held_sender w in
-    let many = length-each_number f 0 w.senders in
+    let w = k.world in let f = held_sender w in let many = length-each_number f 0 w.senders in
     elim (cases_lt s (length w.senders)) [
       | inl l ↦
           (let there : s < length (each_number f 0 w.senders) = omega (arith, l, many) in
@@ -84,11 +69,8 @@ standing_idle names Standing.Gone flight accepted unread b = refl
 -- what stands against a Next of the view stands against it in the machine
 pub idle_checked : (k : Core) (c : ℕ) → idle_objection (view_of k) c ≡ first_refusal (needs_idle k.world c)
 idle_checked k c =
-    let w = k.world in
-    let x = connection_at w c in
-    let none = views.no_endpoint in
-    let f = λ (n : ℕ). endpoint_view (names_at k) w n (accepted_of n k.steps) (unread_at n k.steps) (text_out k.names n k.steps) in
-    let flying = is_some (speaker w c).flight in
+    let w = k.world in let x = connection_at w c in let none = views.no_endpoint in
+    let f = λ (n : ℕ). endpoint_view (names_at k) w n (accepted_of n k.steps) (unread_at n k.steps) (text_out k.names n k.steps) in let flying = is_some (speaker w c).flight in
     let checks = λ (b : Bool). first_refusal ((not b, Objection.NoConn) ∷ (is_gone x.standing, Objection.Gone) ∷ (not (is_reading x.standing) || flying, Objection.Busy) ∷ []) in
     elim (cases_Bool (nat_lt c (length w.connections))) [
       | inl t ↦

@@ -1,24 +1,14 @@
 -- A take of a subscription.
-use Rattle.delivery.proofs.Words.Std.{◌≡◌, ◌≢◌, ℕ, ◌<◌, ◌≤◌, ◌==◌, Bool, true, false, cond, not, nat_lt, ◌&&◌, ◌||◌, inl, inr, List, [], ◌∷◌, ◌++◌, map, length, get_or, set, Option, Some, None, refl, sym, ap, subst, ◌∙◌, arith, eq-eqb, slice_get, flat_map, is_some, option_map, option_or, option_and_then, option_to_list, ltb-true, ltb-false, lt-ltb, le-ltb, or_parts, or_right, false≢true, not-false, cases_Bool, cases_lt, append-nil, get_or_past, slice_get-get_or, slice_get_past}
-use Rattle.delivery.proofs.Words.Topics.{first_refusal, Item, group_after_take, GroupState, Entry, EntryEnd}
-use Rattle.delivery.proofs.Words.Frames.{RawFrame, receipt_of, error_frame, spelling_of}
-use Rattle.delivery.proofs.Words.Lemmas.{In-push, In-append_left, passes, some_same, none_some}
-use Rattle.delivery.proofs.Words.Machine.{Objection, refusal_of, World, Subscription, Connection, Standing, nobody, connection_at, speaker, subscription_at, entry_at, is_reading, is_gone, Move, Answer, move_refusal, needs_open, with_leaving, take_effect, take_answer, accepted_at, end_at, entry_items, entry_to}
-use Rattle.delivery.proofs.Words.Core.{ConnectionFault, Event, Outcome, Refusal, connection_title, Reading, accepted_of, account_of, beginning_of, next_item, no_item, text_out, subscribe_frame, sub_id_text, sub_parts, Core, unread_at, names_at, unless, move_outcome, each_number}
-use Rattle.delivery.proofs.Words.Views.{IsReached, Makes, step_of, endpoint_objection, sub_objection, take_objection, sub_held, next_of, group_held, next_held, has_lagged, after_next_item}
+use Rattle.delivery.proofs.Words.All.{◌≡◌, ◌≢◌, ℕ, ◌<◌, ◌≤◌, ◌==◌, Bool, true, false, cond, not, nat_lt, ◌&&◌, ◌||◌, inl, inr, List, [], ◌∷◌, ◌++◌, map, length, get_or, set, Option, Some, None, refl, sym, ap, subst, ◌∙◌, arith, eq-eqb, slice_get, flat_map, is_some, option_map, option_or, option_and_then, option_to_list, ltb-true, ltb-false, lt-ltb, le-ltb, or_parts, or_right, false≢true, not-false, cases_Bool, cases_lt, append-nil, get_or_past, slice_get-get_or, slice_get_past, first_refusal, Item, group_after_take, GroupState, Entry, EntryEnd, RawFrame, receipt_of, error_frame, spelling_of, In-push, In-append_left, passes, some_same, none_some, Objection, refusal_of, World, Subscription, Connection, Standing, nobody, connection_at, speaker, subscription_at, entry_at, is_reading, is_gone, Move, Answer, move_refusal, needs_open, with_leaving, take_effect, take_answer, accepted_at, end_at, entry_items, entry_to, ConnectionFault, Event, Outcome, Refusal, connection_title, accepted_of, account_of, beginning_of, next_item, no_item, text_out, subscribe_frame, sub_id_text, sub_parts, Core, unread_at, names_at, unless, move_outcome, each_number, IsReached, Makes, endpoint_objection, sub_objection, take_objection, sub_held, next_of, group_held, next_held, has_lagged, after_next_item}
 use Rattle.delivery.specs.Core.Output.{messages_for}
 use Rattle.delivery.specs.Inner.Takes.{after_item}
-use Rattle.delivery.specs.Inner.View.{View, EndpointView, SubView, view_of, view_with, view_after, group_view, sub_view, stage_view, leaving_endpoint, written_endpoint, parting_receipt, left_view as left_in_view, no_endpoint, no_group}
-use Rattle.delivery.proofs.Machine.Effects.{made_world, made_answer, same_world}
-use Rattle.delivery.proofs.Theorem.ClosedIsSilent.{none_of}
+use Rattle.delivery.specs.Inner.View.{View, EndpointView, SubView, view_of, view_with, group_view, sub_view, stage_view, leaving_endpoint, written_endpoint, parting_receipt, left_view as left_in_view, no_endpoint, no_group}
+use Rattle.delivery.proofs.Words.Steps.{made_world, made_answer, same_world, none_of}
 use Rattle.delivery.proofs.Views.Runs.AccountOfTransactions.{begins_as, next_is}
-use Rattle.delivery.proofs.Views.Lists.ByNumber.{length-each_number}
+use Rattle.delivery.proofs.Words.Changes.{length-each_number, refused_is_quiet, take_without_is_quiet, open_there, differ, endpoint_missing, in_one, in_outcome, open_checked, left_with, written_with, quiet_makes, step_makes}
 use Rattle.delivery.proofs.Views.Endpoints.DisconnectIsLast.{not_parting}
-use Rattle.delivery.proofs.Views.Endpoints.EndpointsStay.{quiet_view, refused_is_quiet, take_without_is_quiet}
 use Rattle.delivery.proofs.Views.Subscriptions.QueueOfSubscription.{HasQueue, has_queue, sub_is, next_is_of, lagged_is, taken_world, taken_groups, taken_subs, taken_live}
 use Rattle.delivery.proofs.Views.Events.ReleaseStep.{group_at}
-use Rattle.delivery.proofs.Views.Endpoints.StandingOfConnection.{open_there, differ}
-use Rattle.delivery.proofs.Views.Events.OneMove.{endpoint_missing, in_one, in_outcome, open_checked, left_with, written_with}
 use Rattle.delivery.proofs.Theorem.SendersAreOwn.{reading_there}
 
 -- ---- reading subscriptions
@@ -43,8 +33,7 @@ sub_shut endpoints x why shut =
 
 -- neither
 pub sub_open : (endpoints : List EndpointView) (x : SubView) → is_some x.left ≡ false → endpoint_objection (slice_get endpoints x.connection) ≡ None → sub_objection endpoints (Some x) ≡ None
-sub_open endpoints x left free =
-    λ i. first_refusal ((left i || is_some (free i), Objection.Gone) ∷ [])
+sub_open endpoints x left free = λ i. first_refusal ((left i || is_some (free i), Objection.Gone) ∷ [])
 
 -- where nothing stands against it, the subscription is there
 pub free_there : (v : View) (s : ℕ) → take_objection v s ≡ None → s < length v.subs
@@ -69,8 +58,7 @@ next_there groups t s item is = elim (cases_lt t (length groups)) [
 
 -- a group and an endpoint were written: what is held is that after the item
 pub item_put : (v : View) (s : ℕ) (x : SubView) (item : Item) (id : List ℕ) (g h : GroupState) (endpoint later : EndpointView)
-    → sub_held v s ≡ x → next_held v s ≡ Some item → id ≡ x.id
-    → get_or v.groups x.topic.0 no_group ≡ g → h ≡ group_after_take s g
+    → sub_held v s ≡ x → next_held v s ≡ Some item → id ≡ x.id → get_or v.groups x.topic.0 no_group ≡ g → h ≡ group_after_take s g
     → get_or v.endpoints x.connection no_endpoint ≡ endpoint → later ≡ written_endpoint (flat_map spelling_of (messages_for x.parts id item)) endpoint
     → record v { groups = set v.groups x.topic.0 h; endpoints = set v.endpoints x.connection later } ≡ after_next_item v s (next_held v s)
 item_put v s x item id g h endpoint later sub next named group taken old written =
@@ -150,18 +138,11 @@ pub record MayTake (k : Core) (s : ℕ) : Type 0 where
 -- so it is where nothing stands against it
 pub may_take : (k : Core) (s : ℕ) → IsReached k → take_objection (view_of k) s ≡ None → MayTake k s
 may_take k s reached free =
-    let w = k.world in
-    let h = passes (first_checks w s) (sym (objected k s) ∙ free) in
+    let w = k.world in let h = passes (first_checks w s) (sym (objected k s) ∙ free) in
     let there = ltb-true s (length w.subscriptions) (not-false (nat_lt s (length w.subscriptions)) h.0) in
     let over = or_parts (is_some (subscription_at w s).closed) (not (is_reading (connection_at w (subscription_at w s).connection).standing)) h.1.0 in
-    let unclosed = none_of (subscription_at w s).closed over.0 in
-    let reads = not-false (is_reading (connection_at w (subscription_at w s).connection).standing) over.1 in
-    record {
-      queue = has_queue k s reached there unclosed;
-      unclosed = unclosed;
-      reads = reads;
-      connection = open_there w.connections (subscription_at w s).connection reads;
-    }
+    let unclosed = none_of (subscription_at w s).closed over.0 in let reads = not-false (is_reading (connection_at w (subscription_at w s).connection).standing) over.1 in
+    record { queue = has_queue k s reached there unclosed; unclosed = unclosed; reads = reads; connection = open_there w.connections (subscription_at w s).connection reads }
 
 -- what its queue has accepted, and where it has lagged
 accepted_is : (k : Core) (s : ℕ) (m : MayTake k s) → accepted_at k.world s ≡ m.queue.entry.accepted
@@ -182,8 +163,7 @@ is_idle w s e = not (nat_lt (subscription_at w s).taken (length e.accepted)) && 
 take_refusal : (k : Core) (s : ℕ) (m : MayTake k s)
     → move_refusal k.world (Move.Takes s) ≡ option_or (first_refusal ((is_idle k.world s m.queue.entry, Objection.NothingDue) ∷ [])) None
 take_refusal k s m =
-    let w = k.world in
-    let there : nat_lt s (length w.subscriptions) ≡ true = lt-ltb s (length w.subscriptions) m.queue.there in
+    let w = k.world in let there : nat_lt s (length w.subscriptions) ≡ true = lt-ltb s (length w.subscriptions) m.queue.there in
     let closed : is_some (subscription_at w s).closed ≡ false = ap (λ (o : Option EntryEnd). is_some o) m.unclosed in
     λ i. option_or (first_refusal (
     (not (there i), Objection.NoSub)
@@ -196,18 +176,10 @@ take_refusal k s m =
 take_refused_by : (k : Core) (s : ℕ) (why : Objection) (refusal : Refusal) → move_refusal k.world (Move.Takes s) ≡ Some why → refusal_of why ≡ Some refusal
     → Makes k (Event.Take s) (Outcome.Refused refusal) (view_of k)
 take_refused_by k s why refusal refused reported =
-    let step = step_of (Event.Take s) Reading.Nothing (Outcome.Refused refusal) in
-    record {
-      reading = Reading.Nothing;
-      may = record {
-        reading = refl;
-        outcome = in_one (Outcome.Refused refusal) _
-            (ap (λ (o : Option Objection). unless o (move_outcome k (Move.Takes s) ++ Outcome.NoMemory ∷ [])) refused
-            ∙ ap (λ (r : Option Refusal). option_to_list (option_map Outcome.Refused r)) reported);
-      };
-      view = sym (ap (λ (w : World). view_after k.names w (step ∷ k.steps)) (same_world k.world (Move.Takes s) why refused)
-          ∙ quiet_view k.names step k.steps k.world (refused_is_quiet k.names (Event.Take s) refusal k.steps));
-    }
+    quiet_makes k (Event.Take s) (Outcome.Refused refusal) k.world (refused_is_quiet k.names (Event.Take s) refusal k.steps) refl
+    (in_one (Outcome.Refused refusal) _
+    (ap (λ (o : Option Objection). unless o (move_outcome k (Move.Takes s) ++ Outcome.NoMemory ∷ [])) refused
+    ∙ ap (λ (r : Option Refusal). option_to_list (option_map Outcome.Refused r)) reported)) (same_world k.world (Move.Takes s) why refused) refl
 
 refused_first : (a b c : Bool) (why : Objection) → first_refusal ((a, Objection.NoSub) ∷ (b, Objection.Gone) ∷ []) ≡ Some why
     → option_or (first_refusal ((a, Objection.NoSub) ∷ (b, Objection.Gone) ∷ (c, Objection.NothingDue) ∷ [])) None ≡ Some why
@@ -256,33 +228,22 @@ idle_refusal k s m b none lagged =
 -- nothing is due
 pub take_nothing : (k : Core) (s : ℕ) → IsReached k → take_objection (view_of k) s ≡ None → next_held (view_of k) s ≡ None
     → has_lagged s (group_held (view_of k) s) ≡ false → Makes k (Event.Take s) (Outcome.Refused Refusal.NothingDue) (view_of k)
-take_nothing k s reached free none lagged =
-    take_refused_by k s Objection.NothingDue Refusal.NothingDue (idle_refusal k s (may_take k s reached free) false none lagged) refl
+take_nothing k s reached free none lagged = take_refused_by k s Objection.NothingDue Refusal.NothingDue (idle_refusal k s (may_take k s reached free) false none lagged) refl
 
 -- ---- without memory
 
 without : (k : Core) (s : ℕ) → move_refusal k.world (Move.Takes s) ≡ None → Makes k (Event.Take s) Outcome.NoMemory (view_of k)
 without k s free =
-    let step = step_of (Event.Take s) Reading.Nothing Outcome.NoMemory in
-    record {
-      reading = Reading.Nothing;
-      may = record {
-        reading = refl;
-        outcome = rw (ap (λ (o : Option Objection). unless o (move_outcome k (Move.Takes s) ++ Outcome.NoMemory ∷ [])) free) (In-push Outcome.NoMemory (move_outcome k (Move.Takes s)));
-      };
-      view = sym (quiet_view k.names step k.steps k.world (take_without_is_quiet k.names s k.steps));
-    }
+    quiet_makes k (Event.Take s) Outcome.NoMemory k.world (take_without_is_quiet k.names s k.steps) refl
+    (rw (ap (λ (o : Option Objection). unless o (move_outcome k (Move.Takes s) ++ Outcome.NoMemory ∷ [])) free) (In-push Outcome.NoMemory (move_outcome k (Move.Takes s)))) refl refl
 
 -- an item that finds no memory stays
 pub take_without : (k : Core) (s : ℕ) → IsReached k → take_objection (view_of k) s ≡ None → is_some (next_held (view_of k) s) ≡ true
     → Makes k (Event.Take s) Outcome.NoMemory (view_of k)
-take_without k s reached free due = by_case (next_held (view_of k) s) refl due
-  where
-    by_case : (o : Option Item) → next_held (view_of k) s ≡ o → is_some o ≡ true → Makes k (Event.Take s) Outcome.NoMemory (view_of k)
-    by_case None is e = absurd (false≢true e)
-    by_case (Some item) is e =
-        let m = may_take k s reached free in
-        without k s (due_free k s m (is_within m.queue.entry.accepted (subscription_at k.world s).taken item (sym (next_is_of k s m.queue) ∙ is)))
+take_without k s reached free due = (elim (next_held (view_of k) s) as (λ (o : Option Item). next_held (view_of k) s ≡ o → is_some o ≡ true → Makes k (Event.Take s) Outcome.NoMemory (view_of k)) [
+  | None ↦ λ is e. absurd (false≢true e)
+  | Some item ↦ λ is e. (let m = may_take k s reached free in without k s (due_free k s m (is_within m.queue.entry.accepted (subscription_at k.world s).taken item (sym (next_is_of k s m.queue) ∙ is))))
+]) refl due
 
 -- so does an ERROR, and the subscription
 pub lag_without : (k : Core) (s : ℕ) → IsReached k → take_objection (view_of k) s ≡ None → next_held (view_of k) s ≡ None
@@ -315,15 +276,12 @@ written_other k s replies reached l n other =
 
 -- the view of the world after a take, with these texts
 abbrev taken_view : Core → ℕ → (ℕ → List ℕ) → View
-taken_view k s text =
-    view_with (names_at k) (taken_world k.world s) (λ c. accepted_of c k.steps) (λ c. unread_at c k.steps) text (λ n. subscribe_frame n k.steps)
+taken_view k s text = view_with (names_at k) (taken_world k.world s) (λ c. accepted_of c k.steps) (λ c. unread_at c k.steps) text (λ n. subscribe_frame n k.steps)
 
 -- what is held after it, where its MESSAGEs were written
-item_view : (k : Core) (s : ℕ) (item : Item) (text : ℕ → List ℕ) → IsReached k → (m : MayTake k s)
-    → (subscription_at k.world s).taken < length m.queue.entry.accepted
+item_view : (k : Core) (s : ℕ) (item : Item) (text : ℕ → List ℕ) → IsReached k → (m : MayTake k s) → (subscription_at k.world s).taken < length m.queue.entry.accepted
     → (let c = (subscription_at k.world s).connection in text c ≡ text_out k.names c k.steps ++ flat_map spelling_of (messages_for (sub_parts s k.steps) (sub_id_text s k.steps) item))
-    → ((n : ℕ) → n ≢ (subscription_at k.world s).connection → text n ≡ text_out k.names n k.steps)
-    → after_item (view_of k) s item ≡ taken_view k s text
+    → ((n : ℕ) → n ≢ (subscription_at k.world s).connection → text n ≡ text_out k.names n k.steps) → after_item (view_of k) s item ≡ taken_view k s text
 item_view k s item text reached m l own others =
     named ∙ (λ i. record (view_of k) { groups = groups i; endpoints = endpoints i; subs = subs i })
   where
@@ -372,47 +330,31 @@ item_view k s item text reached m l own others =
 take_item : (k : Core) (s : ℕ) (item : Item) → IsReached k → take_objection (view_of k) s ≡ None → next_held (view_of k) s ≡ Some item
     → Makes k (Event.Take s) (Outcome.Handed (length item.sends)) (after_item (view_of k) s item)
 take_item k s item reached free due =
-    let w = k.world in
-    let m = may_take k s reached free in
-    let step = step_of (Event.Take s) Reading.Nothing (Outcome.Handed (length item.sends)) in
-    let found = sym (next_is_of k s m.queue) ∙ due in
-    let l = is_within m.queue.entry.accepted (subscription_at w s).taken item found in
-    let unrefused = due_free k s m l in
+    let w = k.world in let m = may_take k s reached free in let found = sym (next_is_of k s m.queue) ∙ due in
+    let l = is_within m.queue.entry.accepted (subscription_at w s).taken item found in let unrefused = due_free k s m l in
     let first : slice_get (accepted_at w s) (subscription_at w s).taken ≡ Some item =
     ap (λ (xs : List Item). slice_get xs (subscription_at w s).taken) (accepted_is k s m) ∙ found in
     let account = account_of k.names k.steps in
     let next : next_item s account ≡ item =
     some_same (next_item s account) item (next_is k s reached m.queue.there (subst (λ (xs : List Item). (subscription_at w s).taken < length xs) (sym (accepted_is k s m)) l) ∙ first) in
-    let replies = messages_for (sub_parts s k.steps) (sub_id_text s k.steps) (next_item s account) in
-    let text = λ (c : ℕ). text_after k s replies c in
+    let replies = messages_for (sub_parts s k.steps) (sub_id_text s k.steps) (next_item s account) in let text = λ (c : ℕ). text_after k s replies c in
     let own = written_own k s replies reached m.queue.there
     ∙ ap (λ (i : Item). text_out k.names (subscription_at w s).connection k.steps ++ flat_map spelling_of (messages_for (sub_parts s k.steps) (sub_id_text s k.steps) i)) next in
     let answered = made_answer w (Move.Takes s) unrefused ∙ ap (take_answer w s) first in
-    record {
-      reading = Reading.Nothing;
-      may = record {
-        reading = refl;
-        outcome = rw (ap (λ (o : Option Objection). unless o (move_outcome k (Move.Takes s) ++ Outcome.NoMemory ∷ [])) unrefused)
-            (In-append_left (Outcome.Handed (length item.sends)) (move_outcome k (Move.Takes s)) (Outcome.NoMemory ∷ [])
-            (in_outcome k (Move.Takes s) (Outcome.Handed (length item.sends)) (Answer.Handed s item) answered refl));
-      };
-      view = item_view k s item text reached m l own (written_other k s replies reached m.queue.there)
-          ∙ ((λ i. view_with (names_at k) (taken_world w s) (λ n. sym (append-nil (accepted_of n k.steps)) i) (λ n. unread_at n k.steps) text (λ n. subscribe_frame n k.steps))
-          ∙ ap (λ (z : World). view_after k.names z (step ∷ k.steps)) (sym (made_world w (Move.Takes s) unrefused ∙ ap (take_effect w s) first)));
-    }
+    step_makes k (Event.Take s) (Outcome.Handed (length item.sends)) (taken_world w s) refl
+    (rw (ap (λ (o : Option Objection). unless o (move_outcome k (Move.Takes s) ++ Outcome.NoMemory ∷ [])) unrefused)
+    (In-append_left (Outcome.Handed (length item.sends)) (move_outcome k (Move.Takes s)) (Outcome.NoMemory ∷ [])
+    (in_outcome k (Move.Takes s) (Outcome.Handed (length item.sends)) (Answer.Handed s item) answered refl))) (made_world w (Move.Takes s) unrefused ∙ ap (take_effect w s) first)
+    (item_view k s item text reached m l own (written_other k s replies reached m.queue.there)
+    ∙ (λ i. view_with (names_at k) (taken_world w s) (λ n. sym (append-nil (accepted_of n k.steps)) i) (λ n. unread_at n k.steps) text (λ n. subscribe_frame n k.steps)))
 
 -- what is answered where there is an item
-pub take_makes : (k : Core) (s n : ℕ) → IsReached k → take_objection (view_of k) s ≡ None
-    → Some n ≡ option_map (λ item. length item.sends) (next_held (view_of k) s)
+pub take_makes : (k : Core) (s n : ℕ) → IsReached k → take_objection (view_of k) s ≡ None → Some n ≡ option_map (λ item. length item.sends) (next_held (view_of k) s)
     → Makes k (Event.Take s) (Outcome.Handed n) (after_next_item (view_of k) s (next_held (view_of k) s))
-take_makes k s n reached free due = by_case (next_held (view_of k) s) refl due
-  where
-    by_case : (o : Option Item) → next_held (view_of k) s ≡ o → Some n ≡ option_map (λ item. length item.sends) o
-        → Makes k (Event.Take s) (Outcome.Handed n) (after_next_item (view_of k) s (next_held (view_of k) s))
-    by_case None is e = none_some n (sym e)
-    by_case (Some item) is e =
-        subst (λ o. Makes k (Event.Take s) (Outcome.Handed n) (after_next_item (view_of k) s o)) (sym is)
-        (subst (λ m. Makes k (Event.Take s) (Outcome.Handed m) (after_item (view_of k) s item)) (sym (some_same n (length item.sends) e)) (take_item k s item reached free is))
+take_makes k s n reached free due = (elim (next_held (view_of k) s) as (λ (o : Option Item). next_held (view_of k) s ≡ o → Some n ≡ option_map (λ item. length item.sends) o → Makes k (Event.Take s) (Outcome.Handed n) (after_next_item (view_of k) s (next_held (view_of k) s))) [
+  | None ↦ λ is e. none_some n (sym e)
+  | Some item ↦ λ is e. subst (λ o. Makes k (Event.Take s) (Outcome.Handed n) (after_next_item (view_of k) s o)) (sym is) (subst (λ m. Makes k (Event.Take s) (Outcome.Handed m) (after_item (view_of k) s item)) (sym (some_same n (length item.sends) e)) (take_item k s item reached free is))
+]) refl due
 
 -- ---- a lag
 
@@ -426,25 +368,17 @@ after_error v c = record v { endpoints = set v.endpoints c (written_endpoint (sp
 
 -- what is held once it is leaving too
 abbrev pub after_lag : View → ℕ → View
-after_lag v c =
-    let u = after_error v c in record u { endpoints = set u.endpoints c (leaving_endpoint None (get_or u.endpoints c no_endpoint)) }
+after_lag v c = let u = after_error v c in record u { endpoints = set u.endpoints c (leaving_endpoint None (get_or u.endpoints c no_endpoint)) }
 
 -- a subscription that has lagged ends its connection, once no item is left
-pub take_lags : (k : Core) (s : ℕ) → IsReached k → take_objection (view_of k) s ≡ None → next_held (view_of k) s ≡ None
-    → has_lagged s (group_held (view_of k) s) ≡ true
+pub take_lags : (k : Core) (s : ℕ) → IsReached k → take_objection (view_of k) s ≡ None → next_held (view_of k) s ≡ None → has_lagged s (group_held (view_of k) s) ≡ true
     → Makes k (Event.Take s) (Outcome.Faulted ConnectionFault.Lagged false) (after_lag (view_of k) (sub_held (view_of k) s).connection)
 take_lags k s reached free none lagged =
-    let w = k.world in
-    let c = (subscription_at w s).connection in
-    let m = may_take k s reached free in
-    let o = Outcome.Faulted ConnectionFault.Lagged false in
-    let step = step_of (Event.Take s) Reading.Nothing o in
+    let w = k.world in let c = (subscription_at w s).connection in let m = may_take k s reached free in let o = Outcome.Faulted ConnectionFault.Lagged false in
     let unrefused = idle_refusal k s m true none lagged in
     let last : slice_get (accepted_at w s) (subscription_at w s).taken ≡ None =
     ap (λ (xs : List Item). slice_get xs (subscription_at w s).taken) (accepted_is k s m) ∙ (sym (next_is_of k s m.queue) ∙ none) in
-    let accepted = λ (n : ℕ). accepted_of n k.steps in
-    let unread = λ (n : ℕ). unread_at n k.steps in
-    let text = λ (n : ℕ). text_after k s (lag_error ∷ []) n in
+    let accepted = λ (n : ℕ). accepted_of n k.steps in let unread = λ (n : ℕ). unread_at n k.steps in let text = λ (n : ℕ). text_after k s (lag_error ∷ []) n in
     let began = λ (n : ℕ). subscribe_frame n k.steps in
     let own = written_own k s (lag_error ∷ []) reached m.queue.there
     ∙ ap (λ (t : List ℕ). text_out k.names c k.steps ++ t) (append-nil (spelling_of lag_error)) in
@@ -453,19 +387,14 @@ take_lags k s reached free none lagged =
     written_with (names_at k) w accepted unread (λ n. text_out k.names n k.steps) text began c (spelling_of lag_error) no_endpoint m.connection own
     (written_other k s (lag_error ∷ []) reached m.queue.there) in
     let answered = made_answer w (Move.Takes s) unrefused ∙ ap (take_answer w s) last in
-    record {
-      reading = Reading.Nothing;
-      may = record {
-        reading = refl;
-        outcome = rw (ap (λ (why : Option Objection). unless why (move_outcome k (Move.Takes s) ++ Outcome.NoMemory ∷ [])) unrefused)
-            (In-append_left o (move_outcome k (Move.Takes s)) (Outcome.NoMemory ∷ []) (in_outcome k (Move.Takes s) o (Answer.Error c) answered refl));
-      };
-      view = ap (λ (x : SubView). after_lag (view_of k) x.connection) (sub_is k s m.queue.there)
-          ∙ (ap (λ (v : View). record v { endpoints = set v.endpoints c (leaving_endpoint None (get_or v.endpoints c no_endpoint)) }) written
-          ∙ (left_with (names_at k) w accepted unread text began c None no_endpoint m.connection (reading_there (connection_at w c).standing m.reads) parting
-          ∙ ((λ i. view_with (names_at k) (with_leaving w c) (λ n. sym (append-nil (accepted n)) i) unread text began)
-          ∙ ap (λ (z : World). view_after k.names z (step ∷ k.steps)) (sym (made_world w (Move.Takes s) unrefused ∙ ap (take_effect w s) last)))));
-    }
+    step_makes k (Event.Take s) o (with_leaving w c) refl
+    (rw (ap (λ (why : Option Objection). unless why (move_outcome k (Move.Takes s) ++ Outcome.NoMemory ∷ [])) unrefused)
+    (In-append_left o (move_outcome k (Move.Takes s)) (Outcome.NoMemory ∷ []) (in_outcome k (Move.Takes s) o (Answer.Error c) answered refl)))
+    (made_world w (Move.Takes s) unrefused ∙ ap (take_effect w s) last)
+    (ap (λ (x : SubView). after_lag (view_of k) x.connection) (sub_is k s m.queue.there)
+    ∙ (ap (λ (v : View). record v { endpoints = set v.endpoints c (leaving_endpoint None (get_or v.endpoints c no_endpoint)) }) written
+    ∙ (left_with (names_at k) w accepted unread text began c None no_endpoint m.connection (reading_there (connection_at w c).standing m.reads) parting
+    ∙ (λ i. view_with (names_at k) (with_leaving w c) (λ n. sym (append-nil (accepted n)) i) unread text began))))
 
 -- an ERROR was written and the connection is leaving: what is held is that after a lag
 pub lag_put : (v u new : View) (c : ℕ) (title : List ℕ) → title ≡ connection_title ConnectionFault.Lagged

@@ -1,10 +1,7 @@
 -- A topic that an accepted frame makes, and its being taken back where the frame finds no memory.
-use Rattle.delivery.proofs.Words.Std.{◌≡◌, ℕ, ◌-◌, ◌<◌, Bool, true, false, cond, not, ◌&&◌, List, [], ◌∷◌, ◌++◌, length, refl, sym, ap, ◌∙◌, arith, codes, nat_lt, take, Option, false≢true, lt-ltb, ltb-true, and_parts, length-append, length-map}
-use Rattle.delivery.proofs.Words.Frames.{Command, RawFrame, is_connect, Unread, Action, takes_memory, field, has_destination, with_destination, is_known, max_topics, Held}
-use Rattle.delivery.proofs.Words.Core.{Core, names_at, session_at}
-use Rattle.delivery.proofs.Words.Views.{Asks, AsksNamed, AsksUnnamed, MayLack, accepted_stage, staged_endpoint, IsReached, View, EndpointView, group_view, made_group, view_of}
+use Rattle.delivery.proofs.Words.All.{◌≡◌, ℕ, ◌-◌, ◌<◌, Bool, true, false, cond, not, ◌&&◌, List, [], ◌∷◌, ◌++◌, length, refl, sym, ap, ◌∙◌, arith, codes, nat_lt, take, Option, false≢true, lt-ltb, ltb-true, and_parts, length-append, length-map, Command, RawFrame, is_connect, Unread, Action, takes_memory, field, has_destination, with_destination, is_known, max_topics, Held, Core, names_at, session_at, Asks, AsksNamed, AsksUnnamed, MayLack, accepted_stage, staged_endpoint, IsReached, View, EndpointView, group_view, made_group, view_of}
 use Rattle.stomp_frame.specs.declared.command.Command.TheVariants as commands
-use Rattle.delivery.specs.Inner.Nexts.{changed_endpoint}
+use Rattle.delivery.specs.Inner.Nexts.{AsksOver, changed_endpoint}
 use Rattle.delivery.specs.Inner.View.{grouped_view}
 use Rattle.delivery.proofs.Core.NamesFew.{room_for}
 use Rattle.delivery.proofs.Views.Events.WantsMemory.{by_session}
@@ -20,11 +17,7 @@ groups_named : (k : Core) → IsReached k → length (view_of k).groups ≡ leng
 groups_named k reached = length-map k.world.topics (group_view k.world) ∙ topics_as_named k reached
 
 not_less : (m n : ℕ) → m ≡ n → nat_lt m n ≡ false
-not_less m n e = by (nat_lt m n) refl
-  where
-    by : (b : Bool) → nat_lt m n ≡ b → b ≡ false
-    by true h = let l = ltb-true m n h in absurd (omega (arith, l, e))
-    by false h = refl
+not_less m n e = (elim (nat_lt m n) as (λ (b : Bool). nat_lt m n ≡ b → b ≡ false) [ true ↦ λ h. (let l = ltb-true m n h in absurd (omega (arith, l, e))) | false ↦ λ h. refl ]) refl
 
 one_more : (m : ℕ) (names : List (List ℕ)) (name : List ℕ) → m ≡ length names → nat_lt m (length (names ++ name ∷ [])) ≡ true
 one_more m names name e = let n = length-append names (name ∷ []) in lt-ltb m (length (names ++ name ∷ [])) (omega (arith, n, e))
@@ -64,15 +57,15 @@ takes_by _ s f has = absurd (false≢true has)
 
 -- a group of the last name changes no endpoint
 pub grouped_length : (v : View) → length (grouped_view v).endpoints ≡ length v.endpoints
-grouped_length v = by (nat_lt (length v.groups) (length v.names))
-  where
-    by : (b : Bool) → length (cond b (record v { groups = v.groups ++ made_group (length v.groups) ∷ [] }) v).endpoints ≡ length v.endpoints
-    by true = refl
-    by false = refl
+grouped_length v = elim (nat_lt (length v.groups) (length v.names)) as (λ (b : Bool). length (cond b (record v { groups = v.groups ++ made_group (length v.groups) ∷ [] }) v).endpoints ≡ length v.endpoints) [ true ↦ refl | false ↦ refl ]
 
 module _ (k : Core) (c : ℕ) (f : RawFrame) (left : Unread) (action : Action) (receipt : Option (List ℕ)) (held : View) where
   abbrev stage : EndpointView → EndpointView
   stage = staged_endpoint (accepted_stage k c f left)
+
+  -- it asks so where another view is held, over another base
+  again : {base other seen : View} → AsksOver base k c f left action receipt held → seen ≡ changed_endpoint stage c other → AsksOver other k c f left action receipt seen
+  again asks view = record { reached = asks.reached; idle = asks.idle; read = asks.read; cased = asks.cased; free = asks.free; does = asks.does; wants = asks.wants; view = view }
 
   -- so it is said of what is held once the frame is accepted
   pub made_is : AsksNamed k c f left action receipt held → nat_lt (length held.groups) (length held.names) ≡ is_first_use k f
@@ -97,16 +90,7 @@ module _ (k : Core) (c : ℕ) (f : RawFrame) (left : Unread) (action : Action) (
 
   -- with its group the destination has its topic
   pub grouped_asks : AsksNamed k c f left action receipt held → Asks k c f left action receipt (grouped_view held)
-  grouped_asks asks = record {
-    reached = asks.reached;
-    idle = asks.idle;
-    read = asks.read;
-    cased = asks.cased;
-    free = asks.free;
-    does = asks.does;
-    wants = asks.wants;
-    view = ap grouped_view asks.view ∙ by (has_destination f.command) (is_known (field (codes "destination") f) (names_at k));
-  }
+  grouped_asks asks = again asks (ap grouped_view asks.view ∙ by (has_destination f.command) (is_known (field (codes "destination") f) (names_at k)))
     where
       v : View
       v = view_of k
@@ -114,8 +98,7 @@ module _ (k : Core) (c : ℕ) (f : RawFrame) (left : Unread) (action : Action) (
       grown : List (List ℕ)
       grown = names_at k ++ field (codes "destination") f ∷ []
 
-      by : (a b : Bool)
-          → grouped_view (changed_endpoint stage c (record v { names = names_by k f a b }))
+      by : (a b : Bool) → grouped_view (changed_endpoint stage c (record v { names = names_by k f a b }))
           ≡ changed_endpoint stage c (cond (a && not b) (record v { names = grown; groups = v.groups ++ made_group (length v.groups) ∷ [] }) v)
       by true true =
           ap (λ (t : Bool). cond t (record (changed_endpoint stage c v) { groups = v.groups ++ made_group (length v.groups) ∷ [] }) (changed_endpoint stage c v))
@@ -130,57 +113,29 @@ module _ (k : Core) (c : ℕ) (f : RawFrame) (left : Unread) (action : Action) (
   -- without the name all is what it was but for its endpoint
   pub name_taken : AsksNamed k c f left action receipt held → is_first_use k f ≡ true
       → AsksUnnamed k c f left action receipt (record held { names = take (length held.names - 1) held.names })
-  name_taken asks used = record {
-    reached = asks.reached;
-    idle = asks.idle;
-    read = asks.read;
-    cased = asks.cased;
-    free = asks.free;
-    does = asks.does;
-    wants = asks.wants;
-    view = ap (λ (v : View). record v { names = take (length v.names - 1) v.names }) asks.view
-        ∙ ap (λ (names : List (List ℕ)). changed_endpoint stage c (record (view_of k) { names = names })) (last_name k f used);
-  }
+  name_taken asks used = again asks (ap (λ (v : View). record v { names = take (length v.names - 1) v.names }) asks.view
+      ∙ ap (λ (names : List (List ℕ)). changed_endpoint stage c (record (view_of k) { names = names })) (last_name k f used))
 
   -- neither with its group
   pub topic_taken : Asks k c f left action receipt held → is_first_use k f ≡ true
       → AsksUnnamed k c f left action receipt (record held { names = take (length held.names - 1) held.names; groups = take (length held.groups - 1) held.groups })
-  topic_taken asks used = record {
-    reached = asks.reached;
-    idle = asks.idle;
-    read = asks.read;
-    cased = asks.cased;
-    free = asks.free;
-    does = asks.does;
-    wants = asks.wants;
-    view = ap (λ (v : View). record v { names = take (length v.names - 1) v.names; groups = take (length v.groups - 1) v.groups }) (asks.view ∙ ap (λ (t : Bool). changed_endpoint stage c (cond t made (view_of k))) used)
-        ∙ (λ i. changed_endpoint stage c (record (view_of k) { names = last_dropped (names_at k) (field (codes "destination") f) i; groups = last_dropped (view_of k).groups (made_group (length (view_of k).groups)) i }));
-  }
+  topic_taken asks used = again asks (ap (λ (v : View). record v { names = take (length v.names - 1) v.names; groups = take (length v.groups - 1) v.groups }) (asks.view ∙ ap (λ (t : Bool). changed_endpoint stage c (cond t made (view_of k))) used)
+      ∙ (λ i. changed_endpoint stage c (record (view_of k) { names = last_dropped (names_at k) (field (codes "destination") f) i; groups = last_dropped (view_of k).groups (made_group (length (view_of k).groups)) i })))
     where
       made : View
       made = record (view_of k) { names = names_at k ++ field (codes "destination") f ∷ []; groups = (view_of k).groups ++ made_group (length (view_of k).groups) ∷ [] }
 
   -- where it makes no topic there is none to take back
   pub none_taken : Asks k c f left action receipt held → is_first_use k f ≡ false → AsksUnnamed k c f left action receipt held
-  none_taken asks none = record {
-    reached = asks.reached;
-    idle = asks.idle;
-    read = asks.read;
-    cased = asks.cased;
-    free = asks.free;
-    does = asks.does;
-    wants = asks.wants;
-    view = asks.view
-        ∙ ap (λ (t : Bool). changed_endpoint stage c (cond t (record (view_of k) { names = names_at k ++ field (codes "destination") f ∷ []; groups = (view_of k).groups ++ made_group (length (view_of k).groups) ∷ [] }) (view_of k))) none;
-  }
+  none_taken asks none = again asks (asks.view
+      ∙ ap (λ (t : Bool). changed_endpoint stage c (cond t (record (view_of k) { names = names_at k ++ field (codes "destination") f ∷ []; groups = (view_of k).groups ++ made_group (length (view_of k).groups) ∷ [] }) (view_of k))) none)
 
   -- there is a group, and a name, to take back
   pub some_taken : Asks k c f left action receipt held → is_first_use k f ≡ true → (0 < length held.groups) × (0 < length held.names)
   some_taken asks used =
       let view = asks.view ∙ ap (λ (t : Bool). changed_endpoint stage c (cond t (record (view_of k) { names = names_at k ++ field (codes "destination") f ∷ []; groups = (view_of k).groups ++ made_group (length (view_of k).groups) ∷ [] }) (view_of k))) used in
       let groups = ap (λ (v : View). length v.groups) view ∙ length-append (view_of k).groups (made_group (length (view_of k).groups) ∷ []) in
-      let names = ap (λ (v : View). length v.names) view ∙ length-append (names_at k) (field (codes "destination") f ∷ []) in
-      (omega (arith, groups), omega (arith, names))
+      let names = ap (λ (v : View). length v.names) view ∙ length-append (names_at k) (field (codes "destination") f ∷ []) in (omega (arith, groups), omega (arith, names))
 
   -- a frame that makes its topic wants memory
   pub first_use_wants : is_first_use k f ≡ true → MayLack k c f

@@ -1,15 +1,10 @@
 -- A turn of a topic.
-use Rattle.delivery.proofs.Words.Std.{◌≡◌, ℕ, ◌<◌, ◌≤◌, ◌-◌, Bool, true, false, not, List, [], ◌∷◌, map, length, get_or, set, Option, None, refl, sym, ap, ◌∙◌, option_or, lt-ltb, le-ltb, map-set}
-use Rattle.delivery.proofs.Words.Topics.{Topic, TxnId, Decision, first_refusal, takes_of, GroupState, TopicState, after_turn}
-use Rattle.delivery.proofs.Words.Machine.{Objection, World, topic_at, with_topic, Move, Answer, is_topic, queue_has_room, verdict_in, move_refusal}
-use Rattle.delivery.proofs.Words.Core.{Event, Outcome, Refusal, Reading, Core}
-use Rattle.delivery.proofs.Words.Views.{IsReached, Makes, step_of, verdict_held, group_after_turn, group_turn_count, after_turn_at, verdict_at, view_of, view_after, group_view, no_group}
+use Rattle.delivery.proofs.Words.All.{◌≡◌, ℕ, ◌<◌, ◌≤◌, ◌-◌, Bool, true, false, not, List, [], ◌∷◌, map, length, get_or, set, Option, None, refl, sym, ap, ◌∙◌, option_or, lt-ltb, le-ltb, map-set, Topic, TxnId, Decision, first_refusal, takes_of, GroupState, TopicState, after_turn, Objection, World, topic_at, with_topic, Move, Answer, is_topic, queue_has_room, verdict_in, move_refusal, Event, Outcome, Refusal, Core, IsReached, Makes, verdict_held, group_after_turn, group_turn_count, after_turn_at, verdict_at, view_of, group_view, no_group}
 use Rattle.mcast_group.specs.Group.{AreFound}
 use Rattle.delivery.proofs.Machine.Effects.{made_world, made_answer}
 use Rattle.delivery.proofs.Machine.QueueSteps.{turned_goes}
-use Rattle.delivery.proofs.Views.Endpoints.EndpointsStay.{quiet_view, turn_is_quiet}
+use Rattle.delivery.proofs.Words.Changes.{turn_is_quiet, in_outcome, refused_makes, quiet_makes}
 use Rattle.delivery.proofs.Views.Events.ReleaseStep.{takes_same, gauges_stay, group_at}
-use Rattle.delivery.proofs.Views.Events.OneMove.{in_outcome, refused_makes}
 use Rattle.delivery.proofs.Views.Subscriptions.TurnAsksOwnEntries.{turn_same}
 use Rattle.delivery.proofs.Views.Verdicts.FoundVerdict.{verdict_is}
 
@@ -17,8 +12,7 @@ use Rattle.delivery.proofs.Views.Verdicts.FoundVerdict.{verdict_is}
 
 -- a turn with what was found is one that finds all verdicts of the table
 pub turn_found : (table : List (List (Option Decision))) (g new : GroupState) (find : TxnId → Option Decision)
-    → AreFound (λ part found. found ≡ verdict_at part.id table) find g.topic.pending
-    → new ≡ record g { topic = after_turn (takes_of g) find g.topic }
+    → AreFound (λ part found. found ≡ verdict_at part.id table) find g.topic.pending → new ≡ record g { topic = after_turn (takes_of g) find g.topic }
     → new ≡ group_after_turn (λ id. verdict_at id table) g
 turn_found table g new find found is =
     is
@@ -37,18 +31,13 @@ turned_topic k t reached =
     (λ e f here same. takes_same w x e f here same) (λ p here. verdict_is k p.part.id reached)
 
 -- the group after it is that of the world's topic after it
-turned_group : (k : Core) (t : Topic) → IsReached k
-    → group_after_turn (verdict_held (view_of k)) (group_view k.world (topic_at k.world t)) ≡ group_view k.world (turned k.world t)
+turned_group : (k : Core) (t : Topic) → IsReached k → group_after_turn (verdict_held (view_of k)) (group_view k.world (topic_at k.world t)) ≡ group_view k.world (turned k.world t)
 turned_group k t reached =
-    λ i. record {
-      topic = turned_topic k t reached i;
-      gauges = gauges_stay k.world (topic_at k.world t) (turned k.world t) (turned_goes k.world (topic_at k.world t)) i;
-    }
+    λ i. record { topic = turned_topic k t reached i; gauges = gauges_stay k.world (topic_at k.world t) (turned k.world t) (turned_goes k.world (topic_at k.world t)) i }
 
 -- ---- the event
 
-turn_refusal : (w : World) (t : Topic) (b : Bool) → is_topic w t ≡ b
-    → move_refusal w (Move.Turns t) ≡ option_or (first_refusal ((not b, Objection.NotNamed) ∷ [])) None
+turn_refusal : (w : World) (t : Topic) (b : Bool) → is_topic w t ≡ b → move_refusal w (Move.Turns t) ≡ option_or (first_refusal ((not b, Objection.NotNamed) ∷ [])) None
 turn_refusal w t b there = λ i. option_or (first_refusal ((not (there i), Objection.NotNamed) ∷ [])) None
 
 -- there is no such topic
@@ -59,14 +48,9 @@ turn_unnamed k t none =
 
 -- the topic learns and releases
 pub turn_makes : (k : Core) (t : Topic) (n : ℕ) → IsReached k → t.0 < length k.world.topics
-    → n ≡ group_turn_count (verdict_held (view_of k)) (get_or (view_of k).groups t.0 no_group)
-    → Makes k (Event.Turn t) (Outcome.Turned n) (after_turn_at (view_of k) t.0 no_group)
+    → n ≡ group_turn_count (verdict_held (view_of k)) (get_or (view_of k).groups t.0 no_group) → Makes k (Event.Turn t) (Outcome.Turned n) (after_turn_at (view_of k) t.0 no_group)
 turn_makes k t n reached there is =
-    let w = k.world in
-    let x = topic_at w t in
-    let y = turned w t in
-    let step = step_of (Event.Turn t) Reading.Nothing (Outcome.Turned n) in
-    let free = turn_refusal w t true (lt-ltb t.0 (length w.topics) there) in
+    let w = k.world in let x = topic_at w t in let y = turned w t in let free = turn_refusal w t true (lt-ltb t.0 (length w.topics) there) in
     let count : n ≡ length y.held - length x.held =
     is
     ∙ (ap (λ (g : GroupState). group_turn_count (verdict_held (view_of k)) g) (group_at k t no_group there)
@@ -76,14 +60,6 @@ turn_makes k t n reached there is =
     ap (λ (g : GroupState). set (view_of k).groups t.0 (group_after_turn (verdict_held (view_of k)) g)) (group_at k t no_group there)
     ∙ (ap (λ (g : GroupState). set (view_of k).groups t.0 g) (turned_group k t reached)
     ∙ sym (map-set (group_view w) w.topics t.0 y)) in
-    record {
-      reading = Reading.Nothing;
-      may = record {
-        reading = refl;
-        outcome = in_outcome k (Move.Turns t) (Outcome.Turned n) (Answer.Turned t n)
-            (made_answer w (Move.Turns t) free ∙ ap (λ (m : ℕ). Answer.Turned t m) (sym count)) refl;
-      };
-      view = ap (λ (gs : List GroupState). record (view_of k) { groups = gs }) groups
-          ∙ (sym (quiet_view k.names step k.steps (with_topic w t y) (turn_is_quiet k.names t n k.steps))
-          ∙ ap (λ (v : World). view_after k.names v (step ∷ k.steps)) (sym (made_world w (Move.Turns t) free)));
-    }
+    quiet_makes k (Event.Turn t) (Outcome.Turned n) (with_topic w t y) (turn_is_quiet k.names t n k.steps) refl
+    (in_outcome k (Move.Turns t) (Outcome.Turned n) (Answer.Turned t n) (made_answer w (Move.Turns t) free ∙ ap (λ (m : ℕ). Answer.Turned t m) (sym count)) refl)
+    (made_world w (Move.Turns t) free) (ap (λ (gs : List GroupState). record (view_of k) { groups = gs }) groups)

@@ -1,7 +1,5 @@
 -- The text of an item's MESSAGEs, SEND by SEND.
-use Rattle.delivery.proofs.Words.Std.{◌≡◌, ℕ, ◌+◌, ◌<◌, List, [], ◌∷◌, ◌++◌, map, take, length, Some, sym, ap, ◌∙◌, arith, slice_get, enumerate_from, flat_map, map-append, append-nil, append_assoc, take_more, length-enumerate_from, get_or_from_slice_get, slice_get-get_or}
-use Rattle.delivery.proofs.Words.Topics.{PartMessage, Stamp}
-use Rattle.delivery.proofs.Words.Frames.{RawFrame, message_frame, message_id, part_message_frame, spelling_of}
+use Rattle.delivery.proofs.Words.All.{◌≡◌, ℕ, ◌+◌, ◌<◌, List, [], ◌∷◌, ◌++◌, map, take, length, Some, sym, ap, ◌∙◌, arith, slice_get, enumerate_from, flat_map, map-append, append-nil, append_assoc, take_more, length-enumerate_from, get_or_from_slice_get, slice_get-get_or, PartMessage, Stamp, RawFrame, message_frame, message_id, part_message_frame, spelling_of}
 use Rattle.std.proofs.lemmas.List.Concat.{flat_map-append}
 use Rattle.std.proofs.lemmas.List.FromFn.{get_or-enumerate_from}
 
@@ -11,8 +9,7 @@ message_of id stamp p = message_frame id (message_id stamp.n stamp.topic.0 p.ind
 
 -- that of a SEND with its place, of so many
 abbrev pub placed_of : ℕ → List ℕ → Stamp → ℕ × PartMessage → RawFrame
-placed_of count id stamp at =
-    part_message_frame at.0 count id (message_id stamp.n stamp.topic.0 at.1.index) at.1.headers at.1.body
+placed_of count id stamp at = part_message_frame at.0 count id (message_id stamp.n stamp.topic.0 at.1.index) at.1.headers at.1.body
 
 -- the text of the frames of these
 abbrev pub text_of : {X : Type 0} → (X → RawFrame) → List X → List ℕ
@@ -29,8 +26,7 @@ text_more {X = X} frame xs i x there is =
 
 -- one more frame was appended
 pub text_put : {X : Type 0} (frame : X → RawFrame) (xs : List X) (i : ℕ) (x : X) (old before after : List ℕ) → i < length xs → slice_get xs i ≡ Some x
-    → before ≡ old ++ text_of frame (take i xs) → after ≡ before ++ spelling_of (frame x)
-    → after ≡ old ++ text_of frame (take (i + 1) xs)
+    → before ≡ old ++ text_of frame (take i xs) → after ≡ before ++ spelling_of (frame x) → after ≡ old ++ text_of frame (take (i + 1) xs)
 text_put frame xs i x old before after there is was put =
     put
     ∙ (ap (λ (t : List ℕ). t ++ spelling_of (frame x)) was
@@ -38,11 +34,9 @@ text_put frame xs i x old before after there is was put =
     ∙ ap (λ (t : List ℕ). old ++ t) (sym (text_more frame xs i x there is))))
 
 -- a SEND with its place, which is one more than its index
-pub placed_at : (sends : List PartMessage) (i : ℕ) (p : PartMessage) → i < length sends → slice_get sends i ≡ Some p
-    → slice_get (enumerate_from 1 sends) i ≡ Some (i + 1, p)
+pub placed_at : (sends : List PartMessage) (i : ℕ) (p : PartMessage) → i < length sends → slice_get sends i ≡ Some p → slice_get (enumerate_from 1 sends) i ≡ Some (i + 1, p)
 placed_at sends i p there is =
-    let many : i < length (enumerate_from 1 sends) = omega (arith, there, length-enumerate_from 1 sends) in
-    let place : 1 + i ≡ i + 1 = omega arith in
+    let many : i < length (enumerate_from 1 sends) = omega (arith, there, length-enumerate_from 1 sends) in let place : 1 + i ≡ i + 1 = omega arith in
     slice_get-get_or (enumerate_from 1 sends) i (i + 1, p) many
     ∙ ap (λ (at : ℕ × PartMessage). Some at)
     (get_or-enumerate_from 1 sends i (i + 1, p) there ∙ (λ k. (place k, get_or_from_slice_get sends i p p is k)))

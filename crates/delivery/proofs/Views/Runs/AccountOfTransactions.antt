@@ -1,15 +1,9 @@
 -- What the account of a core that a run leads to says of its undecided transactions and its subscriptions.
-use Rattle.delivery.proofs.Words.Std.{◌≡◌, ◌≢◌, ℕ, ◌<◌, cond, not, length, Option, Some, None, sym, ap, ◌∙◌, slice_get, is_some, slice_get-get_or}
-use Rattle.delivery.proofs.Words.Topics.{NoSub, Entry}
-use Rattle.delivery.proofs.Words.Lemmas.{none_some}
-use Rattle.delivery.proofs.Words.Machine.{Undecided, sender_at, speaker, subscription_at, entry_at, undecided_or_none, accepted_at, final_world}
-use Rattle.delivery.proofs.Words.Core.{account_of, last_of, beginning_of, next_item, no_item, Core}
-use Rattle.delivery.proofs.Words.Views.{IsReached}
+use Rattle.delivery.proofs.Words.All.{◌≡◌, ◌≢◌, ℕ, ◌<◌, cond, not, length, Option, Some, None, sym, ap, ◌∙◌, slice_get, is_some, slice_get-get_or, NoSub, Entry, none_some, Undecided, sender_at, speaker, subscription_at, entry_at, undecided_or_none, accepted_at, final_world, account_of, last_of, beginning_of, next_item, no_item, Core, IsReached}
 use Rattle.delivery.proofs.Theorem.NeverRefused.{entries_are_there}
-use Rattle.delivery.proofs.Core.AccountOfRun.{Own, spoken, undecided_is}
+use Rattle.delivery.proofs.Words.Changes.{Own, undecided_is, by_world, by_account, stand_of, claims_own}
+use Rattle.delivery.proofs.Core.Speaking.{spoken}
 use Rattle.delivery.proofs.Core.NextItem.{next_item_is, connection_is}
-use Rattle.delivery.proofs.Views.Runs.ByRunOfCore.{by_world, by_account, stand_of}
-use Rattle.delivery.proofs.Core.ClaimsStand.{claims_own}
 
 -- the id of a sender's undecided transaction is its last
 pub flight_id : (k : Core) (s : ℕ) (f : Undecided) → IsReached k → (sender_at k.world s).flight ≡ Some f
@@ -30,12 +24,10 @@ last_is k c f reached =
 -- the account says whose a subscription is
 pub begins_as : (k : Core) (s : ℕ) → IsReached k → s < length k.world.subscriptions
     → (beginning_of s (account_of k.names k.steps)).connection ≡ (subscription_at k.world s).connection
-begins_as k s reached l =
-    by_account (λ account w. (beginning_of s account).connection ≡ (subscription_at w s).connection) k reached (λ r. connection_is r s)
+begins_as k s reached l = by_account (λ account w. (beginning_of s account).connection ≡ (subscription_at w s).connection) k reached (λ r. connection_is r s)
 
 -- the next item by the account is the first of the queue that wasn't handed on
-pub next_is : (k : Core) (s : ℕ) → IsReached k → s < length k.world.subscriptions
-    → (subscription_at k.world s).taken < length (accepted_at k.world s)
+pub next_is : (k : Core) (s : ℕ) → IsReached k → s < length k.world.subscriptions → (subscription_at k.world s).taken < length (accepted_at k.world s)
     → Some (next_item s (account_of k.names k.steps)) ≡ slice_get (accepted_at k.world s) (subscription_at k.world s).taken
 next_is k s reached =
     by_account
@@ -50,8 +42,7 @@ no_entry : NoSub
 no_entry = record {}
 
 -- a subscription that isn't closed has its entry at its topic
-pub has_entry : (k : Core) (s : ℕ) → IsReached k → s < length k.world.subscriptions
-    → (subscription_at k.world s).closed ≡ None → entry_at k.world s ≢ None
+pub has_entry : (k : Core) (s : ℕ) → IsReached k → s < length k.world.subscriptions → (subscription_at k.world s).closed ≡ None → entry_at k.world s ≢ None
 has_entry k s reached =
     by_world (λ w. s < length w.subscriptions → (subscription_at w s).closed ≡ None → entry_at w s ≢ None) k reached
     (λ r l unclosed none. none_some _ (sym (entries_are_there r s l unclosed) ∙ ap (λ (o : Option Entry). cond (is_some o) None (Some no_entry)) none))

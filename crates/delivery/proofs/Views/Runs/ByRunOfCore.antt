@@ -1,8 +1,6 @@
 -- What holds of each run of the machine holds of each core that a run leads to.
 use Rattle.std.proofs.Common.{◌≡◌, List, sym, subst, ap, ◌∙◌}
-use Rattle.delivery.proofs.Words.Machine.{World, Answer, Run, answers_of, final_world}
-use Rattle.delivery.proofs.Words.Core.{account_of, Core, claims_of}
-use Rattle.delivery.proofs.Words.Views.{IsReached}
+use Rattle.delivery.proofs.Words.All.{World, Answer, Run, answers_of, final_world, account_of, Core, claims_of, IsReached}
 use Rattle.delivery.proofs.Core.Said.{said}
 use Rattle.delivery.proofs.Theorem.SendersAreOwn.{Speaks, speak}
 use Rattle.delivery.proofs.Core.ClaimsStand.{Stand, core_stands}
@@ -34,8 +32,7 @@ by_account P k reached h =
 
 -- whom each connection of a core speaks for, and how many senders there are, is as its claims say
 pub stand_of : (k : Core) → IsReached k → Stand k.world (claims_of k.steps)
-stand_of k reached =
-    subst (λ (z : Core). Stand z.world (claims_of z.steps)) (sym reached.is) (core_stands reached.topics reached.capacity reached.steps reached.run)
+stand_of k reached = subst (λ (z : Core). Stand z.world (claims_of z.steps)) (sym reached.is) (core_stands reached.topics reached.capacity reached.steps reached.run)
 
 -- no two connections of it that aren't gone speak for one sender
 pub speaks_of : (k : Core) → IsReached k → Speaks k.world

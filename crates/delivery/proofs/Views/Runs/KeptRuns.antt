@@ -1,10 +1,5 @@
 -- What a net keeps: it is delivered, and it grows by a step.
-use Rattle.delivery.proofs.Words.Std.{◌≡◌, ℕ, ◌-◌, ◌≤◌, List, [], ◌∷◌, ◌++◌, map, length, reverse, refl, sym, ap, subst, ◌∙◌, append_assoc, append-nil, map-append, take}
-use Rattle.delivery.proofs.Words.Topics.{SendersState}
-use Rattle.delivery.proofs.Words.Frames.{max_topics}
-use Rattle.delivery.proofs.Words.Machine.{World}
-use Rattle.delivery.proofs.Words.Core.{Event, Outcome, Kept, TopicList, KeptRun, HasTaken, HasAnswered, IsDelivered, HasReport, CoreStep, kept_of, names_after, IsCoreRun, Core, core_of, names_at, new_core, Report, report_of, Delivery, kept_run}
-use Rattle.delivery.proofs.Words.Views.{reading_at, steps_of, KeepsBoth, KeepsRun, AreClients, MakesBoth, IsReached, step_of, View, view_of, report_in}
+use Rattle.delivery.proofs.Words.All.{◌≡◌, ℕ, ◌-◌, ◌≤◌, List, [], ◌∷◌, ◌++◌, map, length, reverse, refl, sym, ap, subst, ◌∙◌, append_assoc, append-nil, map-append, take, SendersState, max_topics, World, Event, Outcome, Kept, TopicList, KeptRun, HasTaken, HasAnswered, IsDelivered, HasReport, CoreStep, kept_of, names_after, IsCoreRun, Core, core_of, names_at, new_core, Report, report_of, Delivery, kept_run, reading_at, steps_of, KeepsBoth, KeepsRun, AreClients, MakesBoth, IsReached, step_of, View, view_of, report_in}
 use Rattle.std.proofs.lemmas.List.{reverse-append}
 use Rattle.std.proofs.lemmas.Grind.{reverse_onto}
 use Rattle.delivery.proofs.Core.AccountOfRun.{run_of, world_is, core_is}
@@ -15,8 +10,7 @@ use Rattle.delivery.proofs.Theorem.SpansAsAnswered.{known}
 use Rattle.delivery.proofs.Views.Runs.ReportOfView.{reported}
 
 -- what a net holds has the opening names first, and the capacity that it began with
-pub names_kept : (topics : TopicList) (capacity : ℕ) (kept : List Kept) (held : View) → KeepsRun topics capacity kept held
-    → take (length topics.clocks) held.names ≡ topics.names
+pub names_kept : (topics : TopicList) (capacity : ℕ) (kept : List Kept) (held : View) → KeepsRun topics capacity kept held → take (length topics.clocks) held.names ≡ topics.names
 names_kept topics capacity kept held keeps =
     let names : held.names ≡ names_after topics.names keeps.steps =
     ap (λ (v : View). v.names) keeps.view ∙ ap (λ (k : Core). names_at k) (core_is topics capacity keeps.steps) in
@@ -36,14 +30,12 @@ AreSteps net = net.steps ≡ steps_of (reverse net.kept)
 
 -- what a net keeps are its steps
 pub steps_kept : (net : KeptRun) (held : View) → AreSteps net → (keeps : KeepsRun net.topics net.capacity net.kept held) → keeps.steps ≡ net.steps
-steps_kept net held are keeps =
-    steps_turned net.topics net.capacity keeps.steps keeps.is_run ∙ (ap (λ (run : List Kept). steps_of (reverse run)) (sym keeps.are_kept) ∙ sym are)
+steps_kept net held are keeps = steps_turned net.topics net.capacity keeps.steps keeps.is_run ∙ (ap (λ (run : List Kept). steps_of (reverse run)) (sym keeps.are_kept) ∙ sym are)
 
 -- the report of what a net holds is delivered
 pub is_delivered : (net : KeptRun) (held : View) → AreSteps net → KeepsRun net.topics net.capacity net.kept held → IsDelivered net (report_in held)
 is_delivered net held are keeps =
-    let k = core_of net.topics net.capacity keeps.steps in
-    let same : keeps.steps ≡ net.steps = steps_kept net held are keeps in
+    let k = core_of net.topics net.capacity keeps.steps in let same : keeps.steps ≡ net.steps = steps_kept net held are keeps in
     let is_report : report_in held ≡ report_of k = ap report_in keeps.view ∙ reported k in
     let run : Delivery net.topics net.capacity net.steps (report_in held) =
     subst (λ (r : Report). Delivery net.topics net.capacity net.steps r) (sym is_report)
@@ -62,15 +54,13 @@ is_delivered net held are keeps =
 
 -- so the report of its core is
 pub has_report : (net : KeptRun) (held : View) → AreSteps net → KeepsRun net.topics net.capacity net.kept held → HasReport net
-has_report net held are keeps =
-    let is = is_delivered net held are keeps in subst (IsDelivered net) is.answered.is_report is
+has_report net held are keeps = let is = is_delivered net held are keeps in subst (IsDelivered net) is.answered.is_report is
 
 -- the last of what a net keeps was a step of its core
 pub has_answered : (old new : KeptRun) (held : View) (e : Event) (o : Outcome) → AreSteps old → AreSteps new → KeepsRun new.topics new.capacity new.kept held
     → new.topics ≡ old.topics → new.capacity ≡ old.capacity → new.kept ≡ old.kept ++ record { event = e; outcome = o } ∷ [] → HasAnswered e o old new
 has_answered old new held e o were are keeps topics capacity kept =
-    let one : Kept = record { event = e; outcome = o } in
-    let step = step_of e (reading_at old.steps e o) o in
+    let one : Kept = record { event = e; outcome = o } in let step = step_of e (reading_at old.steps e o) o in
     let turned : reverse new.kept ≡ one ∷ reverse old.kept = ap (λ (run : List Kept). reverse run) kept ∙ reverse-append old.kept (one ∷ []) in
     let steps : new.steps ≡ step ∷ old.steps =
     are ∙ (ap steps_of turned ∙ ap (λ (ss : List CoreStep). step_of e (reading_at ss e o) o ∷ ss) (sym were)) in
@@ -88,11 +78,9 @@ Answers held clients e o new later = (k : Core) → IsReached k → held ≡ vie
 
 -- the kept run with the event and its outcome at its end is one of a core, and what is held then is its view
 grown : (topics : TopicList) (capacity : ℕ) (kept : List Kept) (held new : View) (clients later : SendersState) (e : Event) (o : Outcome)
-    → KeepsBoth topics capacity kept held clients → Answers held clients e o new later
-    → KeepsBoth topics capacity (kept ++ record { event = e; outcome = o } ∷ []) new later
+    → KeepsBoth topics capacity kept held clients → Answers held clients e o new later → KeepsBoth topics capacity (kept ++ record { event = e; outcome = o } ∷ []) new later
 grown topics capacity kept held new clients later e o both answers =
-    let keeps = both.run in
-    let k = core_of topics capacity keeps.steps in
+    let keeps = both.run in let k = core_of topics capacity keeps.steps in
     let makes = answers k (record { topics = topics; capacity = capacity; steps = keeps.steps; as_many = keeps.as_many; is = refl; run = keeps.is_run }) keeps.view both.claimed in
     let step = step_of e makes.reading o in record {
       run = record {
@@ -116,8 +104,7 @@ pub step_kept : (clocks : List ℕ) (kept : List Kept) (held new : View) (client
     → KeepsBoth (opening_of clocks held) held.capacity kept held clients → Answers held clients e o new later
     → KeepsBoth (opening_of clocks new) new.capacity (kept ++ record { event = e; outcome = o } ∷ []) new later
 step_kept clocks kept held new clients later e o keeps answers =
-    let topics : TopicList = opening_of clocks held in
-    let both = grown topics held.capacity kept held new clients later e o keeps answers in
+    let topics : TopicList = opening_of clocks held in let both = grown topics held.capacity kept held new clients later e o keeps answers in
     let run = kept ++ record { event = e; outcome = o } ∷ [] in
     subst (λ (n : ℕ). KeepsBoth (opening_of clocks new) n run new later)
     (sym (capacity_kept topics held.capacity run new both.run))
@@ -126,8 +113,7 @@ step_kept clocks kept held new clients later e o keeps answers =
 
 -- the opening names and the capacity stay
 pub names_stay : (clocks : List ℕ) (kept : List Kept) (held new : View) (clients later : SendersState) (e : Event) (o : Outcome)
-    → KeepsBoth (opening_of clocks held) held.capacity kept held clients → Answers held clients e o new later
-    → take (length clocks) new.names ≡ take (length clocks) held.names
+    → KeepsBoth (opening_of clocks held) held.capacity kept held clients → Answers held clients e o new later → take (length clocks) new.names ≡ take (length clocks) held.names
 names_stay clocks kept held new clients later e o keeps answers =
     let topics : TopicList = opening_of clocks held in
     names_kept topics held.capacity (kept ++ record { event = e; outcome = o } ∷ []) new (grown topics held.capacity kept held new clients later e o keeps answers).run
@@ -160,17 +146,12 @@ taken_none old new same = record {
   added = [];
   are_events = refl;
   is_new = same
-      ∙ (λ i. record old {
-        kept = sym (append-nil old.kept) i;
-        steps = ap (λ (net : KeptRun). net.steps) (sym same) i;
-        spare = new.spare;
-      });
+      ∙ (λ i. record old { kept = sym (append-nil old.kept) i; steps = ap (λ (net : KeptRun). net.steps) (sym same) i; spare = new.spare });
 }
 
 -- one more was taken
 pub taken_more : (events : List Event) (old mid new : KeptRun) (e : Event) (o : Outcome) → HasTaken events old mid
-    → new ≡ record mid { kept = mid.kept ++ record { event = e; outcome = o } ∷ []; steps = new.steps; spare = mid.spare - 1 }
-    → HasTaken (events ++ e ∷ []) old new
+    → new ≡ record mid { kept = mid.kept ++ record { event = e; outcome = o } ∷ []; steps = new.steps; spare = mid.spare - 1 } → HasTaken (events ++ e ∷ []) old new
 taken_more events old mid new e o taken is =
     let one : Kept = record { event = e; outcome = o } in
     let kept : mid.kept ++ one ∷ [] ≡ old.kept ++ (taken.added ++ one ∷ []) =

@@ -1,6 +1,6 @@
 -- Views of cores.
 use Rattle.std.proofs.Common.{◌≡◌}
-use Rattle.delivery.proofs.Words.Views.{View}
+use Rattle.delivery.proofs.Words.All.{View}
 
 -- views with the same fields
 pub same_view : (u v : View) → u.names ≡ v.names → u.capacity ≡ v.capacity → u.groups ≡ v.groups

@@ -1,24 +1,14 @@
 -- A connection whose session is connected speaks for a sender, and no other does.
-use Rattle.delivery.proofs.Words.Std.{◌≡◌, ℕ, ◌==◌, ◌||◌, Bool, true, false, cond, not, List, [], ◌∷◌, ◌++◌, Option, Some, None, refl, sym, ap, ◌∙◌, codes, is_some, option_to_list, unwrap_or, true≢false, false≢true, not-true, not-false}
-use Rattle.delivery.proofs.Words.Topics.{first_refusal, SentMessage}
-use Rattle.delivery.proofs.Words.Frames.{Command, RawFrame, is_connect, SessionFault, action_by, client_of, field, Held, is_ended, is_closed, is_new, open_refusals, session_fault}
-use Rattle.delivery.proofs.Words.Lemmas.{or_third, none_some}
-use Rattle.delivery.proofs.Words.Machine.{connection_at}
-use Rattle.delivery.proofs.Words.Core.{Event, Claim, begun_count, claim_of, claimed_sender, claims_of, sender_claimed, Core, session_at, CoreStep, accepted_of, frame_from, frame_in, has_effect}
-use Rattle.delivery.proofs.Words.Views.{IsReached}
+use Rattle.delivery.proofs.Words.All.{◌≡◌, ℕ, ◌==◌, ◌||◌, Bool, true, false, cond, not, List, [], ◌∷◌, ◌++◌, Option, Some, None, refl, sym, ap, ◌∙◌, codes, is_some, option_to_list, unwrap_or, true≢false, false≢true, not-true, not-false, first_refusal, Command, RawFrame, is_connect, SessionFault, client_of, field, Held, is_ended, is_closed, is_new, open_refusals, session_fault, or_third, none_some, connection_at, Event, Claim, begun_count, claim_of, claimed_sender, claims_of, sender_claimed, Core, session_at, CoreStep, accepted_of, frame_from, frame_in, has_effect, IsReached}
 use Rattle.stomp_frame.specs.declared.command.Command.TheVariants as commands
-use Rattle.stomp_session.specs.declared.action.Action.TheVariants as actions
 use Rattle.stomp_session.specs.Versions.{has_version}
 use Rattle.stomp_session.specs.Open.{is_connected}
 use Rattle.stomp_session.specs.Refusals.{Condition, refusals_by}
 use Rattle.delivery.proofs.Views.Runs.ByRunOfCore.{stand_of}
+use Rattle.delivery.proofs.Machine.ByFound.{none_of}
 
 any_append : (xs ys : List RawFrame) → is_connected (xs ++ ys) ≡ (is_connected ys || is_connected xs)
-any_append [] ys = none (is_connected ys)
-  where
-    none : (b : Bool) → b ≡ (b || false)
-    none true = refl
-    none false = refl
+any_append [] ys = elim (is_connected ys) as (λ (b : Bool). b ≡ (b || false)) [ true ↦ refl | false ↦ refl ]
 any_append (x ∷ xs) ys = ap (λ (b : Bool). is_connect x.command || b) (any_append xs ys) ∙ or_third (is_connect x.command) (is_connected ys) (is_connected xs)
 
 -- the CONNECTs that were accepted of a connection are its claims
@@ -80,16 +70,14 @@ opens_other commands.Stomp s f other e = absurd (true≢false other)
 opens_other command s f other e = (first_holds (is_new s.phase) SessionFault.NotConnected (refusals_by command s f) e).0
 
 opens_connect : (command : Command) (s : Held) (f : RawFrame) → is_connect command ≡ true → first_refusal (open_refusals command s f) ≡ None → is_new s.phase ≡ true
-opens_connect commands.Connect s f connect e = positive (is_new s.phase) (first_holds (not (is_new s.phase)) SessionFault.AlreadyConnected ((not (has_version (codes "1.2") (field (codes "accept-version") f)), SessionFault.NoVersion) ∷ []) e).0
-  where
-    positive : (b : Bool) → not b ≡ false → b ≡ true
-    positive true d = refl
-    positive false d = absurd (true≢false d)
-opens_connect commands.Stomp s f connect e = positive (is_new s.phase) (first_holds (not (is_new s.phase)) SessionFault.AlreadyConnected ((not (has_version (codes "1.2") (field (codes "accept-version") f)), SessionFault.NoVersion) ∷ []) e).0
-  where
-    positive : (b : Bool) → not b ≡ false → b ≡ true
-    positive true d = refl
-    positive false d = absurd (true≢false d)
+opens_connect commands.Connect s f connect e = (elim (is_new s.phase) as (λ (b : Bool). not b ≡ false → b ≡ true) [
+  | true ↦ λ d. refl
+  | false ↦ λ d. absurd (true≢false d)
+]) (first_holds (not (is_new s.phase)) SessionFault.AlreadyConnected ((not (has_version (codes "1.2") (field (codes "accept-version") f)), SessionFault.NoVersion) ∷ []) e).0
+opens_connect commands.Stomp s f connect e = (elim (is_new s.phase) as (λ (b : Bool). not b ≡ false → b ≡ true) [
+  | true ↦ λ d. refl
+  | false ↦ λ d. absurd (true≢false d)
+]) (first_holds (not (is_new s.phase)) SessionFault.AlreadyConnected ((not (has_version (codes "1.2") (field (codes "accept-version") f)), SessionFault.NoVersion) ∷ []) e).0
 opens_connect _ s f connect e = absurd (false≢true connect)
 
 -- its sender, as the frames say that it accepted
@@ -100,26 +88,13 @@ sender_is k c reached = ap (λ (o : Option ℕ). is_some o) ((stand_of k reached
 pub has_sender : (k : Core) (c : ℕ) (f : RawFrame) → IsReached k → is_connect f.command ≡ false → session_fault (session_at k c) f ≡ None
     → is_some (connection_at k.world c).sender ≡ true
 has_sender k c f reached other free =
-    let s = session_at k c in
-    let first = first_holds (is_closed s.phase) SessionFault.Closed (open_refusals f.command s f) free in
+    let s = session_at k c in let first = first_holds (is_closed s.phase) SessionFault.Closed (open_refusals f.command s f) free in
     sender_is k c reached
     ∙ not-false (is_connected (accepted_of c k.steps)) (sym (phase_new (accepted_of c k.steps) first.0) ∙ opens_other f.command s f other first.1)
 
-none_of : (o : Option ℕ) → is_some o ≡ false → o ≡ None
-none_of None e = refl
-none_of (Some s) e = absurd (true≢false e)
-
 -- one of which a CONNECT is accepted has none
-pub has_none : (k : Core) (c : ℕ) (f : RawFrame) → IsReached k → is_connect f.command ≡ true → session_fault (session_at k c) f ≡ None
-    → (connection_at k.world c).sender ≡ None
+pub has_none : (k : Core) (c : ℕ) (f : RawFrame) → IsReached k → is_connect f.command ≡ true → session_fault (session_at k c) f ≡ None → (connection_at k.world c).sender ≡ None
 has_none k c f reached connect free =
-    let s = session_at k c in
-    let first = first_holds (is_closed s.phase) SessionFault.Closed (open_refusals f.command s f) free in
+    let s = session_at k c in let first = first_holds (is_closed s.phase) SessionFault.Closed (open_refusals f.command s f) free in
     none_of (connection_at k.world c).sender (sender_is k c reached
     ∙ not-true (is_connected (accepted_of c k.steps)) (sym (phase_new (accepted_of c k.steps) first.0) ∙ opens_connect f.command s f connect first.1))
-
--- a frame that commits is no CONNECT
-pub commits_other : (command : Command) (s : Held) (f : RawFrame) (sends : List SentMessage) → action_by command s f ≡ actions.Commit sends → is_connect command ≡ false
-commits_other commands.Connect s f sends e = cc
-commits_other commands.Stomp s f sends e = cc
-commits_other _ s f sends e = refl

@@ -1,8 +1,5 @@
 -- What is held of a sender: its gate is with it while a connection speaks for it, and else it is resting.
-use Rattle.delivery.proofs.Words.Std.{◌≡◌, ℕ, ◌+◌, ◌<◌, Bool, true, false, cond, length, set, Option, Some, None, refl, sym, ap, ◌∙◌, arith, unwrap_or, get_or-set_same, get_or-set_other}
-use Rattle.delivery.proofs.Words.Machine.{World, Undecided, Connection, SenderState, Standing, is_gone, new_sender, nobody, connection_at, sender_at, speaker_number, speaks_for, is_in_use, with_sender}
-use Rattle.delivery.proofs.Words.Core.{each_number, Sending}
-use Rattle.delivery.proofs.Words.Views.{SenderView, held_sender, is_undecided, rested_sender, sender_view, sending_view}
+use Rattle.delivery.proofs.Words.All.{◌≡◌, ℕ, ◌+◌, ◌<◌, Bool, true, false, cond, length, set, Option, Some, None, refl, sym, ap, ◌∙◌, arith, unwrap_or, get_or-set_same, get_or-set_other, World, Undecided, Connection, SenderState, Standing, is_gone, new_sender, nobody, connection_at, sender_at, speaker_number, speaks_for, is_in_use, with_sender, each_number, Sending, SenderView, held_sender, is_undecided, rested_sender, sender_view, sending_view}
 use Rattle.delivery.specs.Inner.View.{rested_sending}
 use Rattle.delivery.proofs.Theorem.SendersAreOwn.{Speaks, speaks, unspoken}
 use Rattle.delivery.proofs.Views.Clients.RestingStay.{any_at, any_set, standing_speaks}
@@ -16,11 +13,10 @@ spoken_used w c s e = any_at (speaks_for s) w.connections c nobody refl e
 
 -- that of a connection that isn't gone, once it has one
 pub speaker_used : (w : World) (c : ℕ) → is_gone (connection_at w c).standing ≡ false → speaker_number w c < length w.senders → is_in_use w (speaker_number w c) ≡ true
-speaker_used w c staying there = by (connection_at w c).sender refl there
-  where
-    by : (o : Option ℕ) → (connection_at w c).sender ≡ o → unwrap_or o (length w.senders) < length w.senders → is_in_use w (unwrap_or o (length w.senders)) ≡ true
-    by None e l = absurd (omega (arith, l))
-    by (Some s) e l = spoken_used w c s (speaks s (connection_at w c) staying e)
+speaker_used w c staying there = (elim (connection_at w c).sender as (λ (o : Option ℕ). (connection_at w c).sender ≡ o → unwrap_or o (length w.senders) < length w.senders → is_in_use w (unwrap_or o (length w.senders)) ≡ true) [
+  | None ↦ λ e l. absurd (omega (arith, l))
+  | Some s ↦ λ e l. spoken_used w c s (speaks s (connection_at w c) staying e)
+]) refl there
 
 -- ---- what is held
 
@@ -69,24 +65,18 @@ senders_same w v used same = each_number-same (held_sender w) (held_sender v) 0 
 -- so where a connection is another, which speaks for the same sender
 pub senders_alike : (w : World) (c : ℕ) (x : Connection) → ((s : ℕ) → speaks_for s x ≡ speaks_for s (connection_at w c))
     → each_number (held_sender w) 0 w.senders ≡ each_number (held_sender (record w { connections = set w.connections c x })) 0 w.senders
-senders_alike w c x same =
-    senders_same w (record w { connections = set w.connections c x }) (λ s. any_set (speaks_for s) w.connections c x nobody (same s)) (λ s. refl)
+senders_alike w c x same = senders_same w (record w { connections = set w.connections c x }) (λ s. any_set (speaks_for s) w.connections c x nobody (same s)) (λ s. refl)
 
 -- so where one that isn't gone stands otherwise
-pub senders_standing : (w : World) (c : ℕ) (standing : Standing) → is_gone standing ≡ false → is_gone (connection_at w c).standing ≡ false
-    → each_number (held_sender w) 0 w.senders
+pub senders_standing : (w : World) (c : ℕ) (standing : Standing) → is_gone standing ≡ false → is_gone (connection_at w c).standing ≡ false → each_number (held_sender w) 0 w.senders
     ≡ each_number (held_sender (record w { connections = set w.connections c (record { sender = (connection_at w c).sender; standing = standing }) })) 0 w.senders
 senders_standing w c standing n o = senders_alike w c (record { sender = (connection_at w c).sender; standing = standing }) (standing_speaks (connection_at w c) standing n o)
 
 -- one that is in use is another
-pub senders_with : (w : World) (s : ℕ) (x : SenderState) → s < length w.senders → is_in_use w s ≡ true
-    → set (each_number (held_sender w) 0 w.senders) s (sender_view s x)
+pub senders_with : (w : World) (s : ℕ) (x : SenderState) → s < length w.senders → is_in_use w s ≡ true → set (each_number (held_sender w) 0 w.senders) s (sender_view s x)
     ≡ each_number (held_sender (with_sender w s x)) 0 (set w.senders s x)
 senders_with w s x there used =
-    let f = held_sender w in
-    let v = with_sender w s x in
-    let g = held_sender v in
-    let e : s ≡ 0 + s = omega arith in
+    let f = held_sender w in let v = with_sender w s x in let g = held_sender v in let e : s ≡ 0 + s = omega arith in
     let new : sender_view s x ≡ g s = ap (λ (y : SenderState). sender_view s y) (sym (get_or-set_same w.senders s x new_sender there)) ∙ sym (used_held v s used) in
     ap (λ (y : SenderView). set (each_number f 0 w.senders) s y) new
     ∙ (ap (λ (n : ℕ). set (each_number f 0 w.senders) s (g n)) e

@@ -1,19 +1,9 @@
 -- The account has why an undecided transaction is marked: the last of its proposals that failed.
-use Rattle.delivery.proofs.Words.Std.{◌≡◌, ℕ, ◌+◌, ◌<◌, Bool, false, cond, List, [], ◌∷◌, ◌++◌, length, set, Option, Some, None, refl, sym, ap, ◌∙◌, not-false}
-use Rattle.delivery.proofs.Words.Topics.{Topic, TxnId, SentMessage, same_id, propose_title, ProposeFault}
-use Rattle.delivery.proofs.Words.Lemmas.{at_set, at_set_within, id_equal, id_itself, some_same, none_some, not_true}
-use Rattle.delivery.proofs.Words.Machine.{World, Undecided, Leftover, SenderState, new_sender, speaker, speaker_number, Move, Answer, move_refusal, move_effect, move_answer, undecided_at, next_txn, next_ticket, insert_ticket, commit_effect, commit_answer, propose_effect, propose_answer, cancel_effect, cancel_answer, claimed_senders, Run, answers_of, final_world, Connects, Commits, Leaves, Proposes, Decides, Withdraws, Cancels}
-use Rattle.delivery.proofs.Words.Core.{account_of, failed_title, Core}
-use Rattle.delivery.proofs.Words.Views.{IsReached}
-use Rattle.delivery.proofs.Machine.Invariant.{sender_in}
-use Rattle.delivery.proofs.Machine.SubscriptionSteps.{at_push_two}
-use Rattle.delivery.proofs.Machine.InvariantIsKept.{by_refusal, checked, in_flight}
-use Rattle.delivery.proofs.Machine.ByFound.{InEachCase, by_found, by_entry}
-use Rattle.delivery.proofs.Core.ByRun.{by_run}
+use Rattle.delivery.proofs.Words.All.{◌≡◌, ℕ, ◌+◌, ◌<◌, Bool, false, cond, List, [], ◌∷◌, ◌++◌, length, set, Option, Some, None, refl, sym, ap, ◌∙◌, not-false, Topic, TxnId, SentMessage, same_id, propose_title, ProposeFault, at_set, at_set_within, id_equal, id_itself, some_same, none_some, not_true, World, Undecided, Leftover, SenderState, new_sender, speaker, speaker_number, Move, Answer, move_refusal, undecided_at, next_txn, next_ticket, insert_ticket, commit_effect, commit_answer, propose_effect, propose_answer, cancel_effect, cancel_answer, claimed_senders, Run, answers_of, final_world, Connects, Commits, Leaves, Proposes, Decides, Withdraws, Cancels, account_of, failed_title, Core, IsReached}
+use Rattle.delivery.proofs.Words.Steps.{sender_in, at_push_two, checked, in_flight, InEachCase, always, by_runs_moves, flying_speaker}
 use Rattle.delivery.proofs.Core.Said.{said}
-use Rattle.delivery.proofs.Core.AccountOfRun.{spoken}
+use Rattle.delivery.proofs.Core.Speaking.{spoken}
 use Rattle.delivery.proofs.Views.Runs.ByRunOfCore.{by_account}
-use Rattle.delivery.proofs.Machine.Speakers.{flying_speaker}
 
 -- why a transaction was refused reads the same of what is said
 failed_said : (id : TxnId) (past : List Answer) → failed_title id (said past) ≡ failed_title id past
@@ -54,8 +44,7 @@ proposed : (r : Run) (c : ℕ) (t : Topic) (o : Option ProposeFault) → (speake
     → (speaker (final_world r) c).flight ≡ Some (undecided_at (final_world r) c)
     → AreMarked (answers_of r) (final_world r).senders → AreMarked (propose_answer (final_world r) c t o ∷ answers_of r) (propose_effect (final_world r) c t o).senders
 proposed r c t None l e h s' y fault' =
-    let w = final_world r in let past = answers_of r in let s = speaker_number w c in let o = propose_answer w c t None in
-    let g = noted past w.senders o (λ id. refl) h in
+    let w = final_world r in let past = answers_of r in let s = speaker_number w c in let o = propose_answer w c t None in let g = noted past w.senders o (λ id. refl) h in
     let new : Undecided = record (undecided_at w c) { given = insert_ticket (next_ticket w c t) (undecided_at w c).given } in
     written (o ∷ past) w.senders s (record (speaker w c) { flight = Some new })
     (λ f fault d m.
@@ -63,8 +52,7 @@ proposed r c t None l e h s' y fault' =
     ap (λ (z : Undecided). failed_title z.txn.id past) (sym q) ∙ h s (undecided_at w c) fault e (ap (λ (z : Undecided). z.mark) q ∙ m)))
     g s' y fault'
 proposed r c t (Some why) l e h s f fault =
-    let w = final_world r in let past = answers_of r in let n = speaker_number w c in let id = (undecided_at w c).txn.id in
-    let flying = (spoken r).speaking.flying in
+    let w = final_world r in let past = answers_of r in let n = speaker_number w c in let id = (undecided_at w c).txn.id in let flying = (spoken r).speaking.flying in
     at_set_within (λ (z : SenderState). z.flight ≡ Some f → f.mark ≡ Some fault → failed_title f.txn.id (Answer.Failed id why ∷ past) ≡ propose_title fault)
     w.senders n s (record (speaker w c) { flight = Some (record (undecided_at w c) { mark = Some why }) }) new_sender l
     (λ k d m.
@@ -81,45 +69,32 @@ proposed r c t (Some why) l e h s f fault =
 
 cancelled : (past : List Answer) (w : World) (c : ℕ) (t : Topic) (k : Leftover) → AreMarked past w.senders → AreMarked (cancel_answer t (Some k) ∷ past) (cancel_effect w c t (Some k)).senders
 cancelled past w c t k h =
-    let s = speaker_number w c in let g = noted past w.senders (cancel_answer t (Some k)) (λ id. refl) h in
-    written (cancel_answer t (Some k) ∷ past) w.senders s _ (g s) g
+    let s = speaker_number w c in let g = noted past w.senders (cancel_answer t (Some k)) (λ id. refl) h in written (cancel_answer t (Some k) ∷ past) w.senders s _ (g s) g
 
 opened : (past : List Answer) (w : World) → AreMarked past w.senders → AreMarked past (w.senders ++ new_sender ∷ [])
 opened past w h s f fault =
     at_push_two (λ (z : SenderState). z.flight ≡ Some f → f.mark ≡ Some fault → failed_title f.txn.id past ≡ propose_title fault) w.senders s new_sender new_sender
     (λ k e m. none_some f e) (λ ne. h s f fault)
 
-connected : (past : List Answer) (w : World) (claimed : Option ℕ) → AreMarked past w.senders → AreMarked past (claimed_senders w.senders claimed)
-connected past w None h = opened past w h
-connected past w (Some s) h = h
-
 happens : (r : Run) (e : Move) → AreMarked (answers_of r) (final_world r).senders → move_refusal (final_world r) e ≡ None
     → InEachCase (λ v o. AreMarked (o ∷ answers_of r) v.senders) (final_world r) e
-happens r (Connects c claimed) h n = let g = connected (answers_of r) (final_world r) claimed h in (g, λ k. g)
+happens r (Connects c claimed) h n = always (elim claimed as (λ (claimed : Option ℕ). AreMarked (answers_of r) (claimed_senders (final_world r).senders claimed)) [ None ↦ opened (answers_of r) (final_world r) h | Some s ↦ h ])
 happens r (Commits c sends) h n = (h, λ k. flown (answers_of r) (final_world r) c k.0 k.1 h)
-happens r (Leaves c) h n = (h, λ s. by_entry (λ v. AreMarked (answers_of r) v.senders) (final_world r) s h (λ k. h))
+happens r (Leaves c) h n = (h, λ s. (h, λ k. h))
 happens r (Proposes c t memory) h n =
     let w = final_world r in let k = checked w (Proposes c t memory) n in let fl = in_flight w c k.1.1.0 in
     let there = (spoken r).speaks.there c (speaker_number w c) (flying_speaker w c (not-false _ k.1.1.0)) in let is = fl.is ∙ ap Some (sym fl.at) in
-    (proposed r c t None there is h, λ why. proposed r c t (Some why) there is h)
-happens r (Decides c) h n =
-    let w = final_world r in
-    let g : AreMarked (move_answer w (Decides c) ∷ answers_of r) (move_effect w (Decides c)).senders =
-    written (move_answer w (Decides c) ∷ answers_of r) w.senders (speaker_number w c) _ (λ f fault e m. none_some f e) h in (g, λ k. g)
-happens r (Withdraws c) h n =
-    let w = final_world r in
-    let g : AreMarked (move_answer w (Withdraws c) ∷ answers_of r) (move_effect w (Withdraws c)).senders =
-    written (move_answer w (Withdraws c) ∷ answers_of r) w.senders (speaker_number w c) _ (λ f fault e m. none_some f e) h in (g, λ k. g)
-happens r (Cancels c t) h n = (h, λ k. cancelled (answers_of r) (final_world r) c t k h)
-happens r _ h n = (h, λ k. h)
+    (proposed r c t None there is h, λ k. proposed r c t (Some k.it) there is h)
+happens r (Decides c) h n = let w = final_world r in always (written (answers_of r) w.senders (speaker_number w c) _ (λ f fault e m. none_some f e) h)
+happens r (Withdraws c) h n = let w = final_world r in always (written (answers_of r) w.senders (speaker_number w c) _ (λ f fault e m. none_some f e) h)
+happens r (Cancels c t) h n = (h, λ k. cancelled (answers_of r) (final_world r) c t k.it h)
+happens r _ h n = always h
 
 -- after each run the marked ones were refused so
 pub marked : (r : Run) → AreMarked (answers_of r) (final_world r).senders
 marked =
-    by_run (λ past w. AreMarked past w.senders) (λ capacity log_limit clocks s f fault e m. none_some f e)
-    (λ r e h. by_refusal (λ v o. AreMarked (o ∷ answers_of r) v.senders) (final_world r) e
-    (λ why. noted (answers_of r) (final_world r).senders (Answer.Refused why) (λ id. refl) h)
-    (λ n. by_found (λ v o. AreMarked (o ∷ answers_of r) v.senders) (final_world r) e (happens r e h n)))
+    by_runs_moves (λ past w. AreMarked past w.senders) (λ capacity log_limit clocks s f fault e m. none_some f e)
+    (λ past w why h. noted past w.senders (Answer.Refused why) (λ id. refl) h) happens
 
 -- the account says why an undecided transaction is marked
 pub failed_is : (k : Core) (c : ℕ) (f : Undecided) (fault : ProposeFault) → IsReached k → (speaker k.world c).flight ≡ Some f → f.mark ≡ Some fault

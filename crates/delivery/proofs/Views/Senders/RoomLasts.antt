@@ -1,9 +1,5 @@
 -- The room that a transaction makes as it begins: it is there, and it lasts until the transaction has ended.
-use Rattle.delivery.proofs.Words.Std.{◌≡◌, ℕ, zero, suc, ◌+◌, ◌<◌, ◌≤◌, ◌==◌, Bool, true, false, cond, List, [], ◌∷◌, ◌++◌, map, length, get_or, set, Option, Some, None, refl, sym, ap, subst, ◌∙◌, arith, eqb-true, length-map, option_map, option_and_then, option_to_list}
-use Rattle.delivery.proofs.Words.Topics.{Topic, TxnId, SentMessage, ticket_rows, part_at, Slots, held_at, with_slot, TopicPart, topics_of, GateState, FlightState}
-use Rattle.delivery.proofs.Words.Lemmas.{some_same, none_some}
-use Rattle.delivery.proofs.Words.Core.{Sending}
-use Rattle.delivery.proofs.Words.Views.{KeepsRoom, is_flying, flying_count, SenderView}
+use Rattle.delivery.proofs.Words.All.{◌≡◌, ℕ, zero, suc, ◌+◌, ◌<◌, ◌≤◌, ◌==◌, Bool, true, false, cond, List, [], ◌∷◌, ◌++◌, map, length, get_or, set, Option, Some, None, refl, sym, ap, subst, ◌∙◌, arith, eqb-true, length-map, option_map, option_and_then, option_to_list, Topic, TxnId, SentMessage, ticket_rows, part_at, Slots, held_at, with_slot, TopicPart, topics_of, GateState, FlightState, some_same, none_some, Sending, KeepsRoom, is_flying, flying_count, SenderView}
 use Rattle.std.specs.List.{find}
 use Rattle.sender_gate.specs.Gate.{flight_of}
 use Rattle.delivery.specs.Inner.Rooms.{AreOwn}
@@ -20,8 +16,7 @@ own_at id sends [] t p e = none_some p e
 own_at id sends (u ∷ us) t p e = by_case (own_at id sends us t p) (u.0 == t.0) refl e
   where
     by_case : (held_at t (map (λ v. (v, Some (part_at id sends v))) us) ≡ Some p → p.topic ≡ t) → (b : Bool) → (u.0 == t.0) ≡ b
-        → held (cond b (Some (u, Some (part_at id sends u))) (find (λ s. s.0.0 == t.0) (map (λ v. (v, Some (part_at id sends v))) us))) ≡ Some p
-        → p.topic ≡ t
+        → held (cond b (Some (u, Some (part_at id sends u))) (find (λ s. s.0.0 == t.0) (map (λ v. (v, Some (part_at id sends v))) us))) ≡ Some p → p.topic ≡ t
     by_case later true same is = subst (λ (q : TopicPart). q.topic ≡ t) (some_same (part_at id sends u) p is) (ap (λ (n : ℕ). record { 0 = n }) (eqb-true u.0 t.0 same))
     by_case later false same is = later is
 
@@ -42,8 +37,7 @@ held_less {A = A} t u (s ∷ ss) p e = by_case (held_less t u ss p) (s.0.0 == t.
     by_case : (held_at u (with_slot t None ss) ≡ Some p → held_at u ss ≡ Some p) → (b c : Bool) → (s.0.0 == u.0) ≡ c
         → held (cond ((cond b (s.0, None) s).0.0 == u.0) (Some (cond b (s.0, None) s)) (find (λ s. s.0.0 == u.0) (with_slot t None ss))) ≡ Some p
         → held (cond (s.0.0 == u.0) (Some s) (find (λ s. s.0.0 == u.0) ss)) ≡ Some p
-    by_case later true true same is =
-        none_some p (sym (ap (λ (c : Bool). held (cond c (Some (s.0, None)) (find (λ s. s.0.0 == u.0) (with_slot t None ss)))) same) ∙ is)
+    by_case later true true same is = none_some p (sym (ap (λ (c : Bool). held (cond c (Some (s.0, None)) (find (λ s. s.0.0 == u.0) (with_slot t None ss)))) same) ∙ is)
     by_case later true false same is =
         ap (λ (c : Bool). held (cond c (Some s) (find (λ s. s.0.0 == u.0) ss))) same
         ∙ later (sym (ap (λ (c : Bool). held (cond c (Some (s.0, None)) (find (λ s. s.0.0 == u.0) (with_slot t None ss)))) same) ∙ is)
@@ -100,20 +94,17 @@ count_set (y ∷ ys) (suc s) x d there =
 -- a sender whose transaction begins is one more
 pub count_launched : (senders : List SenderView) (s : ℕ) (x d : SenderView) → s < length senders
     → is_flying (get_or senders s d).sending ≡ false → is_flying x.sending ≡ true → flying_count senders + 1 ≡ flying_count (set senders s x)
-count_launched senders s x d there before after =
-    let b = ap one_where before in let a = ap one_where after in let e = count_set senders s x d there in omega (arith, a, b, e)
+count_launched senders s x d there before after = let b = ap one_where before in let a = ap one_where after in let e = count_set senders s x d there in omega (arith, a, b, e)
 
 -- one whose transaction ends is one fewer
 pub count_ended : (senders : List SenderView) (s : ℕ) (x d : SenderView) → s < length senders
     → is_flying (get_or senders s d).sending ≡ true → is_flying x.sending ≡ false → flying_count senders ≡ flying_count (set senders s x) + 1
-count_ended senders s x d there before after =
-    let b = ap one_where before in let a = ap one_where after in let e = count_set senders s x d there in omega (arith, a, b, e)
+count_ended senders s x d there before after = let b = ap one_where before in let a = ap one_where after in let e = count_set senders s x d there in omega (arith, a, b, e)
 
 -- with any other there are as many
 pub count_same : (senders : List SenderView) (s : ℕ) (x d : SenderView) → s < length senders
     → is_flying x.sending ≡ is_flying (get_or senders s d).sending → flying_count senders ≡ flying_count (set senders s x)
-count_same senders s x d there same =
-    let a = ap one_where same in let e = count_set senders s x d there in omega (arith, a, e)
+count_same senders s x d there same = let a = ap one_where same in let e = count_set senders s x d there in omega (arith, a, e)
 
 -- so are they with one more that has no transaction on its way
 pub count_pushed : (senders : List SenderView) (x : SenderView) → is_flying x.sending ≡ false → flying_count (senders ++ x ∷ []) ≡ flying_count senders

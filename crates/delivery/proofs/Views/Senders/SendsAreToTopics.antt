@@ -1,11 +1,5 @@
 -- The SENDs that an accepted frame commits are to topics that there are.
-use Rattle.delivery.proofs.Words.Std.{◌≡◌, ℕ, suc, ◌+◌, ◌<◌, ◌≤◌, Bool, true, false, cond, not, ◌&&◌, ◌||◌, inl, inr, List, [], ◌∷◌, length, map, Option, Some, None, refl, sym, ap, subst, ◌∙◌, arith, codes, list_all, list_any, lookup, option_map_or, unwrap_or, bytes_eq, false≢true, lt-ltb, and_from, and_parts, length-append}
-use Rattle.delivery.proofs.Words.Topics.{In, Topic, SentMessage}
-use Rattle.delivery.proofs.Words.Frames.{Command, RawFrame, first_of, action_by, commit, field, has_destination, is_begin, is_send, is_send_in, names_transaction, send_of, topic_of, transaction_of, with_destination, is_known, Held, is_ended, transactions_left, sends_in}
-use Rattle.delivery.proofs.Words.Lemmas.{known-with_destination, topic-with_destination, with_destination-grows}
-use Rattle.delivery.proofs.Words.Machine.{World, is_topic}
-use Rattle.delivery.proofs.Words.Core.{accepted_of, Core, core_for, names_at, session_at}
-use Rattle.delivery.proofs.Words.Views.{IsReached}
+use Rattle.delivery.proofs.Words.All.{◌≡◌, ℕ, suc, ◌+◌, ◌<◌, ◌≤◌, Bool, true, false, cond, not, ◌&&◌, ◌||◌, inl, inr, List, [], ◌∷◌, length, map, Option, Some, None, refl, sym, ap, subst, ◌∙◌, arith, codes, list_all, list_any, lookup, option_map_or, unwrap_or, bytes_eq, false≢true, lt-ltb, and_from, and_parts, length-append, In, Topic, SentMessage, Command, RawFrame, first_of, action_by, commit, field, has_destination, is_begin, is_send, is_send_in, names_transaction, send_of, topic_of, transaction_of, with_destination, is_known, Held, is_ended, transactions_left, sends_in, known-with_destination, topic-with_destination, with_destination-grows, World, is_topic, accepted_of, Core, core_for, names_at, session_at, IsReached}
 use Rattle.std.specs.Prelude.{filter}
 use Rattle.stomp_frame.specs.declared.command.Command.TheVariants as commands
 use Rattle.stomp_session.specs.declared.action.Action.TheVariants as actions
@@ -23,38 +17,31 @@ Knows names f = is_send f.command ≡ true → is_known (field (codes "destinati
 
 before_end : (p : List ℕ → Bool) (xs : List (List ℕ)) → list_any p xs ≡ true → first_index p xs < length xs
 before_end p [] e = absurd (false≢true e)
-before_end p (x ∷ xs) e = at_first (p x) (list_any p xs) (first_index p xs) (length xs) e (before_end p xs)
-  where
-    at_first : (b c : Bool) (m n : ℕ) → (b || c) ≡ true → (c ≡ true → m < n) → cond b 0 (1 + m) < suc n
-    at_first true c m n e h = omega arith
-    at_first false c m n e h = let l = h e in omega arith
+before_end p (x ∷ xs) e = (elim (p x) as (λ (b : Bool). (c : Bool) (m : ℕ) (n : ℕ) → (b || c) ≡ true → (c ≡ true → m < n) → cond b 0 (1 + m) < suc n) [
+  | true ↦ λ c m n e h. omega arith
+  | false ↦ λ c m n e h. (let l = h e in omega arith)
+]) (list_any p xs) (first_index p xs) (length xs) e (before_end p xs)
 
 place_within : (name : List ℕ) (names : List (List ℕ)) → is_known name names ≡ true → index_of name names < length names
 place_within name names e =
-    let l = before_end (bytes_eq name) names e in
-    let same : first_index (bytes_eq name) names ≡ index_of name names = index_is_first name names in
-    omega (arith, l, same)
+    let l = before_end (bytes_eq name) names e in let same : first_index (bytes_eq name) names ≡ index_of name names = index_is_first name names in omega (arith, l, same)
 
 -- each is to a topic that there is
 abbrev pub AreNamed : World → List SentMessage → Type 0
 AreNamed w sends = list_all (λ send. is_topic w send.topic) sends ≡ true
 
-topic_there : (w : World) (names : List (List ℕ)) (f : RawFrame) → length names ≤ length w.topics → Knows names f → is_send f.command ≡ true
-    → is_topic w (topic_of names f) ≡ true
+topic_there : (w : World) (names : List (List ℕ)) (f : RawFrame) → length names ≤ length w.topics → Knows names f → is_send f.command ≡ true → is_topic w (topic_of names f) ≡ true
 topic_there w names f many known sent =
-    let l = place_within (field (codes "destination") f) names (known sent) in
-    lt-ltb (index_of (field (codes "destination") f) names) (length w.topics) (omega (arith, l, many))
+    let l = place_within (field (codes "destination") f) names (known sent) in lt-ltb (index_of (field (codes "destination") f) names) (length w.topics) (omega (arith, l, many))
 
 sent_named : (w : World) (names : List (List ℕ)) (x : List ℕ) (fs : List RawFrame) → length names ≤ length w.topics
     → ((g : RawFrame) → In g fs → Knows names g) → AreNamed w (map (send_of names) (filter (is_send_in x) fs))
 sent_named w names x [] many known = refl
 sent_named w names x (f ∷ fs) many known =
-    go (is_send_in x f) refl (sent_named w names x fs many (λ g i. known g (inr i)))
-  where
-    go : (b : Bool) → is_send_in x f ≡ b → AreNamed w (map (send_of names) (filter (is_send_in x) fs))
-        → AreNamed w (map (send_of names) (cond b (f ∷ filter (is_send_in x) fs) (filter (is_send_in x) fs)))
-    go false e h = h
-    go true e h = and_from _ _ (topic_there w names f many (known f (inl refl)) (and_parts _ _ e).0) h
+    (elim (is_send_in x f) as (λ (b : Bool). is_send_in x f ≡ b → AreNamed w (map (send_of names) (filter (is_send_in x) fs)) → AreNamed w (map (send_of names) (cond b (f ∷ filter (is_send_in x) fs) (filter (is_send_in x) fs)))) [
+      | false ↦ λ e h. h
+      | true ↦ λ e h. and_from _ _ (topic_there w names f many (known f (inl refl)) (and_parts _ _ e).0) h
+    ]) refl (sent_named w names x fs many (λ g i. known g (inr i)))
 
 found_named : (w : World) (names : List (List ℕ)) (x : List ℕ) (fs : List RawFrame) → length names ≤ length w.topics
     → ((g : RawFrame) → In g fs → Knows names g) → AreNamed w (sends_in x (transactions_left names fs))
@@ -72,8 +59,7 @@ found_named w names x (f ∷ fs) many known =
     go true true e h =
         subst (λ (q : Bool). AreNamed w (unwrap_or (cond q (Some sends) (lookup (bytes_eq x) (transactions_left names fs))) [])) (sym e)
         (sent_named w names (transaction_of f) fs many (λ g i. known g (inr i)))
-    go true false e h =
-        subst (λ (q : Bool). AreNamed w (unwrap_or (cond q (Some sends) (lookup (bytes_eq x) (transactions_left names fs))) [])) (sym e) h
+    go true false e h = subst (λ (q : Bool). AreNamed w (unwrap_or (cond q (Some sends) (lookup (bytes_eq x) (transactions_left names fs))) [])) (sym e) h
 
 open_named : (w : World) (names : List (List ℕ)) (x : List ℕ) (fs : List RawFrame) → length names ≤ length w.topics
     → ((g : RawFrame) → In g fs → Knows names g) → AreNamed w (sends_in x (open_transactions names fs))
@@ -90,19 +76,15 @@ pub record AreSends (w : World) (sends : List SentMessage) : Type 0 where
 
 made_commit : (w : World) (them sends : List SentMessage) → commit them ≡ actions.Commit sends → AreNamed w them → AreSends w sends
 made_commit w [] sends e h = absurd (cc)
-made_commit w (first ∷ others) sends e h =
-    let is : first ∷ others ≡ sends = cc in
-    record { first = first; others = others; is = sym is; named = subst (AreNamed w) is h }
+made_commit w (first ∷ others) sends e h = let is : first ∷ others ≡ sends = cc in record { first = first; others = others; is = sym is; named = subst (AreNamed w) is h }
 
 made_alone : (w : World) (s : Held) (f : RawFrame) (sends : List SentMessage) (o : Option (List ℕ))
-    → option_map_or (λ transaction. actions.Nothing) o (commit (send_of s.names f ∷ [])) ≡ actions.Commit sends
-    → is_topic w (topic_of s.names f) ≡ true → AreSends w sends
+    → option_map_or (λ transaction. actions.Nothing) o (commit (send_of s.names f ∷ [])) ≡ actions.Commit sends → is_topic w (topic_of s.names f) ≡ true → AreSends w sends
 made_alone w s f sends (Some x) e h = absurd (cc)
 made_alone w s f sends None e h = made_commit w (send_of s.names f ∷ []) sends e (and_from _ _ h refl)
 
 made_by : (command : Command) (w : World) (s : Held) (f : RawFrame) (sends : List SentMessage) → action_by command s f ≡ actions.Commit sends
-    → (is_send command ≡ true → is_topic w (topic_of s.names f) ≡ true)
-    → ((x : List ℕ) → AreNamed w (sends_in x s.transactions)) → AreSends w sends
+    → (is_send command ≡ true → is_topic w (topic_of s.names f) ≡ true) → ((x : List ℕ) → AreNamed w (sends_in x s.transactions)) → AreSends w sends
 made_by commands.Send w s f sends e own others = made_alone w s f sends (first_of (codes "transaction") f.headers) e (own refl)
 made_by commands.Commit w s f sends e own others = made_commit w (sends_in (transaction_of f) s.transactions) sends e (others (transaction_of f))
 made_by _ w s f sends e own others = absurd (cc)
@@ -116,9 +98,7 @@ topics_as_named k reached =
 -- the topic of a frame is there once it is made
 pub topic_made : (k : Core) (f : RawFrame) → IsReached k → has_destination f.command ≡ true → is_topic (core_for k f).world (topic_of (names_at k) f) ≡ true
 topic_made k f reached has =
-    let names = with_destination f (names_at k) in
-    let w = (core_for k f).world in
-    let many = topic_for_name k f (topics_as_named k reached) in
+    let names = with_destination f (names_at k) in let w = (core_for k f).world in let many = topic_for_name k f (topics_as_named k reached) in
     let l = place_within (field (codes "destination") f) names (known-with_destination f (names_at k) has) in
     let there : is_topic w (topic_of names f) ≡ true =
     lt-ltb (index_of (field (codes "destination") f) names) (length w.topics) (omega (arith, l, many)) in
@@ -128,12 +108,8 @@ topic_made k f reached has =
 pub committed_sends : (k : Core) (c : ℕ) (f : RawFrame) (sends : List SentMessage) → IsReached k
     → action_by f.command (session_at k c) f ≡ actions.Commit sends → AreSends (core_for k f).world sends
 committed_sends k c f sends reached is =
-    let names = names_at k in
-    let w = (core_for k f).world in
-    let made = topic_for_name k f (topics_as_named k reached) in
-    let grown = with_destination-grows f names in
-    let more = ap (λ (z : List (List ℕ)). length z) grown.is ∙ length-append names grown.more in
-    let many : length names ≤ length w.topics = omega (arith, made, more) in
+    let names = names_at k in let w = (core_for k f).world in let made = topic_for_name k f (topics_as_named k reached) in let grown = with_destination-grows f names in
+    let more = ap (λ (z : List (List ℕ)). length z) grown.is ∙ length-append names grown.more in let many : length names ≤ length w.topics = omega (arith, made, more) in
     made_by f.command w (session_at k c) f sends is
     (λ sent. topic_made k f reached (send_has f.command sent))
     (λ x. open_named w names x (accepted_of c k.steps) many (λ g i sent. known_all k.names k.steps c g i (send_has g.command sent)))

@@ -1,21 +1,10 @@
 -- The tickets of an undecided transaction rise by topic and are of named topics: so they are those of its topics, in
 -- their order.
-use Rattle.delivery.proofs.Words.Std.{◌≡◌, ◌≢◌, ℕ, ◌+◌, ◌<◌, ◌==◌, Bool, true, false, cond, nat_lt, ◌||◌, inl, inr, List, [], ◌∷◌, ◌++◌, map, set, Option, Some, None, refl, sym, ap, subst, ◌∙◌, arith, eq-eqb, ltb-true, ltb-false, false≢true, AllByRecursion, option_map, option_to_list}
-use Rattle.delivery.proofs.Words.Topics.{Topic, SentMessage, Stamp, row_at, ticket_rows, In, RisesBy, Slots, topics_of, names, ProposeFault}
-use Rattle.delivery.proofs.Words.Lemmas.{In-insert_cases, at_set, topics_rise, some_same, none_some}
-use Rattle.delivery.proofs.Words.Machine.{World, Undecided, SenderState, new_sender, sender_at, speaker, speaker_number, Move, move_refusal, move_effect, undecided_at, insert_ticket, next_ticket, next_txn, commit_effect, propose_effect, claimed_senders, Run, final_world, Connects, Commits, Leaves, Proposes, Decides, Withdraws, Cancels}
-use Rattle.delivery.proofs.Words.Core.{Core}
-use Rattle.delivery.proofs.Words.Views.{IsReached}
+use Rattle.delivery.proofs.Words.All.{◌≡◌, ◌≢◌, ℕ, ◌+◌, ◌<◌, ◌==◌, Bool, true, false, cond, nat_lt, ◌||◌, inl, inr, List, [], ◌∷◌, ◌++◌, map, set, Option, Some, None, refl, sym, ap, subst, ◌∙◌, arith, eq-eqb, ltb-true, ltb-false, false≢true, AllByRecursion, option_map, option_to_list, Topic, SentMessage, Stamp, row_at, ticket_rows, In, RisesBy, Slots, topics_of, names, ProposeFault, In-insert_cases, at_set, topics_rise, some_same, none_some, World, Undecided, SenderState, new_sender, sender_at, speaker, speaker_number, Move, move_refusal, undecided_at, insert_ticket, next_ticket, next_txn, commit_effect, propose_effect, Run, final_world, Connects, Commits, Leaves, Proposes, Decides, Withdraws, Cancels, Core, IsReached}
 use Rattle.std.specs.List.{find}
 use Rattle.mcast_txn.specs.Ballot.{slots_of_rows}
-use Rattle.delivery.proofs.Machine.Invariant.{sender_in}
-use Rattle.delivery.proofs.Machine.ProposeStep.{not_given}
-use Rattle.delivery.proofs.Machine.SubscriptionSteps.{at_push_two}
-use Rattle.delivery.proofs.Machine.InvariantIsKept.{Asks, asks_of, by_refusal}
-use Rattle.delivery.proofs.Machine.ByFound.{InEachCase, by_found, by_entry}
-use Rattle.delivery.proofs.Core.ByRun.{by_run}
-use Rattle.delivery.proofs.Views.Runs.ByRunOfCore.{by_world}
-use Rattle.delivery.proofs.Views.Endpoints.StandingOfConnection.{same_or, differ}
+use Rattle.delivery.proofs.Words.Steps.{sender_in, not_given, at_push_two, Asks, asks_of, InEachCase, always, by_runs_moves}
+use Rattle.delivery.proofs.Words.Changes.{by_world, same_or, differ}
 
 -- ---- tickets that rise by topic
 
@@ -27,8 +16,7 @@ Rising (a ∷ more) = ((b : Stamp) → In b more → a.topic.0 < b.topic.0) × R
 insert_rises : (a b : Stamp) (bs : List Stamp) (c : Bool) → nat_lt a.topic.0 b.topic.0 ≡ c → a.topic.0 ≢ b.topic.0 → Rising (b ∷ bs) → Rising (insert_ticket a bs)
     → Rising (cond c (a ∷ b ∷ bs) (b ∷ insert_ticket a bs))
 insert_rises a b bs true e ne h g =
-    let l = ltb-true a.topic.0 b.topic.0 e in
-    ((λ d i. elim i [ inl q ↦ subst (λ (z : Stamp). a.topic.0 < z.topic.0) q l | inr j ↦ (let m = h.0 d j in omega arith) ]), h)
+    let l = ltb-true a.topic.0 b.topic.0 e in ((λ d i. elim i [ inl q ↦ subst (λ (z : Stamp). a.topic.0 < z.topic.0) q l | inr j ↦ (let m = h.0 d j in omega arith) ]), h)
 insert_rises a b bs false e ne h g =
     let l = ltb-false a.topic.0 b.topic.0 e in (
       (λ d i. elim (In-insert_cases _ d a bs i) [
@@ -40,8 +28,7 @@ insert_rises a b bs false e ne h g =
 
 rises_insert : (a : Stamp) (bs : List Stamp) → ((g : Stamp) → In g bs → a.topic.0 ≢ g.topic.0) → Rising bs → Rising (insert_ticket a bs)
 rises_insert a [] ne h = ((λ b i. absurd i), tt)
-rises_insert a (b ∷ bs) ne h =
-    insert_rises a b bs (nat_lt a.topic.0 b.topic.0) refl (ne b (inl refl)) h (rises_insert a bs (λ g i. ne g (inr i)) h.1)
+rises_insert a (b ∷ bs) ne h = insert_rises a b bs (nat_lt a.topic.0 b.topic.0) refl (ne b (inl refl)) h (rises_insert a bs (λ g i. ne g (inr i)) h.1)
 
 -- the tickets of an undecided transaction rise, and its SENDs name their topics
 pub record Given (f : Undecided) : Type 0 where
@@ -64,8 +51,7 @@ flown w c first others h =
 
 proposed : (w : World) (c : ℕ) (t : Topic) (o : Option ProposeFault) → Asks w c t → AreGiven w.senders → AreGiven (propose_effect w c t o).senders
 proposed w c t None asks h =
-    let f = undecided_at w c in let s = speaker_number w c in
-    let g : Given f = h s f (asks.flying.is ∙ ap Some (sym asks.flying.at)) in
+    let f = undecided_at w c in let s = speaker_number w c in let g : Given f = h s f (asks.flying.is ∙ ap Some (sym asks.flying.at)) in
     let new : Undecided = record f { given = insert_ticket (next_ticket w c t) f.given } in
     written w.senders s (record (speaker w c) { flight = Some new })
     (λ y e. subst Given (some_same new y e) (record {
@@ -76,31 +62,26 @@ proposed w c t None asks h =
       ];
     })) h
 proposed w c t (Some fault) asks h =
-    let f = undecided_at w c in let s = speaker_number w c in
-    let g : Given f = h s f (asks.flying.is ∙ ap Some (sym asks.flying.at)) in
+    let f = undecided_at w c in let s = speaker_number w c in let g : Given f = h s f (asks.flying.is ∙ ap Some (sym asks.flying.at)) in
     let new : Undecided = record f { mark = Some fault } in
     written w.senders s (record (speaker w c) { flight = Some new }) (λ y e. subst Given (some_same new y e) (record { rising = g.rising; named = g.named })) h
 
 opened : (w : World) → AreGiven w.senders → AreGiven (w.senders ++ new_sender ∷ [])
 opened w h s f = at_push_two (λ (z : SenderState). z.flight ≡ Some f → Given f) w.senders s new_sender new_sender (λ k e. none_some f e) (λ ne. h s f)
 
-happens : (w : World) (e : Move) → AreGiven w.senders → move_refusal w e ≡ None → InEachCase (λ v o. AreGiven v.senders) w e
-happens w (Connects c claimed) h n =
-    let g : AreGiven (claimed_senders w.senders claimed) = elim claimed as (λ o. AreGiven (claimed_senders w.senders o)) [ None ↦ opened w h | Some s ↦ h ] in (g, λ k. g)
-happens w (Commits c sends) h n = (h, λ k. flown w c k.0 k.1 h)
-happens w (Leaves c) h n = (h, λ s. by_entry (λ v. AreGiven v.senders) w s h (λ k. h))
-happens w (Proposes c t memory) h n = let asks = asks_of w c t memory n in (proposed w c t None asks h, λ fault. proposed w c t (Some fault) asks h)
-happens w (Decides c) h n = let g : AreGiven (move_effect w (Decides c)).senders = written w.senders (speaker_number w c) _ (λ f e. none_some f e) h in (g, λ k. g)
-happens w (Withdraws c) h n = let g : AreGiven (move_effect w (Withdraws c)).senders = written w.senders (speaker_number w c) _ (λ f e. none_some f e) h in (g, λ k. g)
-happens w (Cancels c t) h n = (h, λ k. written w.senders (speaker_number w c) _ (h (speaker_number w c)) h)
-happens w _ h n = (h, λ k. h)
+happens : (r : Run) (e : Move) → AreGiven (final_world r).senders → move_refusal (final_world r) e ≡ None → InEachCase (λ v o. AreGiven v.senders) (final_world r) e
+happens r (Connects c None) h n = always (opened (final_world r) h)
+happens r (Commits c sends) h n = (h, λ k. flown (final_world r) c k.0 k.1 h)
+happens r (Leaves c) h n = (h, λ s. (h, λ k. h))
+happens r (Proposes c t memory) h n = let w = final_world r in let asks = asks_of w c t memory n in (proposed w c t None asks h, λ k. proposed w c t (Some k.it) asks h)
+happens r (Decides c) h n = let w = final_world r in always (written w.senders (speaker_number w c) _ (λ f e. none_some f e) h)
+happens r (Withdraws c) h n = let w = final_world r in always (written w.senders (speaker_number w c) _ (λ f e. none_some f e) h)
+happens r (Cancels c t) h n = let w = final_world r in (h, λ k. written w.senders (speaker_number w c) _ (h (speaker_number w c)) h)
+happens r _ h n = always h
 
 -- after each run they are so
 pub given : (r : Run) (s : ℕ) (f : Undecided) → (sender_in (final_world r).senders s).flight ≡ Some f → Given f
-given =
-    by_run (λ past w. AreGiven w.senders) (λ capacity log_limit clocks s f e. none_some f e)
-    (λ r e h. by_refusal (λ v o. AreGiven v.senders) (final_world r) e (λ why. h)
-    (λ n. by_found (λ v o. AreGiven v.senders) (final_world r) e (happens (final_world r) e h n)))
+given = by_runs_moves (λ past w. AreGiven w.senders) (λ capacity log_limit clocks s f e. none_some f e) (λ past w why h. h) happens
 
 -- ---- those of its topics
 

@@ -1,10 +1,5 @@
 -- A subscription that begins.
-use Rattle.delivery.proofs.Words.Std.{◌≡◌, ◌≢◌, ℕ, suc, ◌+◌, ◌<◌, nat_lt, Bool, true, false, cond, ◌&&◌, List, [], ◌∷◌, ◌++◌, map, length, get_or, set, Option, Some, None, refl, sym, ap, ◌∙◌, arith, eq-eqb, slice_get, position, position_or_len, option_map, option_map_or, slice_get-get_or, slice_get_past, get_or-map, map-set, set-get_or, get_or_append_left, append-nil}
-use Rattle.delivery.proofs.Words.Topics.{Topic, Stamp, Gauge, GroupState, TopicState, Entry, new_topic, insert_entry, after_subscribe}
-use Rattle.delivery.proofs.Words.Frames.{RawFrame, Unread, id_of, wants_parts}
-use Rattle.delivery.proofs.Words.Machine.{World, Connection, Subscription, no_subscription, nobody, topic_at, subscription_at, is_live}
-use Rattle.delivery.proofs.Words.Core.{Event, Outcome, CoreStep, Reading, subscribe_frame, each_number, live_numbers}
-use Rattle.delivery.proofs.Words.Views.{EndpointView, SubView, view_with, group_view, queue_gauge, left_view, endpoint_view, sub_view, no_group, no_endpoint, group_in, subscribed_view}
+use Rattle.delivery.proofs.Words.All.{◌≡◌, ◌≢◌, ℕ, suc, ◌+◌, ◌<◌, nat_lt, Bool, true, false, cond, ◌&&◌, List, [], ◌∷◌, ◌++◌, map, length, get_or, set, Option, Some, None, refl, sym, ap, ◌∙◌, arith, eq-eqb, slice_get, position, position_or_len, option_map, option_map_or, slice_get-get_or, slice_get_past, get_or-map, map-set, set-get_or, get_or_append_left, append-nil, Topic, Stamp, Gauge, GroupState, TopicState, Entry, new_topic, insert_entry, after_subscribe, RawFrame, Unread, id_of, wants_parts, World, Connection, Subscription, no_subscription, nobody, topic_at, subscription_at, is_live, Event, Outcome, CoreStep, Reading, subscribe_frame, each_number, live_numbers, EndpointView, SubView, view_with, group_view, queue_gauge, left_view, endpoint_view, sub_view, no_group, no_endpoint, group_in, subscribed_view}
 use Rattle.std.specs.List.{find}
 use Rattle.std.proofs.lemmas.List.Folds.{find_at}
 use Rattle.mcast_group.specs.Group.{gauges_with, group_after_subscribe}
@@ -12,8 +7,7 @@ use Rattle.mcast_group.proofs.Indices.{in_range}
 use Rattle.delivery.specs.Machine.Moves.{subscribe_effect}
 use Rattle.delivery.specs.Inner.Subscriptions.{longer_endpoint, new_gauge}
 use Rattle.delivery.proofs.Machine.SubscriptionSteps.{at_push_two, at_end, beyond}
-use Rattle.delivery.proofs.Views.Lists.ByNumber.{each_number-push, each_number-same, each_number-set, get_or-each_number, length-each_number, index_is, end_is}
-use Rattle.delivery.proofs.Views.Endpoints.StandingOfConnection.{differ}
+use Rattle.delivery.proofs.Words.Changes.{each_number-push, each_number-same, each_number-set, get_or-each_number, length-each_number, index_is, end_is, differ}
 
 -- ---- live numbers
 
@@ -48,8 +42,7 @@ gauges_added gauge e (f ∷ fs) = by (nat_lt e.number f.number) (gauges_added ga
 -- the group with an entry is that of the world's topic with it
 subscribed_group : (w : World) (x : TopicState) → group_after_subscribe (length w.subscriptions) (new_gauge w.capacity) (group_view w x) ≡ group_view w (after_subscribe (length w.subscriptions) x)
 subscribed_group w x =
-    let n = length w.subscriptions in
-    let none : subscription_at w n ≡ no_subscription = beyond w.subscriptions n no_subscription (omega arith) in
+    let n = length w.subscriptions in let none : subscription_at w n ≡ no_subscription = beyond w.subscriptions n no_subscription (omega arith) in
     let gauge : new_gauge w.capacity ≡ queue_gauge w n = ap (λ (z : Subscription). record { capacity = w.capacity; taken = Some z.taken }) (sym none) in
     ap (λ (r : Gauge). group_after_subscribe n r (group_view w x)) gauge
     ∙ ap (λ (gauges : List Gauge). record { topic = after_subscribe n x; gauges = gauges }) (gauges_added (queue_gauge w) (record { number = n; from = x.frontier; to = None; accepted = [] }) x.subscriptions)
@@ -67,20 +60,13 @@ taken_stays w x topics none n =
 -- what is held once a subscription begins is the view of the machine after it, whatever was accepted, read and written
 pub subscribed_is : (names : List (List ℕ)) (w : World) (c : ℕ) (frame : RawFrame) (t : Topic)
     (accepted : ℕ → List RawFrame) (unread : ℕ → Unread) (text : ℕ → List ℕ) (began later : ℕ → Option RawFrame)
-    → c < length w.connections → t.0 < length w.topics
-    → ((s : ℕ) → s < length w.subscriptions → later s ≡ began s) → later (length w.subscriptions) ≡ Some frame
+    → c < length w.connections → t.0 < length w.topics → ((s : ℕ) → s < length w.subscriptions → later s ≡ began s) → later (length w.subscriptions) ≡ Some frame
     → subscribed_view c (id_of frame) (wants_parts frame) t (view_with names w accepted unread text began) ≡ view_with names (subscribe_effect w c t) accepted unread text later
 subscribed_is names w c frame t accepted unread text began later spoken topic same own =
-    let v = view_with names w accepted unread text began in
-    let y = topic_at w t in
-    let n = length w.subscriptions in
-    let x : Subscription = record { connection = c; topic = t; from = y.frontier; taken = 0; closed = None } in
-    let u = subscribe_effect w c t in
-    let first : c ≡ 0 + c = omega arith in
-    let last : 0 + n ≡ n = omega arith in
-    let h : ℕ → SubView = λ m. sub_view w m (began m) in
-    let h' : ℕ → SubView = λ m. sub_view u m (later m) in
-    let count : length v.subs ≡ n = length-each_number h 0 w.subscriptions in
+    let v = view_with names w accepted unread text began in let y = topic_at w t in let n = length w.subscriptions in
+    let x : Subscription = record { connection = c; topic = t; from = y.frontier; taken = 0; closed = None } in let u = subscribe_effect w c t in
+    let first : c ≡ 0 + c = omega arith in let last : 0 + n ≡ n = omega arith in let h : ℕ → SubView = λ m. sub_view w m (began m) in
+    let h' : ℕ → SubView = λ m. sub_view u m (later m) in let count : length v.subs ≡ n = length-each_number h 0 w.subscriptions in
     let group : group_in v t ≡ group_view w y = get_or-map (group_view w) w.topics t.0 (new_topic t 0 0) no_group topic in
     let gauges : queue_gauge w ≡ queue_gauge u = λ i m. taken_stays w x (set w.topics t.0 (after_subscribe n y)) refl m i in
     let groups : set v.groups t.0 (group_after_subscribe (length v.subs) (new_gauge v.capacity) (group_in v t)) ≡ map (group_view u) (set w.topics t.0 (after_subscribe n y)) =
@@ -134,9 +120,7 @@ found_at p ns i d e = sym (slice_get-get_or ns i d (in_range p ns i e)) ∙ (ap 
 
 -- where none is found there is none
 pub found_none : (p : ℕ → Bool) (ns : List ℕ) → position p ns ≡ None → None ≡ find p ns
-found_none p ns e =
-    let far = end_is p ns e in
-    sym (find_at p ns ∙ slice_get_past ns (position_or_len p ns) (omega (arith, far)))
+found_none p ns e = let far = end_is p ns e in sym (find_at p ns ∙ slice_get_past ns (position_or_len p ns) (omega (arith, far)))
 
 -- ---- its SUBSCRIBE
 
@@ -145,8 +129,7 @@ abbrev pub begin_step : ℕ → RawFrame → Unread → ℕ → Stamp → CoreSt
 begin_step c f left n from = record { event = Event.Next c; reading = Reading.Finds f left; outcome = Outcome.Subscribed n from }
 
 -- the new number has the frame
-pub new_frame : (c : ℕ) (f : RawFrame) (left : Unread) (n : ℕ) (from : Stamp) (older : List CoreStep)
-    → subscribe_frame n (begin_step c f left n from ∷ older) ≡ Some f
+pub new_frame : (c : ℕ) (f : RawFrame) (left : Unread) (n : ℕ) (from : Stamp) (older : List CoreStep) → subscribe_frame n (begin_step c f left n from ∷ older) ≡ Some f
 new_frame c f left n from older = ap (λ (b : Bool). cond b (Some f) (subscribe_frame n older)) (eq-eqb n n refl)
 
 -- the others keep theirs

@@ -1,12 +1,6 @@
 -- What a session has open is what is live: the open subscriptions of an open connection are its live ones, in order, each with
 -- its id and its topic, and an id that is open names its live subscription.
-use Rattle.delivery.proofs.Words.Std.{◌≡◌, ◌≢◌, ℕ, suc, ◌+◌, ◌<◌, ◌≤◌, ◌==◌, Bool, true, false, cond, not, ◌&&◌, ◌||◌, inl, inr, List, [], ◌∷◌, ◌++◌, map, length, get_or, Option, Some, None, refl, sym, ap, subst, ◌∙◌, arith, eq-eqb, nat_lt, list_any, is_some, option_map_or, option_or, option_to_list, unwrap_or, bytes_eq, eqb-true, lt-ltb, false≢true, or_parts, cases_lt, map-append, get_or_append_left, slice_get-get_or}
-use Rattle.delivery.proofs.Words.Topics.{first_refusal, Topic, In, NoSub, Entry}
-use Rattle.delivery.proofs.Words.Frames.{Command, RawFrame, Unread, SessionFault, topic_of, id_of, is_subscribe, is_unsubscribe, is_disconnect, entries_without, Held, subscriptions_left, is_ended, is_open, is_closed, session_fault, open_refusals}
-use Rattle.delivery.proofs.Words.Lemmas.{In-push_cases, at_set, none_some}
-use Rattle.delivery.proofs.Words.Machine.{World, Subscription, no_subscription, is_reading, connection_at, subscription_at, entry_at, Objection, Move, is_live, is_topic, needs_idle, move_refusal, final_world}
-use Rattle.delivery.proofs.Words.Core.{TopicList, Outcome, CoreStep, frame_in, accepted_of, is_next, has_id, begun_by, number_by, subscribe_frame, sub_id_text, Core, core_of, core_after, moves, session_at, names_at, IsCoreRun, each_number, live_numbers}
-use Rattle.delivery.proofs.Words.Views.{IsReached, EndpointView, SubView, view_with, endpoint_view, sub_view, no_endpoint, without_number, has_sub_id, number_in}
+use Rattle.delivery.proofs.Words.All.{◌≡◌, ◌≢◌, ℕ, suc, ◌+◌, ◌<◌, ◌≤◌, ◌==◌, Bool, true, false, cond, not, ◌&&◌, ◌||◌, inl, inr, List, [], ◌∷◌, ◌++◌, map, length, get_or, Option, Some, None, refl, sym, ap, subst, ◌∙◌, arith, eq-eqb, nat_lt, list_any, is_some, option_map_or, option_or, option_to_list, unwrap_or, bytes_eq, eqb-true, lt-ltb, false≢true, or_parts, cases_lt, map-append, get_or_append_left, slice_get-get_or, first_refusal, Topic, In, NoSub, Entry, Command, RawFrame, Unread, SessionFault, topic_of, id_of, is_subscribe, is_unsubscribe, is_disconnect, entries_without, Held, subscriptions_left, is_ended, is_open, is_closed, session_fault, open_refusals, In-push_cases, at_set, none_some, World, Subscription, no_subscription, is_reading, connection_at, subscription_at, entry_at, Objection, Move, is_live, is_topic, needs_idle, move_refusal, final_world, TopicList, Outcome, CoreStep, frame_in, accepted_of, is_next, has_id, begun_by, number_by, subscribe_frame, sub_id_text, Core, core_of, core_after, moves, session_at, names_at, IsCoreRun, each_number, live_numbers, IsReached, EndpointView, SubView, view_with, endpoint_view, sub_view, no_endpoint, without_number, has_sub_id, number_in}
 use Rattle.std.specs.List.{find}
 use Rattle.std.proofs.lemmas.Slice.Eq.{bytes_eq-Decides}
 use Rattle.stomp_frame.specs.declared.command.Command.TheVariants as commands
@@ -14,18 +8,15 @@ use Rattle.stomp_session.specs.declared.fault.SessionFault.TheVariants as faults
 use Rattle.delivery.specs.Core.Connections.{live_sub}
 use Rattle.delivery.proofs.Machine.SubscriptionSteps.{at_end}
 use Rattle.delivery.proofs.Theorem.NeverRefused.{entries_are_there}
-use Rattle.delivery.proofs.Core.AccountOfRun.{run_of, world_is}
+use Rattle.delivery.proofs.Words.Changes.{run_of, world_is, get_or-each_number, length-each_number, map_alike, stays_shut, open_there, differ, core_steps}
 use Rattle.delivery.proofs.Core.Speaking.{open_in}
-use Rattle.delivery.proofs.Views.Lists.ByNumber.{get_or-each_number, length-each_number, map_alike}
 use Rattle.delivery.proofs.Views.Subscriptions.ClosedIsDropped.{live_of_own}
 use Rattle.delivery.proofs.Views.Subscriptions.NewSubscription.{live_push}
-use Rattle.delivery.proofs.Views.Endpoints.StandingOfConnection.{stays_shut, open_there, differ}
 use Rattle.delivery.proofs.Views.Endpoints.DisconnectIsLast.{unheard, unparted, not_parting}
 use Rattle.delivery.proofs.Views.Endpoints.NothingBeforeOpen.{unsubscribed}
 use Rattle.delivery.proofs.Views.Subscriptions.SubsOfStep.{StepKeeps, Reads, StepBegins, StepEnds, StepChange, step_change, left_open, left_close}
 use Rattle.delivery.proofs.Core.NamesKnown.{step_left}
-use Rattle.delivery.proofs.Core.ClaimsStand.{core_steps}
-use Rattle.delivery.proofs.Theorem.ClosedAsAnswered.{live_unclosed}
+use Rattle.delivery.proofs.Theorem.SpansAsAnswered.{live_unclosed}
 
 -- the live subscriptions of connection c
 abbrev pub live_at : Core → ℕ → List ℕ
@@ -51,9 +42,7 @@ live_place c i s (x ∷ xs) here = by (is_live c x) refl here (live_place c (i +
   where
     later : LiveAt c (i + 1) s xs → LiveAt c i s (x ∷ xs)
     later h =
-        let p : ℕ = h.place in
-        let a : s ≡ i + 1 + p = h.is in
-        let l : p < length xs = h.there in
+        let p : ℕ = h.place in let a : s ≡ i + 1 + p = h.is in let l : p < length xs = h.there in
         record { place = suc p; is = omega (arith, a); there = omega (arith, l); live = h.live }
 
     by : (b : Bool) → is_live c x ≡ b → In s (cond b (i ∷ live_numbers c (i + 1) xs) (live_numbers c (i + 1) xs))
@@ -69,21 +58,12 @@ record IsLiveAt (w : World) (c s : ℕ) : Type 0 where
 
 live_there : (w : World) (c s : ℕ) → In s (live_numbers c 0 w.subscriptions) → IsLiveAt w c s
 live_there w c s here =
-    let h = live_place c 0 s w.subscriptions here in
-    let is : s ≡ 0 + h.place = h.is in
-    let same : h.place ≡ s = omega (arith, is) in
-    record {
-      there = subst (λ n. n < length w.subscriptions) same h.there;
-      live = subst (λ n. is_live c (subscription_at w n) ≡ true) same h.live;
-    }
+    let h = live_place c 0 s w.subscriptions here in let is : s ≡ 0 + h.place = h.is in let same : h.place ≡ s = omega (arith, is) in
+    record { there = subst (λ n. n < length w.subscriptions) same h.there; live = subst (λ n. is_live c (subscription_at w n) ≡ true) same h.live }
 
 any_none : {X : Type 0} (p : X → Bool) (xs : List X) → find p xs ≡ None → list_any p xs ≡ false
 any_none p [] e = refl
-any_none p (x ∷ xs) e = by (p x) e (any_none p xs)
-  where
-    by : (b : Bool) → cond b (Some x) (find p xs) ≡ None → (find p xs ≡ None → list_any p xs ≡ false) → (b || list_any p xs) ≡ false
-    by true e rest = none_some x (sym e)
-    by false e rest = rest e
+any_none p (x ∷ xs) e = (elim (p x) as (λ (b : Bool). cond b (Some x) (find p xs) ≡ None → (find p xs ≡ None → list_any p xs ≡ false) → (b || list_any p xs) ≡ false) [ true ↦ λ e rest. none_some x (sym e) | false ↦ λ e rest. rest e ]) e (any_none p xs)
 
 -- an id that isn't open is none of these
 other_id : (id : List ℕ) (g : ℕ → List ℕ × Topic) (ns : List ℕ) (s : ℕ) → is_open id (map g ns) ≡ false → In s ns → bytes_eq id (g s).0 ≡ false
@@ -99,11 +79,10 @@ record OpenIn (id : List ℕ) (g : ℕ → List ℕ × Topic) (ns : List ℕ) : 
 
 open_number : (id : List ℕ) (g : ℕ → List ℕ × Topic) (ns : List ℕ) → is_open id (map g ns) ≡ true → OpenIn id g ns
 open_number id g [] e = absurd (false≢true e)
-open_number id g (n ∷ ns) e = by (bytes_eq id (g n).0) refl e (open_number id g ns)
-  where
-    by : (b : Bool) → bytes_eq id (g n).0 ≡ b → (b || is_open id (map g ns)) ≡ true → (is_open id (map g ns) ≡ true → OpenIn id g ns) → OpenIn id g (n ∷ ns)
-    by true is e rest = record { number = n; here = inl refl; same = (bytes_eq-Decides id (g n).0).0 is }
-    by false is e rest = let h = rest e in record { number = h.number; here = inr h.here; same = h.same }
+open_number id g (n ∷ ns) e = (elim (bytes_eq id (g n).0) as (λ (b : Bool). bytes_eq id (g n).0 ≡ b → (b || is_open id (map g ns)) ≡ true → (is_open id (map g ns) ≡ true → OpenIn id g ns) → OpenIn id g (n ∷ ns)) [
+  | true ↦ λ is e rest. record { number = n; here = inl refl; same = (bytes_eq-Decides id (g n).0).0 is }
+  | false ↦ λ is e rest. (let h = rest e in record { number = h.number; here = inr h.here; same = h.same })
+]) refl e (open_number id g ns)
 
 -- without an id is without its number
 without_id : (id : List ℕ) (s : ℕ) (g : ℕ → List ℕ × Topic) (ns : List ℕ) → ((n : ℕ) → In n ns → bytes_eq id (g n).0 ≡ (n == s))
@@ -111,12 +90,10 @@ without_id : (id : List ℕ) (s : ℕ) (g : ℕ → List ℕ × Topic) (ns : Lis
 without_id id s g [] same = refl
 without_id id s g (n ∷ ns) same =
     ap (λ (b : Bool). cond b (map g ns) (g n ∷ entries_without id (map g ns))) (same n (inl refl))
-    ∙ by (n == s) (without_id id s g ns (λ m here. same m (inr here)))
-  where
-    by : (b : Bool) → entries_without id (map g ns) ≡ map g (without_number s ns)
-        → cond b (map g ns) (g n ∷ entries_without id (map g ns)) ≡ map g (cond b ns (n ∷ without_number s ns))
-    by true rest = refl
-    by false rest = ap (λ (them : List (List ℕ × Topic)). g n ∷ them) rest
+    ∙ (elim (n == s) as (λ (b : Bool). entries_without id (map g ns) ≡ map g (without_number s ns) → cond b (map g ns) (g n ∷ entries_without id (map g ns)) ≡ map g (cond b ns (n ∷ without_number s ns))) [
+      | true ↦ λ rest. refl
+      | false ↦ λ rest. ap (λ (them : List (List ℕ × Topic)). g n ∷ them) rest
+    ]) (without_id id s g ns (λ m here. same m (inr here)))
 
 -- what is left was there
 still_in : (s n : ℕ) (ns : List ℕ) → In n (without_number s ns) → In n ns
@@ -153,11 +130,10 @@ NoneApplies (t ∷ ts) = (t.0 ≡ false) × NoneApplies ts
 
 none_applies : (ts : List (Bool × SessionFault)) → first_refusal ts ≡ None → NoneApplies ts
 none_applies [] e = tt
-none_applies (t ∷ ts) e = by t.0 e (none_applies ts)
-  where
-    by : (b : Bool) → cond b (Some t.1) (first_refusal ts) ≡ None → (first_refusal ts ≡ None → NoneApplies ts) → (b ≡ false) × NoneApplies ts
-    by true e rest = none_some t.1 (sym e)
-    by false e rest = (refl, rest e)
+none_applies (t ∷ ts) e = (elim t.0 as (λ (b : Bool). cond b (Some t.1) (first_refusal ts) ≡ None → (first_refusal ts ≡ None → NoneApplies ts) → (b ≡ false) × NoneApplies ts) [
+  | true ↦ λ e rest. none_some t.1 (sym e)
+  | false ↦ λ e rest. (refl, rest e)
+]) e (none_applies ts)
 
 tested : (s : Held) (f : RawFrame) (command : Command) → f.command ≡ command → session_fault s f ≡ None
     → NoneApplies ((is_closed s.phase, faults.Closed) ∷ open_refusals command s f)
@@ -171,11 +147,7 @@ shut_id s f e none = (tested s f commands.Subscribe e none).1.1.1.1.1.0
 
 -- an accepted UNSUBSCRIBE has one that is
 open_id : (s : Held) (f : RawFrame) → f.command ≡ commands.Unsubscribe → session_fault s f ≡ None → is_open (id_of f) s.subscriptions ≡ true
-open_id s f e none = by (is_open (id_of f) s.subscriptions) (tested s f commands.Unsubscribe e none).1.1.0
-  where
-    by : (b : Bool) → not b ≡ false → b ≡ true
-    by true e = refl
-    by false e = sym e
+open_id s f e none = (elim (is_open (id_of f) s.subscriptions) as (λ (b : Bool). not b ≡ false → b ≡ true) [ true ↦ λ e. refl | false ↦ λ e. sym e ]) (tested s f commands.Unsubscribe e none).1.1.0
 
 -- what a session has open before its end is what frames left open
 going_on : (k : Core) (c : ℕ) → is_ended (accepted_of c k.steps) ≡ false → (session_at k c).subscriptions ≡ subscriptions_left (names_at k) (accepted_of c k.steps)
@@ -211,13 +183,8 @@ read_id k c step f h id =
 
 begins_agree : (k : Core) (c : ℕ) (step : CoreStep) → is_ended (accepted_of c k.steps) ≡ false → Agrees k c → StepBegins k c step → Agrees (core_after k step) c
 begins_agree k c step going a h =
-    let after = core_after k step in
-    let w = k.world in
-    let f = h.frame in
-    let n = length w.subscriptions in
-    let t = topic_of (names_at k) f in
-    let x : Subscription = record { connection = c; topic = t; from = h.from; taken = 0; closed = None } in
-    let old = subscriptions_left (names_at k) (accepted_of c k.steps) in
+    let after = core_after k step in let w = k.world in let f = h.frame in let n = length w.subscriptions in let t = topic_of (names_at k) f in
+    let x : Subscription = record { connection = c; topic = t; from = h.from; taken = 0; closed = None } in let old = subscriptions_left (names_at k) (accepted_of c k.steps) in
     let shut : is_open (id_of f) old ≡ false = ap (is_open (id_of f)) (sym (going_on k c going)) ∙ shut_id (session_at k c) f h.command h.reads.accepted in
     let last : 0 + n ≡ n = omega arith in
     let live : live_at after c ≡ live_at k c ++ n ∷ [] =
@@ -265,18 +232,13 @@ begins_agree k c step going a h =
 
 ends_agree : (k : Core) (c : ℕ) (step : CoreStep) → is_ended (accepted_of c k.steps) ≡ false → Agrees k c → StepEnds k c step → Agrees (core_after k step) c
 ends_agree k c step going a h =
-    let after = core_after k step in
-    let w = k.world in
-    let f = h.frame in
-    let id = id_of f in
-    let s = h.number in
+    let after = core_after k step in let w = k.world in let f = h.frame in let id = id_of f in let s = h.number in
     let old = subscriptions_left (names_at k) (accepted_of c k.steps) in
     let opened : is_open id (map (live_sub w k.steps) (live_at k c)) ≡ true =
     ap (is_open id) (sym (going_on k c going ∙ a.subs)) ∙ open_id (session_at k c) f h.command h.reads.accepted in
     let one = open_number id (live_sub w k.steps) (live_at k c) opened in
     let is_one : one.number ≡ s = sym (a.numbers one.number one.here) ∙ (ap (λ z. number_by c z k.steps) (sym one.same) ∙ sym h.named) in
-    let named : id ≡ sub_id_text s k.steps = one.same ∙ ap (λ m. sub_id_text m k.steps) is_one in
-    let from : 0 + s ≡ s = omega arith in
+    let named : id ≡ sub_id_text s k.steps = one.same ∙ ap (λ m. sub_id_text m k.steps) is_one in let from : 0 + s ≡ s = omega arith in
     let shut : is_live c h.new ≡ false = ap (λ (b : Bool). (h.new.connection == c) && not b) h.closed ∙ none_live (h.new.connection == c) in
     let live : live_at after c ≡ without_number s (live_at k c) =
     ap (live_numbers c 0) h.set_to
@@ -356,8 +318,7 @@ agrees_run : (topics : TopicList) (capacity : ℕ) (steps : List CoreStep) → I
     → open_in (core_of topics capacity steps).world.connections c ≡ true → Agrees (core_of topics capacity steps) c
 agrees_run topics capacity [] h c e = absurd (false≢true e)
 agrees_run topics capacity (step ∷ older) h c e =
-    let k = core_of topics capacity older in
-    let b = before (agrees_run topics capacity older h.1 c) (open_in k.world.connections c) refl in
+    let k = core_of topics capacity older in let b = before (agrees_run topics capacity older h.1 c) (open_in k.world.connections c) refl in
     changed_agrees k c step b.going b.agrees
     (step_change k c step.event step.reading step.outcome h.0.outcome (entries topics capacity older) e)
   where
@@ -392,8 +353,7 @@ pub session_subs : (k : Core) (c : ℕ) → IsReached k → is_reading (connecti
 session_subs k c reached reading = going_on k c (not_ended k c reached reading) ∙ (reached_agrees k c reached reading).subs
 
 -- the id of each names its number
-pub number_is : (k : Core) (c s : ℕ) → IsReached k → is_reading (connection_at k.world c).standing ≡ true → In s (live_at k c)
-    → number_by c (sub_id_text s k.steps) k.steps ≡ s
+pub number_is : (k : Core) (c s : ℕ) → IsReached k → is_reading (connection_at k.world c).standing ≡ true → In s (live_at k c) → number_by c (sub_id_text s k.steps) k.steps ≡ s
 number_is k c s reached reading here = (reached_agrees k c reached reading).numbers s here
 
 -- an id names a live subscription of the connection, which is the one that is found
@@ -408,8 +368,7 @@ has_by_view : (k : Core) (accepted : ℕ → List RawFrame) (unread : ℕ → Un
     → has_sub_id (view_with (names_at k) k.world accepted unread text (λ n. subscribe_frame n k.steps)).subs id s ≡ bytes_eq (sub_id_text s k.steps) id
 has_by_view k accepted unread text id s there =
     let h : ℕ → SubView = λ n. sub_view k.world n (subscribe_frame n k.steps) in
-    let many : s < length (each_number h 0 k.world.subscriptions) = omega (arith, there, length-each_number h 0 k.world.subscriptions) in
-    let first : 0 + s ≡ s = omega arith in
+    let many : s < length (each_number h 0 k.world.subscriptions) = omega (arith, there, length-each_number h 0 k.world.subscriptions) in let first : 0 + s ≡ s = omega arith in
     ap (λ (o : Option SubView). option_map_or (λ x. bytes_eq x.id id) o false)
     (slice_get-get_or (each_number h 0 k.world.subscriptions) s (h s) many
     ∙ ap (λ (z : SubView). Some z) (get_or-each_number h 0 k.world.subscriptions s (h s) there ∙ ap h first))
@@ -418,21 +377,16 @@ has_by_view k accepted unread text id s there =
 pub names_live : (k : Core) (c : ℕ) (f : RawFrame) → IsReached k → is_reading (connection_at k.world c).standing ≡ true → f.command ≡ commands.Unsubscribe
     → session_fault (session_at k c) f ≡ None → NamesLive k c (id_of f)
 names_live k c f reached reading command none =
-    let a = reached_agrees k c reached reading in
-    let id = id_of f in
-    let w = k.world in
+    let a = reached_agrees k c reached reading in let id = id_of f in let w = k.world in
     let one = open_number id (live_sub w k.steps) (live_at k c) (ap (is_open id) (sym (session_subs k c reached reading)) ∙ open_id (session_at k c) f command none) in
-    let s = number_by c id k.steps in
-    let is : one.number ≡ s = sym (a.numbers one.number one.here) ∙ ap (λ z. number_by c z k.steps) (sym one.same) in
-    let here : In s (live_at k c) = subst (λ n. In n (live_at k c)) is one.here in
-    let named : sub_id_text s k.steps ≡ id = sym (one.same ∙ ap (λ n. sub_id_text n k.steps) is) in
+    let s = number_by c id k.steps in let is : one.number ≡ s = sym (a.numbers one.number one.here) ∙ ap (λ z. number_by c z k.steps) (sym one.same) in
+    let here : In s (live_at k c) = subst (λ n. In n (live_at k c)) is one.here in let named : sub_id_text s k.steps ≡ id = sym (one.same ∙ ap (λ n. sub_id_text n k.steps) is) in
     let at = live_there w c s here in
     record {
       there = at.there;
       live = at.live;
       found = λ accepted unread text. (let v = view_with (names_at k) w accepted unread text (λ n. subscribe_frame n k.steps) in
-          let g : ℕ → EndpointView = λ n. endpoint_view (names_at k) w n (accepted n) (unread n) (text n) in
-          let first : 0 + c ≡ c = omega arith in
+          let g : ℕ → EndpointView = λ n. endpoint_view (names_at k) w n (accepted n) (unread n) (text n) in let first : 0 + c ≡ c = omega arith in
           let endpoint : get_or v.endpoints c no_endpoint ≡ g c = get_or-each_number g 0 w.connections c no_endpoint (open_there w.connections c reading) ∙ ap g first in
           ap (λ (l : EndpointView). find (has_sub_id v.subs id) l.live) endpoint
           ∙ only_one (has_sub_id v.subs id) (live_at k c) s here
@@ -445,11 +399,10 @@ names_live k c f reached reading command none =
 
 one_more : {F : Type 0} (cs : List (Bool × F)) (b : Bool) (x : F) → first_refusal cs ≡ None → b ≡ false → first_refusal (cs ++ (b, x) ∷ []) ≡ None
 one_more [] b x none e = ap (λ (z : Bool). cond z (Some x) None) e
-one_more (t ∷ ts) b x none e = by t.0 none (λ h. one_more ts b x h e)
-  where
-    by : (p : Bool) → cond p (Some t.1) (first_refusal ts) ≡ None → (first_refusal ts ≡ None → first_refusal (ts ++ (b, x) ∷ []) ≡ None) → cond p (Some t.1) (first_refusal (ts ++ (b, x) ∷ [])) ≡ None
-    by true h rest = none_some t.1 (sym h)
-    by false h rest = rest h
+one_more (t ∷ ts) b x none e = (elim t.0 as (λ (p : Bool). cond p (Some t.1) (first_refusal ts) ≡ None → (first_refusal ts ≡ None → first_refusal (ts ++ (b, x) ∷ []) ≡ None) → cond p (Some t.1) (first_refusal (ts ++ (b, x) ∷ [])) ≡ None) [
+  | true ↦ λ h rest. none_some t.1 (sym h)
+  | false ↦ λ h rest. rest h
+]) none (λ h. one_more ts b x h e)
 
 -- nothing stands against the end of a live subscription of a connection whose frames are read
 pub unsubscribe_free : (w : World) (c s : ℕ) → first_refusal (needs_idle w c) ≡ None → s < length w.subscriptions → is_live c (subscription_at w s) ≡ true

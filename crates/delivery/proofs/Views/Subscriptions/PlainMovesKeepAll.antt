@@ -1,14 +1,7 @@
 -- Moves that begin and end no subscription, but for the steps of a leaving: of a connection that is still open they
 -- change none.
-use Rattle.delivery.proofs.Words.Std.{◌≡◌, ◌≢◌, ℕ, zero, suc, ◌+◌, ◌<◌, ◌≤◌, ◌==◌, true, false, cond, not, ◌&&◌, List, [], ◌∷◌, length, get_or, set, Option, Some, None, refl, sym, ap, subst, ◌∙◌, arith, ltb, ltb-true, false≢true, not-false, is_some}
-use Rattle.delivery.proofs.Words.Topics.{Item, Entry}
-use Rattle.delivery.proofs.Words.Lemmas.{at_set}
-use Rattle.delivery.proofs.Words.Machine.{World, Subscription, no_subscription, subscription_at, entry_at, Move, world_after, move_refusal, move_effect, is_live, oldest_live, take_effect, leave_effect, close_effect_of, run, Subscribes, Unsubscribes, Leaves, Takes}
-use Rattle.delivery.proofs.Words.Core.{live_numbers}
-use Rattle.delivery.proofs.Machine.SubscriptionSteps.{set_length}
-use Rattle.delivery.proofs.Machine.InvariantIsKept.{by_refusal, checked}
-use Rattle.delivery.proofs.Machine.ByFound.{by_found}
-use Rattle.delivery.proofs.Theorem.ClosedIsSilent.{oldest_found}
+use Rattle.delivery.proofs.Words.All.{◌≡◌, ◌≢◌, ℕ, zero, suc, ◌+◌, ◌<◌, ◌≤◌, ◌==◌, true, false, cond, not, ◌&&◌, List, [], ◌∷◌, length, get_or, set, Option, Some, None, refl, sym, ap, subst, ◌∙◌, arith, ltb, ltb-true, false≢true, not-false, is_some, Item, Entry, at_set, World, Subscription, no_subscription, subscription_at, entry_at, Move, world_after, move_refusal, move_effect, is_live, oldest_live, take_effect, leave_effect, close_effect_of, run, Subscribes, Unsubscribes, Leaves, Takes, live_numbers}
+use Rattle.delivery.proofs.Words.Steps.{set_length, by_refusal, checked, by_found, is_oldest}
 use Rattle.delivery.proofs.Core.Speaking.{open_in}
 use Rattle.delivery.proofs.Views.Subscriptions.ClosedIsDropped.{live_of_others, live_owned}
 use Rattle.delivery.proofs.Views.Endpoints.StandingOfConnection.{stays_shut}
@@ -34,11 +27,7 @@ pub record Keeps (w v : World) (c : ℕ) : Type 0 where
 pub kept : (w v : World) (c : ℕ) → v.subscriptions ≡ w.subscriptions → Keeps w v c
 kept w v c e =
     let m = ap (λ (xs : List Subscription). length xs) e in
-    record {
-      live = ap (live_numbers c 0) e;
-      topics = λ s l. ap (λ (xs : List Subscription). (get_or xs s no_subscription).topic) e;
-      many = omega (arith, m);
-    }
+    record { live = ap (live_numbers c 0) e; topics = λ s l. ap (λ (xs : List Subscription). (get_or xs s no_subscription).topic) e; many = omega (arith, m) }
 
 -- where one is another of the same topic
 pub kept_but : (w v : World) (c s : ℕ) (x : Subscription) → v.subscriptions ≡ set w.subscriptions s x → x.topic ≡ (subscription_at w s).topic
@@ -73,14 +62,6 @@ closed w c d s (Some e) live apart =
     kept_but w (close_effect_of w s (Some e)) c s _ refl refl
     (live_of_others c 0 s w.subscriptions _ refl (λ same. apart (sym (live_owned d (subscription_at w s) live) ∙ same)))
 
-left : (w : World) (c d : ℕ) (o : Option ℕ) → oldest_live d 0 w.subscriptions ≡ o → d ≢ c → Keeps w (leave_effect w d o) c
-left w c d None e apart = kept w (leave_effect w d None) c refl
-left w c d (Some s) e apart =
-    let o = oldest_found d 0 s w.subscriptions e in
-    let is : s ≡ 0 + o.place = o.is in
-    let same : o.place ≡ s = omega (arith, is) in
-    closed w c d s (entry_at w s) (subst (λ n. is_live d (subscription_at w n) ≡ true) same o.live) apart
-
 -- the connection isn't one that is there and isn't open
 abbrev pub IsNotShut : World → ℕ → Type 0
 IsNotShut w c = c < length w.connections → open_in w.connections c ≡ false → Prim.⊥
@@ -90,9 +71,10 @@ happens w (Subscribes d t) c plain shut n = absurd plain
 happens w (Unsubscribes d s) c plain shut n = absurd plain
 happens w (Leaves d) c plain shut n =
     let k = checked w (Leaves d) n in
-    left w c d (oldest_live d 0 w.subscriptions) refl
-    (λ same. shut (subst (λ m. m < length w.connections) same (ltb-true d (length w.connections) (not-false (ltb d (length w.connections)) k.0)))
-    (subst (λ m. open_in w.connections m ≡ false) same k.1.1.0))
+    (elim (oldest_live d 0 w.subscriptions) as (λ (o : Option ℕ). oldest_live d 0 w.subscriptions ≡ o → Keeps w (leave_effect w d o) c) [
+      | None ↦ λ e. kept w (leave_effect w d None) c refl
+      | Some s ↦ λ e. closed w c d s (entry_at w s) (is_oldest w d s e).live (λ same. shut (subst (λ m. m < length w.connections) same (ltb-true d (length w.connections) (not-false (ltb d (length w.connections)) k.0))) (subst (λ m. open_in w.connections m ≡ false) same k.1.1.0))
+    ]) refl
 happens w (Takes s) c plain shut n = taken w c s _
 happens w m c plain shut n = kept w (move_effect w m) c (by_found (λ v o. v.subscriptions ≡ w.subscriptions) w m (refl, λ k. refl))
 
@@ -103,13 +85,7 @@ move_keeps w m c plain shut = by_refusal (λ v o. Keeps w v c) w m (λ why. kept
 
 then : (u v w : World) (c : ℕ) → Keeps u v c → Keeps v w c → Keeps u w c
 then u v w c h k =
-    let a = h.many in
-    let b = k.many in
-    record {
-      live = k.live ∙ h.live;
-      topics = λ s l. k.topics s (omega (arith, a, l)) ∙ h.topics s l;
-      many = omega (arith, a, b);
-    }
+    let a = h.many in let b = k.many in record { live = k.live ∙ h.live; topics = λ s l. k.topics s (omega (arith, a, l)) ∙ h.topics s l; many = omega (arith, a, b) }
 
 -- of a connection that is open after such moves they change no subscription
 pub run_keeps : (ms : List Move) (w : World) (c : ℕ) → ArePlain ms → open_in (run ms w).connections c ≡ true → Keeps w (run ms w) c

@@ -1,24 +1,15 @@
 -- The queue of a subscription that isn't closed: in its topic's group, and after a take.
-use Rattle.delivery.proofs.Words.Std.{◌≡◌, ◌≢◌, ℕ, zero, suc, ◌+◌, ◌<◌, ◌==◌, Bool, true, false, cond, inl, inr, List, [], ◌∷◌, map, length, get_or, set, Option, Some, None, refl, sym, ap, subst, ◌∙◌, arith, eq-eqb, slice_get, is_some, option_map, option_map_or, eqb-true, true≢false, lt-ltb, cases_lt, get_or-set_same, get_or-set_other, get_or_past, get_or_default}
-use Rattle.delivery.proofs.Words.Topics.{In, Topic, Gauge, group_after_take, GroupState, shows, TopicState, Entry, EntryEnd, new_topic, find_entry, NumbersDiffer}
-use Rattle.delivery.proofs.Words.Frames.{RawFrame, id_of, wants_parts}
-use Rattle.delivery.proofs.Words.Lemmas.{numbers_differ, none_some}
-use Rattle.delivery.proofs.Words.Machine.{World, Subscription, no_subscription, topic_at, subscription_at, entry_at, is_live, entry_to}
-use Rattle.delivery.proofs.Words.Core.{subscribe_frame, Core, each_number, live_numbers}
-use Rattle.delivery.proofs.Words.Views.{IsReached, sub_held, next_of, has_lagged, group_held, next_held, no_sub}
+use Rattle.delivery.proofs.Words.All.{◌≡◌, ◌≢◌, ℕ, zero, suc, ◌+◌, ◌<◌, ◌==◌, Bool, true, false, cond, inl, inr, List, [], ◌∷◌, map, length, get_or, set, Option, Some, None, refl, sym, ap, subst, ◌∙◌, arith, eq-eqb, slice_get, is_some, option_map, option_map_or, eqb-true, true≢false, lt-ltb, cases_lt, get_or-set_same, get_or-set_other, get_or_past, get_or_default, In, Topic, Gauge, group_after_take, GroupState, shows, TopicState, Entry, EntryEnd, new_topic, find_entry, NumbersDiffer, RawFrame, id_of, wants_parts, numbers_differ, none_some, World, Subscription, no_subscription, topic_at, subscription_at, entry_at, is_live, entry_to, subscribe_frame, Core, each_number, live_numbers, IsReached, sub_held, next_of, has_lagged, group_held, next_held, no_sub}
 use Rattle.sub_queue.specs.Shown.{gauge_after_take}
 use Rattle.mcast_group.specs.Counted.{gauges_after_take}
 use Rattle.delivery.specs.Machine.World.{with_subscription}
 use Rattle.delivery.specs.Inner.Takes.{next_shown}
 use Rattle.delivery.specs.Inner.View.{SubView, view_of, group_view, no_group, queue_gauge, sub_view, left_view as left_in_view}
-use Rattle.delivery.proofs.Machine.SubscriptionSteps.{found_entry}
-use Rattle.delivery.proofs.Theorem.AcceptedIsDue.{reached}
+use Rattle.delivery.proofs.Words.Steps.{found_entry, reached}
 use Rattle.delivery.proofs.Views.Runs.AccountOfTransactions.{has_entry}
-use Rattle.delivery.proofs.Views.Lists.ByNumber.{get_or-each_number}
-use Rattle.delivery.proofs.Views.Runs.ByRunOfCore.{by_world}
+use Rattle.delivery.proofs.Words.Changes.{get_or-each_number, by_world, same_or}
 use Rattle.delivery.proofs.Views.Events.ReleaseStep.{group_at}
 use Rattle.delivery.proofs.Views.Subscriptions.GaugesOfEntries.{shown_found}
-use Rattle.delivery.proofs.Views.Endpoints.StandingOfConnection.{same_or}
 
 -- ---- a queue
 
@@ -51,9 +42,7 @@ has_queue k s reached l unclosed = by_case (entry_at k.world s) refl
 -- the subscription as it is held
 pub sub_is : (k : Core) (s : ℕ) → s < length k.world.subscriptions → sub_held (view_of k) s ≡ sub_view k.world s (subscribe_frame s k.steps)
 sub_is k s l =
-    let f = λ (n : ℕ). sub_view k.world n (subscribe_frame n k.steps) in
-    let e : 0 + s ≡ s = omega arith in
-    get_or-each_number f 0 k.world.subscriptions s no_sub l ∙ ap f e
+    let f = λ (n : ℕ). sub_view k.world n (subscribe_frame n k.steps) in let e : 0 + s ≡ s = omega arith in get_or-each_number f 0 k.world.subscriptions s no_sub l ∙ ap f e
 
 -- its topic's group
 pub group_is : (k : Core) (s : ℕ) → HasQueue k s → group_held (view_of k) s ≡ group_view k.world (topic_at k.world (subscription_at k.world s).topic)
@@ -63,9 +52,7 @@ group_is k s q =
 
 -- its next item
 pub next_is_of : (k : Core) (s : ℕ) (q : HasQueue k s) → next_held (view_of k) s ≡ slice_get q.entry.accepted (subscription_at k.world s).taken
-next_is_of k s q =
-    let w = k.world in
-    ap (next_of s) (group_is k s q) ∙ ap next_shown (shown_found w s (topic_at w (subscription_at w s).topic) q.entry q.found)
+next_is_of k s q = let w = k.world in ap (next_of s) (group_is k s q) ∙ ap next_shown (shown_found w s (topic_at w (subscription_at w s).topic) q.entry q.found)
 
 -- whether it has lagged
 pub lagged_is : (k : Core) (s : ℕ) (q : HasQueue k s) → has_lagged s (group_held (view_of k) s) ≡ is_some q.entry.to
@@ -82,8 +69,7 @@ pub other_stays : (w : World) (s n : ℕ) → n ≢ s → subscription_at (taken
 other_stays w s n differ = get_or-set_other w.subscriptions s n (record (subscription_at w s) { taken = (subscription_at w s).taken + 1 }) no_subscription differ
 
 -- this one has one more item taken
-pub this_taken : (w : World) (s : ℕ) → s < length w.subscriptions
-    → subscription_at (taken_world w s) s ≡ record (subscription_at w s) { taken = (subscription_at w s).taken + 1 }
+pub this_taken : (w : World) (s : ℕ) → s < length w.subscriptions → subscription_at (taken_world w s) s ≡ record (subscription_at w s) { taken = (subscription_at w s).taken + 1 }
 this_taken w s l = get_or-set_same w.subscriptions s (record (subscription_at w s) { taken = (subscription_at w s).taken + 1 }) no_subscription l
 
 others_gauges : (w : World) (s : ℕ) (es : List Entry) → ((e : Entry) → In e es → e.number ≢ s)
@@ -169,8 +155,7 @@ taken_groups k s q at l =
 
     elsewhere : (n : ℕ) → n < length w.topics → n ≢ t.0 → group_view w (get_or w.topics n d) ≡ group_view (taken_world w s) (get_or w.topics n d)
     elsewhere n m differ =
-        let u : Topic = record { 0 = n } in
-        let read : topic_at w u ≡ get_or w.topics n d = get_or_default w.topics n (new_topic u 0 0) d m in
+        let u : Topic = record { 0 = n } in let read : topic_at w u ≡ get_or w.topics n d = get_or_default w.topics n (new_topic u 0 0) d m in
         subst (λ (y : TopicState). group_view w y ≡ group_view (taken_world w s) y) read
         (ap (λ (rs : List Gauge). record { topic = topic_at w u; gauges = rs }) (others_gauges w s (topic_at w u).subscriptions
         (λ e i z. differ (ap (λ (v : Topic). v.0)
@@ -189,8 +174,7 @@ shape began x = record { connection = x.connection; id = option_map_or id_of beg
 -- a subscription that isn't closed shows nothing of what was taken
 same_sub : (w : World) (s : ℕ) (began : Option RawFrame) → s < length w.subscriptions → (subscription_at w s).closed ≡ None → sub_view w s began ≡ sub_view (taken_world w s) s began
 same_sub w s began l unclosed =
-    let x = subscription_at w s in
-    let later : Subscription = record x { taken = x.taken + 1 } in
+    let x = subscription_at w s in let later : Subscription = record x { taken = x.taken + 1 } in
     ap (λ (o : Option EntryEnd). record (shape began x) { left = option_map (left_in_view x.taken) o }) unclosed
     ∙ (ap (λ (o : Option EntryEnd). record (shape began x) { left = option_map (left_in_view later.taken) o }) (sym unclosed)
     ∙ ap (shape began) (sym (this_taken w s l)))

@@ -1,29 +1,18 @@
 -- What a step does to the subscriptions of a connection that is still open: it changes none, begins one or ends one.
-use Rattle.delivery.proofs.Words.Std.{◌≡◌, ◌≢◌, ℕ, ◌+◌, ◌<◌, ◌==◌, Bool, true, false, cond, not, ◌&&◌, ◌||◌, ◌⊎◌, inl, inr, List, [], ◌∷◌, ◌++◌, length, get_or, set, Option, Some, None, refl, sym, ap, subst, ◌∙◌, arith, eq-eqb, eqb-true, ltb-true, false≢true, and_parts, not-false, append-nil, get_or_append_left, is_some, option_map, option_map_or, option_or, option_and_then, option_to_list, unwrap_or, bytes_eq, codes}
-use Rattle.delivery.proofs.Words.Topics.{Topic, Stamp, SentMessage, In, first_refusal, Entry}
-use Rattle.delivery.proofs.Words.Frames.{Command, RawFrame, case_fault, first_of, Unread, Action, SessionFault, action_by, commit, field, has_destination, topic_of, id_of, transaction_of, send_of, is_subscribe, is_unsubscribe, entries_without, Held, subscriptions_left, is_open, session_fault, sends_in, is_known}
-use Rattle.delivery.proofs.Words.Lemmas.{none_some, some_same}
-use Rattle.delivery.proofs.Words.Machine.{Objection, refusal_of, World, Subscription, no_subscription, topic_at, subscription_at, entry_at, Move, move_refusal, move_answer, needs_idle, is_live, commit_answer, close_effect_of, end_now, run}
-use Rattle.delivery.proofs.Words.Core.{ConnectionFault, Event, Outcome, Refusal, claims_of, claimed_sender, CoreStep, Reading, frame_in, has_effect, frame_from, accepted_of, has_id, begun_by, number_by, subscribe_frame, sub_id_text, is_cut, Core, core_after, moves, frame_move, session_at, is_faulted, is_no_memory, unread_at, core_for, names_at, topic_moves, claim_fault, outcome_of, move_outcome, unless, frame_no_memory, frame_fault, fault_outcomes, frame_outcome, reading_outcomes, outcomes, accepted_outcomes, is_any, wants_memory, live_numbers}
-use Rattle.delivery.proofs.Words.Views.{step_of}
+use Rattle.delivery.proofs.Words.All.{◌≡◌, ◌≢◌, ℕ, ◌+◌, ◌<◌, ◌==◌, Bool, true, false, cond, not, ◌&&◌, ◌||◌, ◌⊎◌, inl, inr, List, [], ◌∷◌, ◌++◌, length, get_or, set, Option, Some, None, refl, sym, ap, subst, ◌∙◌, arith, eq-eqb, eqb-true, ltb-true, false≢true, and_parts, not-false, append-nil, get_or_append_left, is_some, option_map_or, option_and_then, option_to_list, unwrap_or, bytes_eq, codes, Topic, Stamp, SentMessage, In, Entry, Command, RawFrame, first_of, Unread, Action, action_by, commit, field, has_destination, topic_of, id_of, transaction_of, send_of, is_subscribe, is_unsubscribe, entries_without, Held, subscriptions_left, is_open, session_fault, sends_in, is_known, some_same, World, Subscription, no_subscription, topic_at, subscription_at, entry_at, Move, move_refusal, move_answer, is_live, commit_answer, close_effect_of, end_now, run, Event, Outcome, claims_of, claimed_sender, CoreStep, Reading, frame_in, has_effect, frame_from, accepted_of, has_id, begun_by, number_by, subscribe_frame, sub_id_text, is_cut, Core, core_after, moves, frame_move, session_at, is_faulted, is_no_memory, core_for, names_at, topic_moves, outcome_of, move_outcome, frame_outcome, outcomes, live_numbers, step_of}
 use Rattle.stomp_frame.specs.declared.command.Command.TheVariants as commands
 use Rattle.stomp_session.specs.declared.action.Action.TheVariants as actions
 use Rattle.stomp_session.specs.Frames.{names_subscription}
 use Rattle.stomp_session.proofs.LeftOpen.{opened, opened-quiet, opened-open, opened-close}
-use Rattle.delivery.proofs.Machine.Effects.{made_world, made_answer}
-use Rattle.delivery.proofs.Core.ByRun.{run_append}
+use Rattle.delivery.proofs.Words.Steps.{made_world, made_answer, run_append, checked}
 use Rattle.delivery.proofs.Core.FrameWorld.{framed_none, no_topic, subs_for}
 use Rattle.stomp_session.proofs.History.{subscriptions_left-opened, subscription_by_id}
-use Rattle.delivery.proofs.Machine.InvariantIsKept.{checked}
-use Rattle.delivery.proofs.Machine.SenderSteps.{In-append_cases}
 use Rattle.delivery.proofs.Core.Speaking.{open_in}
-use Rattle.delivery.proofs.Core.AccountOfRun.{in_option, refusal_some, by_answer, was_wanted}
-use Rattle.delivery.proofs.Views.Endpoints.EndpointsStay.{if_same}
+use Rattle.delivery.proofs.Words.Changes.{in_option, by_answer, if_same, differ, Unobjected, by_next, unobjected}
 use Rattle.delivery.proofs.Views.Subscriptions.ClosedIsDropped.{live_of_others, live_owned}
 use Rattle.delivery.proofs.Views.Subscriptions.NewSubscription.{live_push}
 use Rattle.delivery.proofs.Views.Subscriptions.PlainMovesKeepAll.{ArePlain, kept_but, run_keeps}
 use Rattle.delivery.proofs.Views.Subscriptions.OthersBeginNone.{IsOther, silent}
-use Rattle.delivery.proofs.Views.Endpoints.StandingOfConnection.{differ}
 
 -- ---- the subscriptions that frames left open
 
@@ -111,8 +100,7 @@ AddsNone k c step = subscriptions_left (names_at k) (accepted_of c (step ∷ k.s
 plain_step : (k : Core) (c : ℕ) (e : Event) (rd : Reading) (o : Outcome) → ArePlain (moves k e rd o) → begun_by o ≡ None
     → open_in (core_after k (step_of e rd o)).world.connections c ≡ true → AddsNone k c (step_of e rd o) → StepKeeps k c (step_of e rd o)
 plain_step k c e rd o plain none reading frames =
-    let keeps = run_keeps (moves k e rd o) k.world c plain reading in
-    let step = step_of e rd o in
+    let keeps = run_keeps (moves k e rd o) k.world c plain reading in let step = step_of e rd o in
     record {
       live = keeps.live;
       topics = keeps.topics;
@@ -178,16 +166,6 @@ NextKind k d rd o = NextPlain k d rd o ⊎ (NextBegins k d rd o ⊎ NextEnds k d
 without_effect : (k : Core) (d : ℕ) (rd : Reading) (o : Outcome) → has_effect o ≡ false → (c : ℕ) → AddsNone k c (step_of (Event.Next d) rd o)
 without_effect k d rd o e c = adds_nil k c (step_of (Event.Next d) rd o) (ap (λ (b : Bool). cond b (frame_from c (step_of (Event.Next d) rd o)) []) e)
 
-refused_kind : (k : Core) (d : ℕ) (rd : Reading) (why : Refusal) → NextKind k d rd (Outcome.Refused why)
-refused_kind k d rd why = inl (record { plain = tt; none = refl; adds = without_effect k d rd (Outcome.Refused why) refl })
-
-faulted_kind : (k : Core) (d : ℕ) (rd : Reading) (fault : ConnectionFault) (o : Outcome) → In o (fault_outcomes fault) → NextKind k d rd o
-faulted_kind k d rd fault o (inl e) =
-    subst (NextKind k d rd) e (inl (record { plain = (tt, tt); none = refl; adds = without_effect k d rd (Outcome.Faulted fault false) refl }))
-faulted_kind k d rd fault o (inr (inl e)) =
-    subst (NextKind k d rd) e (inl (record { plain = (tt, tt); none = refl; adds = without_effect k d rd (Outcome.Faulted fault true) refl }))
-faulted_kind k d rd fault o (inr (inr i)) = absurd i
-
 -- the action is neither a subscription's beginning nor its end
 abbrev IsMild : Action → Type 0
 IsMild (actions.Subscribe id t) = Prim.⊥
@@ -200,10 +178,6 @@ record Mild (command : Command) : Type 0 where
   closes : is_unsubscribe command ≡ false
   action : (s : Held) (f : RawFrame) → IsMild (action_by command s f)
 
-mild_commit : (sends : List SentMessage) → IsMild (commit sends)
-mild_commit [] = tt
-mild_commit (send ∷ sends) = tt
-
 mild_send : (s : Held) (f : RawFrame) (o : Option (List ℕ)) → IsMild (option_map_or (λ transaction. actions.Nothing) o (commit (send_of s.names f ∷ [])))
 mild_send s f None = tt
 mild_send s f (Some x) = tt
@@ -212,7 +186,7 @@ kind : (command : Command) → Mild command ⊎ ((command ≡ commands.Subscribe
 kind commands.Subscribe = inr (inl refl)
 kind commands.Unsubscribe = inr (inr refl)
 kind commands.Send = inl (record { opens = refl; closes = refl; action = λ s f. mild_send s f (first_of (codes "transaction") f.headers) })
-kind commands.Commit = inl (record { opens = refl; closes = refl; action = λ s f. mild_commit (sends_in (transaction_of f) s.transactions) })
+kind commands.Commit = inl (record { opens = refl; closes = refl; action = λ s f. (elim (sends_in (transaction_of f) s.transactions) as (λ (sends : List SentMessage). IsMild (commit sends)) [ [] ↦ tt | send ∷ sends ↦ tt ]) })
 kind _ = inl (record { opens = refl; closes = refl; action = λ s f. tt })
 
 mild_moves : (k : Core) (d : ℕ) (action : Action) → IsMild action → ArePlain (option_to_list (frame_move k d action))
@@ -260,52 +234,29 @@ asked k d f left o action m fault effect is move =
     (λ i. cond (fault i) (Move.Errs d ∷ []) (cond (effect i) (topic_moves (names_at k) f ++ option_to_list (frame_move k d (is i))) []))
     ∙ ap (λ (z : Option Move). topic_moves (names_at k) f ++ option_to_list z) move
 
--- nothing stands against an accepted frame
-record NoFault (k : Core) (d : ℕ) (f : RawFrame) : Type 0 where
-  session : session_fault (session_at k d) f ≡ None
-  machine : (m : Move) → frame_move k d (action_by f.command (session_at k d) f) ≡ Some m → move_refusal (core_for k f).world m ≡ None
-
-no_fault : (k : Core) (d : ℕ) (f : RawFrame) → frame_fault k d f ≡ None → NoFault k d f
-no_fault k d f e =
-    go (case_fault f) (session_fault (session_at k d) f) refl (claim_fault k (action_by f.command (session_at k d) f)) (option_and_then (λ m. move_refusal (core_for k f).world m) (frame_move k d (action_by f.command (session_at k d) f))) refl e
-  where
-    go : (a : Option Rattle.stomp_frame.specs.declared.case_fault.CaseFault.CaseFault) (b : Option SessionFault) → session_fault (session_at k d) f ≡ b
-        → (y : Option ConnectionFault) (x : Option Objection) → option_and_then (λ m. move_refusal (core_for k f).world m) (frame_move k d (action_by f.command (session_at k d) f)) ≡ x
-        → option_or (option_map ConnectionFault.Frame a) (option_or (option_map ConnectionFault.Session b) (option_or y (option_map (λ why. frame_no_memory) x))) ≡ None → NoFault k d f
-    go (Some a) b s y x m e = none_some _ (sym e)
-    go None (Some b) s y x m e = none_some _ (sym e)
-    go None None s (Some y) x m e = none_some _ (sym e)
-    go None None s None (Some x) m e = none_some _ (sym e)
-    go None None s None None m e = record { session = s; machine = λ q is. ap (λ (z : Option Move). option_and_then (λ m. move_refusal (core_for k f).world m) z) (sym is) ∙ m }
-
 -- an outcome of a move that isn't refused is that of its answer
 made_outcome : (k : Core) (m : Move) (o z : Outcome) → move_refusal k.world m ≡ None → outcome_of (move_answer k.world m) ≡ Some z → In o (move_outcome k m) → o ≡ z
 made_outcome k m o z free is i = sym (some_same z o (sym is ∙ (ap outcome_of (sym (made_answer k.world m free)) ∙ in_option o _ i)))
 
--- a topic that is made changes no subscription
-plain_then : (b : Bool) (ms : List Move) → ArePlain ms → ArePlain (cond b (Move.AddsTopic 0 ∷ []) [] ++ ms)
-plain_then true ms h = (tt, h)
-plain_then false ms h = h
-
-accepted_kind : (k : Core) (d : ℕ) (f : RawFrame) (left : Unread) (o : Outcome) → NoFault k d f → In o (frame_outcome k d f)
+accepted_kind : (k : Core) (d : ℕ) (f : RawFrame) (left : Unread) (o : Outcome) → Unobjected k d f → In o (frame_outcome k d f)
     → Mild f.command ⊎ ((f.command ≡ commands.Subscribe) ⊎ (f.command ≡ commands.Unsubscribe)) → NextKind k d (Reading.Finds f left) o
 accepted_kind k d f left o free i (inl mild) =
     let own = option_to_list (frame_move k d (action_by f.command (session_at k d) f)) in
     inl (record {
       plain = plain_if (is_faulted o) (Move.Errs d ∷ []) (cond (has_effect o) (topic_moves (names_at k) f ++ own) []) (tt, tt)
           (plain_if (has_effect o) (topic_moves (names_at k) f ++ own) []
-          (plain_then (has_destination f.command && not (is_known (field (codes "destination") f) (names_at k))) own
-          (mild_moves k d (action_by f.command (session_at k d) f) (mild.action (session_at k d) f))) tt);
+          ((elim (has_destination f.command && not (is_known (field (codes "destination") f) (names_at k))) as (λ (b : Bool). ArePlain own → ArePlain (cond b (Move.AddsTopic 0 ∷ []) [] ++ own)) [
+            | true ↦ λ h. (tt, h)
+            | false ↦ λ h. h
+          ]) (mild_moves k d (action_by f.command (session_at k d) f) (mild.action (session_at k d) f))) tt);
       none = mild_silent k (core_for k f).world d (action_by f.command (session_at k d) f) o (mild.action (session_at k d) f) i;
       adds = mild_adds k d f left o mild.opens mild.closes;
     })
 accepted_kind k d f left o free i (inr (inl e)) =
-    let q = core_for k f in
-    let t = topic_of (names_at k) f in
-    let m = Move.Subscribes d t in
+    let q = core_for k f in let t = topic_of (names_at k) f in let m = Move.Subscribes d t in
     let z = Outcome.Subscribed (length q.world.subscriptions) (topic_at q.world t).frontier in
     let action : action_by f.command (session_at k d) f ≡ actions.Subscribe (id_of f) t = ap (λ (q : Command). action_by q (session_at k d) f) e in
-    let clear = free.machine m (ap (frame_move k d) action) in
+    let clear : move_refusal q.world m ≡ None = ap (λ (a : Action). option_and_then (λ mv. move_refusal (core_for k f).world mv) (frame_move k d a)) (sym action) ∙ free.move in
     let is : o ≡ z = made_outcome q m o z clear refl (subst (λ (a : Action). In o (option_map_or (move_outcome q) (frame_move k d a) (Outcome.Done ∷ []))) action i) in
     inr (inl (record {
       frame = f;
@@ -317,13 +268,11 @@ accepted_kind k d f left o free i (inr (inl e)) =
       free = clear;
     }))
 accepted_kind k d f left o free i (inr (inr e)) =
-    let nowhere : has_destination f.command ≡ false = ap has_destination e in
-    let here : core_for k f ≡ k = framed_none k f nowhere in
-    let s = number_by d (id_of f) k.steps in
-    let m = Move.Unsubscribes d s in
-    let z = Outcome.Unsubscribed s (end_now k.world s) in
+    let nowhere : has_destination f.command ≡ false = ap has_destination e in let here : core_for k f ≡ k = framed_none k f nowhere in let s = number_by d (id_of f) k.steps in
+    let m = Move.Unsubscribes d s in let z = Outcome.Unsubscribed s (end_now k.world s) in
     let action : action_by f.command (session_at k d) f ≡ actions.Unsubscribe (id_of f) = ap (λ (q : Command). action_by q (session_at k d) f) e in
-    let clear : move_refusal k.world m ≡ None = subst (λ (q : Core). move_refusal q.world m ≡ None) here (free.machine m (ap (frame_move k d) action)) in
+    let clear : move_refusal k.world m ≡ None =
+    subst (λ (q : Core). move_refusal q.world m ≡ None) here (ap (λ (a : Action). option_and_then (λ mv. move_refusal (core_for k f).world mv) (frame_move k d a)) (sym action) ∙ free.move) in
     let came : In o (move_outcome k m) =
     subst (λ (q : Core). In o (move_outcome q m)) here (subst (λ (a : Action). In o (option_map_or (move_outcome (core_for k f)) (frame_move k d a) (Outcome.Done ∷ []))) action i) in
     let is : o ≡ z = made_outcome k m o z clear refl came in
@@ -338,26 +287,12 @@ accepted_kind k d f left o free i (inr (inr e)) =
       free = clear;
     }))
 
-found_kind : (k : Core) (d : ℕ) (f : RawFrame) (left : Unread) (o : Outcome) (why : Option ConnectionFault) → frame_fault k d f ≡ why
-    → In o (option_map_or fault_outcomes why (accepted_outcomes k d f)) → NextKind k d (Reading.Finds f left) o
-found_kind k d f left o (Some fault) e i = faulted_kind k d (Reading.Finds f left) fault o i
-found_kind k d f left o None e i = elim (In-append_cases o (frame_outcome k d f) _ i) [
-  | inl j ↦ accepted_kind k d f left o (no_fault k d f e) j (kind f.command)
-  | inr j ↦ faulted_kind k d (Reading.Finds f left) frame_no_memory o (was_wanted (wants_memory k d f) frame_no_memory o j)
-]
-
-read_kind : (k : Core) (d : ℕ) (rd : Reading) (o : Outcome) → In o (reading_outcomes k d rd) → NextKind k d rd o
-read_kind k d Reading.Nothing o i =
-    faulted_kind k d Reading.Nothing ConnectionFault.ReaderNoMemory o (was_wanted (is_any (unread_at d k.steps).text) ConnectionFault.ReaderNoMemory o i)
-read_kind k d (Reading.Waits left) o (inl e) = subst (NextKind k d (Reading.Waits left)) e (refused_kind k d (Reading.Waits left) Refusal.NoFrame)
-read_kind k d (Reading.Waits left) o (inr i) = absurd i
-read_kind k d (Reading.Finds f left) o i = found_kind k d f left o (frame_fault k d f) refl i
-read_kind k d (Reading.Fails check left) o i = faulted_kind k d (Reading.Fails check left) (ConnectionFault.Stream check) o i
-
-next_kind : (k : Core) (d : ℕ) (rd : Reading) (o : Outcome) (why : Option Objection) → In o (unless why (reading_outcomes k d rd)) → NextKind k d rd o
-next_kind k d rd o None i = read_kind k d rd o i
-next_kind k d rd o (Some why) i =
-    let r = refusal_some (refusal_of why) o (in_option o _ i) in subst (NextKind k d rd) r.is (refused_kind k d rd r.why)
+next_kind : (k : Core) (d : ℕ) (rd : Reading) (o : Outcome) → In o (outcomes k (Event.Next d) rd) → NextKind k d rd o
+next_kind k d rd o i =
+    by_next k d (NextKind k d) (λ rd why. inl (record { plain = tt; none = refl; adds = without_effect k d rd (Outcome.Refused why) refl }))
+    (λ rd fault cut n. inl (record { plain = (tt, tt); none = refl; adds = without_effect k d rd (Outcome.Faulted fault cut) refl }))
+    (λ f left o n e j. accepted_kind k d f left o (unobjected k d f e) j (kind f.command))
+    rd o i
 
 -- ---- a Next, for one connection
 
@@ -371,8 +306,7 @@ others_number k c d rd o e id =
     ap (λ (b : Bool). cond (b && option_map_or (λ f. bytes_eq (id_of f) id) (frame_in rd) false) (unwrap_or (begun_by o) (number_by c id k.steps)) (number_by c id k.steps)) e
 
 -- what a subscription's beginning leaves
-begun_world : (k : Core) (d : ℕ) (rd : Reading) (o : Outcome) → (h : NextBegins k d rd o)
-    → (core_after k (step_of (Event.Next d) rd o)).world.subscriptions
+begun_world : (k : Core) (d : ℕ) (rd : Reading) (o : Outcome) → (h : NextBegins k d rd o) → (core_after k (step_of (Event.Next d) rd o)).world.subscriptions
     ≡ k.world.subscriptions ++ record { connection = d; topic = topic_of (names_at k) h.frame; from = (topic_at (core_for k h.frame).world (topic_of (names_at k) h.frame)).frontier; taken = 0; closed = None } ∷ []
 begun_world k d rd o h =
     let t = topic_of (names_at k) h.frame in let q = core_for k h.frame in
@@ -398,8 +332,7 @@ begun_change k c d rd o true e h =
           ∙ ap (λ (n : ℕ). k.world.subscriptions ++ record { connection = n; topic = topic_of (names_at k) h.frame; from = (topic_at (core_for k h.frame).world (topic_of (names_at k) h.frame)).frontier; taken = 0; closed = None } ∷ []) same;
     }))
 begun_change k c d rd o false e h =
-    let w = k.world in
-    let n = length w.subscriptions in
+    let w = k.world in let n = length w.subscriptions in
     let x : Subscription = record { connection = d; topic = topic_of (names_at k) h.frame; from = (topic_at (core_for k h.frame).world (topic_of (names_at k) h.frame)).frontier; taken = 0; closed = None } in
     let new = begun_world k d rd o h in
     inl (record {
@@ -421,9 +354,7 @@ record CanEnd (w : World) (d s : ℕ) : Type 0 where
   live : is_live d (subscription_at w s) ≡ true
 
 can_end : (w : World) (d s : ℕ) → move_refusal w (Move.Unsubscribes d s) ≡ None → CanEnd w d s
-can_end w d s free =
-    let k = and_parts _ _ (not-false _ (checked w (Move.Unsubscribes d s) free).1.1.1.0) in
-    record { there = ltb-true s (length w.subscriptions) k.0; live = k.1 }
+can_end w d s free = let k = and_parts _ _ (not-false _ (checked w (Move.Unsubscribes d s) free).1.1.1.0) in record { there = ltb-true s (length w.subscriptions) k.0; live = k.1 }
 
 -- the subscriptions once one with an entry, or without, is closed
 record Closes (w : World) (s : ℕ) (o : Option Entry) : Type 0 where
@@ -437,8 +368,7 @@ closes : (w : World) (s : ℕ) (o : Option Entry) → o ≢ None → Closes w s 
 closes w s None n = absurd (n refl)
 closes w s (Some e) n = record { new = _; set_to = refl; topic = refl; connection = refl; closed = refl }
 
-ended_world : (k : Core) (d : ℕ) (rd : Reading) (o : Outcome) → (h : NextEnds k d rd o)
-    → (core_after k (step_of (Event.Next d) rd o)).world.subscriptions
+ended_world : (k : Core) (d : ℕ) (rd : Reading) (o : Outcome) → (h : NextEnds k d rd o) → (core_after k (step_of (Event.Next d) rd o)).world.subscriptions
     ≡ (close_effect_of k.world (number_by d (id_of h.frame) k.steps) (entry_at k.world (number_by d (id_of h.frame) k.steps))).subscriptions
 ended_world k d rd o h =
     ap (λ (ms : List Move). (run ms k.world).subscriptions) h.move
@@ -448,9 +378,7 @@ ended_change : (k : Core) (c d : ℕ) (rd : Reading) (o : Outcome) (b : Bool) �
     → ((s : ℕ) → s < length k.world.subscriptions → is_live d (subscription_at k.world s) ≡ true → entry_at k.world s ≢ None)
     → NextEnds k d rd o → StepChange k c (step_of (Event.Next d) rd o)
 ended_change k c d rd o true e entries h =
-    let same : d ≡ c = eqb-true d c e in
-    let s = number_by d (id_of h.frame) k.steps in
-    let can = can_end k.world d s h.free in
+    let same : d ≡ c = eqb-true d c e in let s = number_by d (id_of h.frame) k.steps in let can = can_end k.world d s h.free in
     let end = closes k.world s (entry_at k.world s) (entries s can.there can.live) in
     inr (inr (record {
       frame = h.frame;
@@ -474,10 +402,7 @@ ended_change k c d rd o true e entries h =
       closed = end.closed;
     }))
 ended_change k c d rd o false e entries h =
-    let w = k.world in
-    let s = number_by d (id_of h.frame) k.steps in
-    let can = can_end w d s h.free in
-    let end = closes w s (entry_at w s) (entries s can.there can.live) in
+    let w = k.world in let s = number_by d (id_of h.frame) k.steps in let can = can_end w d s h.free in let end = closes w s (entry_at w s) (entries s can.there can.live) in
     let own : end.new.connection ≡ d = end.connection ∙ live_owned d (subscription_at w s) can.live in
     let keeps = kept_but w (core_after k (step_of (Event.Next d) rd o)).world c s end.new (ended_world k d rd o h ∙ end.set_to) end.topic
     (live_of_others c 0 s w.subscriptions end.new end.connection (λ same. false≢true (sym e ∙ eq-eqb d c (sym own ∙ same)))) in
@@ -504,5 +429,5 @@ other_change k c e rd o other i reading = inl (plain_step k c e rd o (plain_even
 pub step_change : (k : Core) (c : ℕ) (e : Event) (rd : Reading) (o : Outcome) → In o (outcomes k e rd)
     → ((d s : ℕ) → s < length k.world.subscriptions → is_live d (subscription_at k.world s) ≡ true → entry_at k.world s ≢ None)
     → open_in (core_after k (step_of e rd o)).world.connections c ≡ true → StepChange k c (step_of e rd o)
-step_change k c (Event.Next d) rd o i entries reading = next_change k c d rd o (entries d) reading (next_kind k d rd o (first_refusal (needs_idle k.world d)) i)
+step_change k c (Event.Next d) rd o i entries reading = next_change k c d rd o (entries d) reading (next_kind k d rd o i)
 step_change k c event rd o i entries reading = other_change k c event rd o tt i reading

@@ -1,21 +1,10 @@
 -- The verdict of a transaction by its sender and seq is the one that a search finds.
-use Rattle.delivery.proofs.Words.Std.{◌≡◌, ◌≢◌, ℕ, zero, suc, ◌+◌, ◌-◌, ◌<◌, ◌≤◌, ◌==◌, Bool, true, false, cond, inl, inr, List, [], ◌∷◌, length, Option, Some, None, refl, sym, ap, subst, ◌∙◌, arith, eqb-true, eq-eqb, false≢true, cases_lt, slice_get-get_or, slice_get_past, slice_get, option_and_then}
-use Rattle.delivery.proofs.Words.Topics.{Topic, TxnId, Transaction, Decision, same_id, In, topics_of, names}
-use Rattle.delivery.proofs.Words.Lemmas.{id_equal}
-use Rattle.delivery.proofs.Words.Machine.{World, Undecided, SenderState, new_sender, sender_at, speaker_number, Move, Answer, move_refusal, move_effect, undecided_at, find_verdict, Numbered, txn_of_id, txn_count, Run, answers_of, final_world, Leaves, Decides}
-use Rattle.delivery.proofs.Machine.ByFound.{InEachCase, by_found, by_entry}
-use Rattle.delivery.proofs.Words.Core.{Core, each_number}
-use Rattle.delivery.proofs.Words.Views.{IsReached, verdict_at, view_of, verdict_list}
+use Rattle.delivery.proofs.Words.All.{◌≡◌, ◌≢◌, ℕ, zero, suc, ◌+◌, ◌-◌, ◌<◌, ◌≤◌, ◌==◌, Bool, true, false, cond, inl, inr, List, [], ◌∷◌, length, Option, Some, None, refl, sym, ap, subst, ◌∙◌, arith, eqb-true, eq-eqb, false≢true, cases_lt, slice_get-get_or, slice_get_past, slice_get, option_and_then, Topic, TxnId, Transaction, Decision, same_id, In, topics_of, names, id_equal, World, Undecided, SenderState, new_sender, sender_at, speaker_number, Move, Answer, move_refusal, move_effect, undecided_at, find_verdict, Numbered, txn_of_id, txn_count, Run, answers_of, final_world, Leaves, Decides, Core, each_number, IsReached, verdict_at, view_of, verdict_list}
+use Rattle.delivery.proofs.Words.Steps.{InEachCase, always, by_runs_moves, sender_in, In-append_cases, checked, in_flight, verdict_found, reached, beyond}
 use Rattle.std.proofs.lemmas.List.FromFn.{length-map-range_with_len, get_or-map-range_with_len}
-use Rattle.delivery.proofs.Machine.Invariant.{sender_in}
-use Rattle.delivery.proofs.Machine.SenderSteps.{In-append_cases}
-use Rattle.delivery.proofs.Machine.InvariantIsKept.{by_refusal, checked, in_flight, verdict_found}
-use Rattle.delivery.proofs.Theorem.AcceptedIsDue.{reached}
 use Rattle.delivery.proofs.Theorem.SeqsCount.{seqs_count}
-use Rattle.delivery.proofs.Core.ByRun.{by_run}
 use Rattle.delivery.proofs.Views.Lists.ByNumber.{get_or-each_number, length-each_number}
 use Rattle.delivery.proofs.Views.Runs.ByRunOfCore.{by_world}
-use Rattle.delivery.proofs.Machine.SubscriptionSteps.{beyond}
 
 -- ---- no transaction has seq 0
 
@@ -54,14 +43,12 @@ decided r c h n =
     ]
 
 happens : (r : Run) (e : Move) → AreOf [] (final_world r) → move_refusal (final_world r) e ≡ None → InEachCase (λ v o. AreOf [] v) (final_world r) e
-happens r (Decides c) h n = (decided r c h n, λ k. decided r c h n)
-happens r (Leaves c) h n = (h, λ s. by_entry (AreOf []) (final_world r) s h (λ k. h))
-happens r _ h n = (h, λ k. h)
+happens r (Decides c) h n = always (decided r c h n)
+happens r (Leaves c) h n = (h, λ s. (h, λ k. h))
+happens r _ h n = always h
 
 of_transactions : (r : Run) → AreOf [] (final_world r)
-of_transactions =
-    by_run (λ past w. AreOf [] w) (λ capacity log_limit clocks v i. absurd i)
-    (λ r e h. by_refusal (λ v o. AreOf [] v) (final_world r) e (λ why. h) (λ n. by_found (λ v o. AreOf [] v) (final_world r) e (happens r e h n)))
+of_transactions = by_runs_moves (λ past w. AreOf [] w) (λ capacity log_limit clocks v i. absurd i) (λ past w why h. h) happens
 
 -- ---- where a verdict is
 
@@ -73,9 +60,7 @@ record Stands (w : World) (id : TxnId) : Type 0 where
 
 found_stands : (r : Run) (id : TxnId) (u : Decision) → find_verdict id (final_world r).verdicts ≡ Some u → Stands (final_world r) id
 found_stands r id u e =
-    let w = final_world r in let f = verdict_found id w.verdicts u e in
-    let inv = (reached r).inv in let v = inv.voted u f.0 in
-    let same : v.row.txn.id ≡ id = v.id_is ∙ f.1 in
+    let w = final_world r in let f = verdict_found id w.verdicts u e in let inv = (reached r).inv in let v = inv.voted u f.0 in let same : v.row.txn.id ≡ id = v.id_is ∙ f.1 in
     let used : v.row.txn.id.seq ≤ (sender_in w.senders v.row.txn.id.sender.0).seq =
     (inv.serves v.row.txn.id.sender.0).used v.row (inv.consistent.from_ticket v.row v.stands) refl in
     let last : id.seq ≤ (sender_in w.senders id.sender.0).seq = subst (λ (z : TxnId). z.seq ≤ (sender_in w.senders z.sender.0).seq) same used in
@@ -100,8 +85,7 @@ table w = each_number (list_in w) 0 w.senders
 -- a sender that is there has a list
 pub list_of : (w : World) (s : ℕ) → s < length w.senders → slice_get (table w) s ≡ Some (list_in w s)
 list_of w s l =
-    let n = length-each_number (list_in w) 0 w.senders in
-    let z : 0 + s ≡ s = omega arith in
+    let n = length-each_number (list_in w) 0 w.senders in let z : 0 + s ≡ s = omega arith in
     slice_get-get_or (table w) s [] (omega arith)
     ∙ (ap Some (get_or-each_number (list_in w) 0 w.senders s [] l) ∙ ap (λ (m : ℕ). Some (list_in w m)) z)
 
@@ -114,8 +98,7 @@ verdict_of w s q = find_verdict (record { sender = record { 0 = s }; seq = q }) 
 
 in_list : (w : World) (s q : ℕ) → q ≢ 0 → q ≤ (sender_at w s).seq → slice_get (list_in w s) (q - 1) ≡ Some (verdict_of w s q)
 in_list w s q z l =
-    let n = length-map-range_with_len (verdict_of w s) 1 (sender_at w s).seq in
-    let p : 0 < q = positive q z in
+    let n = length-map-range_with_len (verdict_of w s) 1 (sender_at w s).seq in let p : 0 < q = positive q z in
     slice_get-get_or (list_in w s) (q - 1) None (omega arith)
     ∙ ap Some (get_or-map-range_with_len (verdict_of w s) 1 (sender_at w s).seq (q - 1) q None (omega arith) (omega arith))
   where
@@ -125,16 +108,14 @@ in_list w s q z l =
 
 -- a later seq is not in it
 pub not_in_list : (w : World) (s q : ℕ) → (sender_at w s).seq < q → slice_get (list_in w s) (q - 1) ≡ None
-not_in_list w s q l =
-    let n = length-map-range_with_len (verdict_of w s) 1 (sender_at w s).seq in slice_get_past (list_in w s) (q - 1) (omega arith)
+not_in_list w s q l = let n = length-map-range_with_len (verdict_of w s) 1 (sender_at w s).seq in slice_get_past (list_in w s) (q - 1) (omega arith)
 
 -- what isn't found where it can't stand
 none_found : (r : Run) (id : TxnId) → (Stands (final_world r) id → Prim.⊥) → None ≡ find_verdict id (final_world r).verdicts
-none_found r id h = by_case (find_verdict id (final_world r).verdicts) refl
-  where
-    by_case : (o : Option Decision) → find_verdict id (final_world r).verdicts ≡ o → None ≡ find_verdict id (final_world r).verdicts
-    by_case None e = sym e
-    by_case (Some u) e = absurd (h (found_stands r id u e))
+none_found r id h = (elim (find_verdict id (final_world r).verdicts) as (λ (o : Option Decision). find_verdict id (final_world r).verdicts ≡ o → None ≡ find_verdict id (final_world r).verdicts) [
+  | None ↦ λ e. sym e
+  | Some u ↦ λ e. absurd (h (found_stands r id u e))
+]) refl
 
 seq_case : (r : Run) (id : TxnId) (b : Bool) → (id.seq == 0) ≡ b
     → cond b None (option_and_then (λ found. found) (option_and_then (λ verdicts. slice_get verdicts (id.seq - 1)) (slice_get (table (final_world r)) id.sender.0)))

@@ -1,6 +1,5 @@
 -- A sender's verdicts among those of all.
-use Rattle.delivery.proofs.Words.Std.{◌≡◌, ℕ, ◌<◌, ◌-◌, List, [], ◌∷◌, ◌++◌, map, length, take, get_or, set, zero, suc, Option, None, refl, sym, ap, ◌∙◌, arith, Vec, Box, Global, map-set, map-append, get_or-map, set-get_or, take-map, length-map, length-append, take-append_seam, option_map}
-use Rattle.delivery.proofs.Words.Topics.{Decision}
+use Rattle.delivery.proofs.Words.All.{◌≡◌, ℕ, ◌<◌, ◌-◌, List, [], ◌∷◌, ◌++◌, map, length, take, get_or, set, zero, suc, Option, None, refl, sym, ap, ◌∙◌, arith, Vec, Box, Global, map-set, map-append, get_or-map, set-get_or, take-map, length-map, length-append, take-append_seam, option_map, Decision}
 use Rattle.mcast_txn.specs.declared.ballot.verdict.Verdict.{Verdict}
 
 -- a sender's verdicts as the code has them
@@ -16,10 +15,8 @@ abbrev pub shown : Held → List (Option Decision)
 shown verdicts = map decision verdicts.items
 
 -- what shows of a sender's
-shown_at : (xs : List Held) (v : List (List (Option Decision))) (s : ℕ) (old d : Held)
-    → map shown xs ≡ v → s < length xs → old ≡ get_or xs s d → shown old ≡ get_or v s []
-shown_at xs v s old d is there found =
-    ap shown found ∙ (sym (get_or-map shown xs s d [] there) ∙ ap (λ z. get_or z s []) is)
+shown_at : (xs : List Held) (v : List (List (Option Decision))) (s : ℕ) (old d : Held) → map shown xs ≡ v → s < length xs → old ≡ get_or xs s d → shown old ≡ get_or v s []
+shown_at xs v s old d is there found = ap shown found ∙ (sym (get_or-map shown xs s d [] there) ∙ ap (λ z. get_or z s []) is)
 
 written : (xs : List Held) (v : List (List (Option Decision))) (s : ℕ) (new : Held) (y : List (Option Decision))
     → map shown xs ≡ v → shown new ≡ y → map shown (set xs s new) ≡ set v s y
@@ -28,13 +25,11 @@ written xs v s new y is shows = map-set shown xs s new ∙ (ap (λ z. set z s (s
 -- where a sender's stay, all do
 pub seqs_kept : (xs : List Held) (v : List (List (Option Decision))) (s : ℕ) (new old d : Held)
     → map shown xs ≡ v → s < length xs → old ≡ get_or xs s d → new.items ≡ old.items → map shown (set xs s new) ≡ v
-seqs_kept xs v s new old d is there found same =
-    written xs v s new (get_or v s []) is (ap (λ z. map decision z) same ∙ shown_at xs v s old d is there found) ∙ set-get_or v s []
+seqs_kept xs v s new old d is there found same = written xs v s new (get_or v s []) is (ap (λ z. map decision z) same ∙ shown_at xs v s old d is there found) ∙ set-get_or v s []
 
 -- one slot more
 pub seq_added : (xs : List Held) (v : List (List (Option Decision))) (s : ℕ) (new old d : Held)
-    → map shown xs ≡ v → s < length xs → old ≡ get_or xs s d → new.items ≡ old.items ++ None ∷ []
-    → map shown (set xs s new) ≡ set v s (get_or v s [] ++ None ∷ [])
+    → map shown xs ≡ v → s < length xs → old ≡ get_or xs s d → new.items ≡ old.items ++ None ∷ [] → map shown (set xs s new) ≡ set v s (get_or v s [] ++ None ∷ [])
 seq_added xs v s new old d is there found more =
     written xs v s new (get_or v s [] ++ None ∷ []) is
     (ap (λ z. map decision z) more
@@ -53,8 +48,7 @@ seq_dropped xs v s n new old d is there found fewer many =
 
 -- one slot is filled
 pub slot_filled : (xs : List Held) (v : List (List (Option Decision))) (s q : ℕ) (new old d : Held) (slot : Option (Box Verdict Global))
-    → map shown xs ≡ v → s < length xs → old ≡ get_or xs s d → new.items ≡ set old.items q slot
-    → map shown (set xs s new) ≡ set v s (set (get_or v s []) q (decision slot))
+    → map shown xs ≡ v → s < length xs → old ≡ get_or xs s d → new.items ≡ set old.items q slot → map shown (set xs s new) ≡ set v s (set (get_or v s []) q (decision slot))
 slot_filled xs v s q new old d slot is there found filled =
     written xs v s new _ is
     (ap (λ z. map decision z) filled
@@ -65,9 +59,7 @@ slot_filled xs v s q new old d slot is there found filled =
 -- a list without the item that was pushed
 pub last_dropped : {X : Type 0} (xs : List X) (x : X) → take (length (xs ++ x ∷ []) - 1) (xs ++ x ∷ []) ≡ xs
 last_dropped xs x =
-    let n = length-append xs (x ∷ []) in
-    let m : length (xs ++ x ∷ []) - 1 ≡ length xs = omega (arith, n) in
-    ap (λ k. take k (xs ++ x ∷ [])) m ∙ take-append_seam xs (x ∷ [])
+    let n = length-append xs (x ∷ []) in let m : length (xs ++ x ∷ []) - 1 ≡ length xs = omega (arith, n) in ap (λ k. take k (xs ++ x ∷ [])) m ∙ take-append_seam xs (x ∷ [])
 
 -- what is there then was there before
 pub seqs_restored : (v : List (List (Option Decision))) (s : ℕ) (y z : List (List (Option Decision)))
@@ -75,8 +67,7 @@ pub seqs_restored : (v : List (List (Option Decision))) (s : ℕ) (y z : List (L
 seqs_restored v s y z added dropped =
     dropped ∙ (ap (λ w. set w s (take (length (get_or w s []) - 1) (get_or w s []))) added ∙ restored v s)
   where
-    restored : (v : List (List (Option Decision))) (s : ℕ)
-        → (let y = set v s (get_or v s [] ++ None ∷ []) in set y s (take (length (get_or y s []) - 1) (get_or y s []))) ≡ v
+    restored : (v : List (List (Option Decision))) (s : ℕ) → (let y = set v s (get_or v s [] ++ None ∷ []) in set y s (take (length (get_or y s []) - 1) (get_or y s []))) ≡ v
     restored [] s = refl
     restored (x ∷ xs) zero = ap (λ w. w ∷ xs) (last_dropped x None)
     restored (x ∷ xs) (suc s) = ap (λ w. x ∷ w) (restored xs s)

@@ -1,13 +1,10 @@
-use Rattle.delivery.proofs.Words.Std.{◌≡◌, ◌++◌, ◌<◌, ℕ, List, Some, length, sym, ap, ◌∙◌, arith, slice_get}
-use Rattle.delivery.proofs.Words.Topics.{Part, PartMessage, Stamp, Item}
-use Rattle.delivery.proofs.Words.Frames.{message_frame, message_id, spelling_of}
+use Rattle.delivery.proofs.Words.All.{◌≡◌, ◌++◌, ◌<◌, ℕ, List, Some, length, sym, ap, ◌∙◌, arith, slice_get, Part, PartMessage, Stamp, Item, message_frame, message_id, spelling_of}
 use Rattle.delivery.proofs.Views.Lists.TextOfMessages.{message_of, text_put}
 use Rattle.delivery.proofs.messages.put_messages.Goals as goal
 
 pub loop-i-preserved : goal.loop-i-preserved
 loop-i-preserved c =
-    let item = c.args.item.now in
-    let p = c.get-send.result.now in
+    let item = c.args.item.now in let p = c.get-send.result.now in
     let sends : c.deref.result.now.sends ≡ item.sends = ap (λ (q : Part). q.sends) c.deref.ensures ∙ ap (λ (i : Item). i.sends) c.item.view_is in
     let is : slice_get item.sends c.loop-i.i ≡ Some p = ap (λ (xs : List PartMessage). slice_get xs c.loop-i.i) (sym sends) ∙ c.get-send.ensures in
     let there : c.loop-i.i < length item.sends = omega (arith, c.loop-i-test.true, c.loop-i.auto.i-end, c.len-i-end.ensures, ap (λ (xs : List PartMessage). length xs) sends) in

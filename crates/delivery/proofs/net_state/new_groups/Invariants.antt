@@ -1,7 +1,5 @@
 use Rattle.std.proofs.Common.{◌≡◌, map, take}
-use Rattle.delivery.proofs.Words.Machine.{new_topics}
-use Rattle.delivery.proofs.Words.Core.{log_limit}
-use Rattle.delivery.proofs.Words.Views.{new_group}
+use Rattle.delivery.proofs.Words.All.{new_topics, log_limit, new_group}
 use Rattle.delivery.proofs.net_state.new_groups.Given as goal
 
 -- the groups of the first i topics

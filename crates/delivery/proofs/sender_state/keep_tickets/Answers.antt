@@ -1,17 +1,11 @@
-use Rattle.delivery.proofs.Words.Std.{◌≡◌, ◌<◌, ◌∷◌, [], ◌++◌, List, length, take, get_or, sym, ap, ◌∙◌, arith, append_assoc, take_more, slice_get-get_or}
-use Rattle.delivery.proofs.Words.Topics.{Ticket}
-use Rattle.delivery.proofs.Words.Lemmas.{some_same}
+use Rattle.delivery.proofs.Words.All.{◌≡◌, ◌<◌, ◌∷◌, [], ◌++◌, List, length, take, get_or, sym, ap, ◌∙◌, arith, append_assoc, take_more, slice_get-get_or, Ticket, some_same}
 use Rattle.delivery.proofs.sender_state.keep_tickets.Goals as goal
 
 pub loop-i-preserved : goal.loop-i-preserved
 loop-i-preserved c =
-    let tickets = c.args.tickets.now in
-    let i = c.loop-i.i in
-    let ticket = c.get.result in
-    let within : i < length tickets = omega arith in
+    let tickets = c.args.tickets.now in let i = c.loop-i.i in let ticket = c.get.result in let within : i < length tickets = omega arith in
     let found : ticket ≡ get_or tickets i ticket = some_same ticket (get_or tickets i ticket) (sym c.get.ensures ∙ slice_get-get_or tickets i ticket within) in
-    let len = c.push_reserved.ensures.len in
-    let before = c.loop-i.invariant.len in
+    let len = c.push_reserved.ensures.len in let before = c.loop-i.invariant.len in
     record {
       items = c.push_reserved.ensures.items
           ∙ (ap (λ (xs : List Ticket). xs ++ ticket ∷ []) c.loop-i.invariant.items

@@ -1,13 +1,11 @@
 use Rattle.std.proofs.Common.{ℕ, List, length, sym, ap, ◌∙◌, arith}
-use Rattle.delivery.proofs.Words.Core.{TopicList, new_core}
-use Rattle.delivery.proofs.Words.Views.{view_of}
+use Rattle.delivery.proofs.Words.All.{TopicList, new_core, view_of}
 use Rattle.delivery.proofs.Views.Runs.KeptRuns.{new_kept}
 use Rattle.delivery.proofs.net.Net.new.Goals as goal
 
 pub invariant_of-result : goal.invariant_of-result
 invariant_of-result c =
-    let parts = c.into_parts-names in
-    let topics : TopicList = record { names = parts.result.0; clocks = parts.result.1.items } in
+    let parts = c.into_parts-names in let topics : TopicList = record { names = parts.result.0; clocks = parts.result.1.items } in
     let is = c.in_ok-state.ensures
     ∙ ap (λ (clocks : List ℕ). view_of (new_core (record { names = parts.result.0; clocks = clocks }) c.args.capacity)) c.deref.ensures.value in
     let many = ap (λ (xs : List ℕ). length xs) parts.ensures.clocks in

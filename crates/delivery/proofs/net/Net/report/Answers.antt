@@ -1,6 +1,5 @@
 use Rattle.std.proofs.Common.{refl, subst}
-use Rattle.delivery.proofs.Words.Core.{KeptRun, IsDelivered}
-use Rattle.delivery.proofs.Words.Views.{report_in}
+use Rattle.delivery.proofs.Words.All.{KeptRun, IsDelivered, report_in}
 use Rattle.delivery.proofs.Views.Runs.KeptRuns.{is_delivered}
 use Rattle.delivery.proofs.net.Net.report.Goals as goal
 

@@ -1,5 +1,4 @@
-use Rattle.delivery.proofs.Words.Std.{◌≡◌, ◌≤◌, ◌+◌, ◌++◌, length, into_iter_items}
-use Rattle.delivery.proofs.Words.Core.{HasTaken, HasReport}
+use Rattle.delivery.proofs.Words.All.{◌≡◌, ◌≤◌, ◌+◌, ◌++◌, length, into_iter_items, HasTaken, HasReport}
 use Rattle.std.specs.Vec.Iter.{into_iter_len}
 use Rattle.delivery.proofs.net.Net.run.Given as goal
 

@@ -1,6 +1,4 @@
-use Rattle.delivery.proofs.Words.Std.{◌≡◌, refl, ℕ, ◌-◌, List, ◌∷◌, [], ◌++◌, ap, subst, ◌∙◌, arith, vec_len, vec_capacity, length, reverse, take}
-use Rattle.delivery.proofs.Words.Core.{KeptRun, HasAnswered}
-use Rattle.delivery.proofs.Words.Views.{steps_of}
+use Rattle.delivery.proofs.Words.All.{◌≡◌, refl, ℕ, ◌-◌, List, ◌∷◌, [], ◌++◌, ap, subst, ◌∙◌, arith, vec_len, vec_capacity, length, reverse, take, KeptRun, HasAnswered, steps_of}
 use Rattle.delivery.proofs.Views.Runs.KeptRuns.{opening_of, has_report, has_answered, step_kept, names_stay, capacity_stays}
 use Rattle.delivery.proofs.net.Net.step.Goals as goal
 use Rattle.delivery.proofs.Views.Runs.HeldByNet.{are_held}
@@ -13,9 +11,7 @@ invariant_of-self c =
 
 pub returns-clause-kept : goal.returns-clause-kept
 returns-clause-kept c =
-    let clocks = c.self.inside.clocks.items in
-    let held = c.self.inside.state in
-    let new = c.answer-outcome.new.self in
+    let clocks = c.self.inside.clocks.items in let held = c.self.inside.state in let new = c.answer-outcome.new.self in
     let names : take (length clocks) new.names ≡ take (length clocks) held.names = names_stay clocks c.self.inside.kept.items held new c.self.inside.clients c.answer-outcome.new.clients c.args.event c.answer-outcome.result c.self.invariant c.answer-outcome.ensures in
     let capacity : new.capacity ≡ held.capacity = capacity_stays clocks c.self.inside.kept.items held new c.self.inside.clients c.answer-outcome.new.clients c.args.event c.answer-outcome.result c.self.invariant c.answer-outcome.ensures in
     let spare : vec_capacity c.push_reserved.new.self - vec_len c.push_reserved.new.self ≡ vec_capacity c.self.inside.kept - vec_len c.self.inside.kept - 1 =
@@ -35,10 +31,7 @@ returns-clause-kept c =
 
 pub returns-clause-answered : goal.returns-clause-answered
 returns-clause-answered c =
-    let clocks = c.self.inside.clocks.items in
-    let held = c.self.inside.state in
-    let new = c.answer-outcome.new.self in
-    let kept = c.self.inside.kept.items in
+    let clocks = c.self.inside.clocks.items in let held = c.self.inside.state in let new = c.answer-outcome.new.self in let kept = c.self.inside.kept.items in
     let names : take (length clocks) new.names ≡ take (length clocks) held.names = names_stay clocks kept held new c.self.inside.clients c.answer-outcome.new.clients c.args.event c.answer-outcome.result c.self.invariant c.answer-outcome.ensures in
     let capacity : new.capacity ≡ held.capacity = capacity_stays clocks kept held new c.self.inside.clients c.answer-outcome.new.clients c.args.event c.answer-outcome.result c.self.invariant c.answer-outcome.ensures in
     let old : KeptRun = record {

@@ -1,7 +1,4 @@
-use Rattle.delivery.proofs.Words.Std.{[], refl, subst, sym, IfOk-weaker}
-use Rattle.delivery.proofs.Words.Topics.{TraceData}
-use Rattle.delivery.proofs.Words.Core.{KeptRun, trace_of, IsTraced}
-use Rattle.delivery.proofs.Words.Views.{report_in}
+use Rattle.delivery.proofs.Words.All.{[], refl, subst, sym, IfOk-weaker, TraceData, KeptRun, trace_of, IsTraced, report_in}
 use Rattle.delivery.proofs.Views.Runs.KeptRuns.{opening_of}
 use Rattle.delivery.proofs.Traces.OfNets.{held_few, held_fits, held_traced}
 use Rattle.delivery.proofs.net.Net.trace.Goals as goal

@@ -1,4 +1,4 @@
-use Rattle.delivery.proofs.Words.Views.{no_endpoint}
+use Rattle.delivery.proofs.Words.All.{no_endpoint}
 use Rattle.delivery.proofs.Views.Events.NextFrames.{next_acknowledges}
 use Rattle.delivery.proofs.net_state.NetState.acknowledge.Goals as goal
 

@@ -1,7 +1,4 @@
-use Rattle.delivery.proofs.Words.Std.{ℕ, List, ◌-◌, length, Option, sym, ap, subst, ◌∙◌, arith, take, lt-ltb}
-use Rattle.delivery.proofs.Words.Topics.{SendersState}
-use Rattle.delivery.proofs.Words.Core.{Event}
-use Rattle.delivery.proofs.Words.Views.{Asks, AsksUnnamed, View, MakesBoth}
+use Rattle.delivery.proofs.Words.All.{ℕ, List, ◌-◌, length, Option, sym, ap, subst, ◌∙◌, arith, take, lt-ltb, SendersState, Event, Asks, AsksUnnamed, View, MakesBoth}
 use Rattle.delivery.proofs.Views.Events.TopicTaken.{first_use_wants, grouped_asks, grouped_length, made_is, name_taken, named_room, none_taken, topic_taken, has_destination_of, uses_other}
 use Rattle.delivery.proofs.net_state.NetState.act.Goals.{then-made, else-made}
 use Rattle.delivery.proofs.Views.Clients.BothOfStep.{faulted_both}
@@ -9,20 +6,13 @@ use Rattle.delivery.proofs.Views.Events.NextFaults.{may_lack, none_claimed}
 use Rattle.delivery.proofs.net_state.NetState.act.Goals as goal
 
 pub make_topic-requires : goal.make_topic-requires
-make_topic-requires c less =
-    let asks = c.requires.asks in
-    named_room asks.0 c.args.connection asks.1 asks.2 c.args.step.action c.args.step.receipt c.args.self.now asks.3 less
+make_topic-requires c less = let asks = c.requires.asks in named_room asks.0 c.args.connection asks.1 asks.2 c.args.step.action c.args.step.receipt c.args.self.now asks.3 less
 
 pub forget_name-requires : goal.forget_name-requires
-forget_name-requires c =
-    let less = c.in_default.ensures.lacks in
-    let same = ap (λ (v : View). length v.names) c.in_default.ensures.err in
-    omega (arith, less, same)
+forget_name-requires c = let less = c.in_default.ensures.lacks in let same = ap (λ (v : View). length v.names) c.in_default.ensures.err in omega (arith, less, same)
 
 pub try_act-requires-clause-there : goal.try_act-requires-clause-there
-try_act-requires-clause-there c =
-    let same = ap (λ (v : View). length v.endpoints) c.in-Ok.ensures.ok ∙ grouped_length c.args.self.now in
-    omega (arith, same, c.requires.there)
+try_act-requires-clause-there c = let same = ap (λ (v : View). length v.endpoints) c.in-Ok.ensures.ok ∙ grouped_length c.args.self.now in omega (arith, same, c.requires.there)
 
 pub try_act-requires-clause-asks : goal.try_act-requires-clause-asks
 try_act-requires-clause-asks c =
@@ -38,8 +28,7 @@ try_act-requires-clause-asks c =
 -- there is no memory for the group: the name is taken back
 pub returns-in_default : goal.returns-in_default
 returns-in_default c k f left asks kept =
-    let held = c.args.self.now in
-    let receipt = c.args.step.receipt in
+    let held = c.args.self.now in let receipt = c.args.step.receipt in
     let used = sym (made_is k c.args.connection f left c.args.step.action receipt held asks) ∙ lt-ltb (length held.groups) (length held.names) c.in_default.ensures.lacks in
     let unnamed = λ (v : View). record v { names = take (length v.names - 1) v.names } in
     faulted_both k c.args.connection c.end_with.result c.end_with.new.self c.args.clients.now c.end_with.ensures.faulted
@@ -59,8 +48,7 @@ returns-in-Ok-try_act c k f left asks kept =
 -- the frame can't be done: a topic that it made is taken back
 pub returns-after-made : goal.returns-after-made
 returns-after-made c k f left asks kept =
-    let held = c.args.self.now in
-    let receipt = c.args.step.receipt in
+    let held = c.args.self.now in let receipt = c.args.step.receipt in
     let made = sym (made_is k c.args.connection f left c.args.step.action receipt held asks) ∙ sym c.in-Ok.ensures.made in
     let grouped = subst (λ (v : View). Asks k c.args.connection f left c.args.step.action receipt v) (sym c.in-Ok.ensures.ok)
     (grouped_asks k c.args.connection f left c.args.step.action receipt held asks) in

@@ -1,6 +1,5 @@
 use Rattle.std.proofs.Common.{◌≡◌, ◌++◌, map, take}
-use Rattle.delivery.proofs.Words.Topics.{GroupState}
-use Rattle.delivery.proofs.Words.Core.{traced_log}
+use Rattle.delivery.proofs.Words.All.{GroupState, traced_log}
 use Rattle.delivery.proofs.Traces.Lists.{made_of}
 use Rattle.delivery.proofs.net_state.NetState.add_logs.Given as goal
 

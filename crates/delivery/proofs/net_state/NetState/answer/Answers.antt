@@ -1,6 +1,5 @@
 use Rattle.std.proofs.Common.{refl, sym, subst}
-use Rattle.delivery.proofs.Words.Core.{Event}
-use Rattle.delivery.proofs.Words.Views.{MakesBoth}
+use Rattle.delivery.proofs.Words.All.{Event, MakesBoth}
 use Rattle.delivery.proofs.Views.Clients.BothOfStep.{plain_both}
 use Rattle.delivery.proofs.net_state.NetState.answer.Goals as goal
 

@@ -1,6 +1,4 @@
-use Rattle.delivery.proofs.Words.Std.{◌≡◌, List, get_or, refl, sym, ap, ◌∙◌, slice_get, slice_get_past}
-use Rattle.delivery.proofs.Words.Machine.{Objection}
-use Rattle.delivery.proofs.Words.Views.{gone_objection, there_objection, View, EndpointView, no_endpoint, number_among}
+use Rattle.delivery.proofs.Words.All.{◌≡◌, List, get_or, refl, sym, ap, ◌∙◌, slice_get, slice_get_past, Objection, gone_objection, there_objection, View, EndpointView, no_endpoint, number_among}
 use Rattle.delivery.proofs.Views.Events.OneMove.{endpoint_read}
 use Rattle.delivery.proofs.Views.Events.ConnectionIsThere.{endpoint_found}
 use Rattle.delivery.proofs.net_state.NetState.check_there.Goals as goal

@@ -1,8 +1,4 @@
-use Rattle.delivery.proofs.Words.Std.{ℕ, length, get_or, refl, sym, ap, subst, ◌∙◌, arith, List, Option, Result, Ok}
-use Rattle.delivery.proofs.Words.Topics.{after_claim, claim_refusal, claimed_gate}
-use Rattle.delivery.proofs.Words.Frames.{NoMemory, connected_frame, spelling_of}
-use Rattle.delivery.proofs.Words.Core.{ConnectionFault}
-use Rattle.delivery.proofs.Words.Views.{MayResume, with_sender_of, MayEnd, View, no_endpoint, written_endpoint}
+use Rattle.delivery.proofs.Words.All.{ℕ, length, get_or, refl, sym, ap, subst, ◌∙◌, arith, List, Option, Result, Ok, after_claim, claim_refusal, claimed_gate, NoMemory, connected_frame, spelling_of, ConnectionFault, MayResume, with_sender_of, MayEnd, View, no_endpoint, written_endpoint}
 use Rattle.delivery.proofs.Views.Endpoints.EndpointChanges.{changed_length, taken_back}
 use Rattle.delivery.proofs.Views.Events.ConnectStep.{claim_lacks, claim_refused, claim_rests, connect_both, sender_endpoints}
 use Rattle.delivery.proofs.net_state.NetState.connect.Goals as goal
@@ -29,21 +25,17 @@ pub speak_for-requires : goal.speak_for-requires
 speak_for-requires c =
     let v = c.args.self.now in
     let n = changed_length v c.write.new.self c.args.connection (written_endpoint (spelling_of connected_frame) (get_or v.endpoints c.args.connection no_endpoint)) (c.in-Ok.ensures.ok no_endpoint) in
-    let m = ap (λ (x : View). length x.endpoints) c.in-Ok-claim.ensures.held ∙ sender_endpoints _ c.write.new.self in
-    omega (arith, n, m, c.requires.there)
+    let m = ap (λ (x : View). length x.endpoints) c.in-Ok-claim.ensures.held ∙ sender_endpoints _ c.write.new.self in omega (arith, n, m, c.requires.there)
 
 pub take_back-requires : goal.take_back-requires
 take_back-requires c =
     let v = c.args.self.now in
     let n = changed_length v c.write.new.self c.args.connection (written_endpoint (spelling_of connected_frame) (get_or v.endpoints c.args.connection no_endpoint)) (c.in-Ok.ensures.ok no_endpoint) in
-    let m = ap (λ (x : View). length x.endpoints) c.in-Err-claim.ensures.err in
-    omega (arith, n, m, c.requires.there)
+    let m = ap (λ (x : View). length x.endpoints) c.in-Err-claim.ensures.err in omega (arith, n, m, c.requires.there)
 
 pub returns-in-Ok-claim-clause-ok : goal.returns-in-Ok-claim-clause-ok
 returns-in-Ok-claim-clause-ok c k f left receipt asks kept =
-    let h = c.in-Ok-claim.ensures in
-    let clients = c.args.clients.now in
-    let id = c.id_of-id.ensures in
+    let h = c.in-Ok-claim.ensures in let clients = c.args.clients.now in let id = c.id_of-id.ensures in
     connect_both k c.args.connection f left c.args.client.now receipt c.args.self.now clients asks kept
     c.write.new.self c.claim.new.self c.speak_for.new.self c.in-Ok-claim.sender.0 c.claim.new.clients no_endpoint
     (ap (λ (o : Option (List ℕ)). claim_refusal o clients) (sym id) ∙ sym c.in_default.ensures)

@@ -1,16 +1,12 @@
-use Rattle.delivery.proofs.Words.Std.{◌≡◌, List, Some, None, get_or, sym, ap, ◌∙◌, get_or_default}
-use Rattle.delivery.proofs.Words.Topics.{GroupState}
-use Rattle.delivery.proofs.Words.Views.{take_objection, sub_held, next_of, next_held, after_next_item, View, SubView, no_group, no_endpoint, no_sub}
+use Rattle.delivery.proofs.Words.All.{◌≡◌, List, Some, None, get_or, sym, ap, ◌∙◌, get_or_default, GroupState, take_objection, sub_held, next_of, next_held, after_next_item, View, SubView, no_group, no_endpoint, no_sub}
 use Rattle.delivery.proofs.Views.Events.TakeStep.{free_there, free_endpoint, next_there, item_put}
 use Rattle.delivery.proofs.net_state.NetState.deliver.Goals as goal
 use Rattle.delivery.proofs.Views.Subscriptions.ClosedIsDropped.{sub_read}
 
 pub returns-clause-ok : goal.returns-clause-ok
 returns-clause-ok c =
-    let held = Rattle.delivery.specs.contracts.net_state.NetState.the_view c.self.inside in
-    let y = Rattle.delivery.specs.contracts.sub.Sub.the_view c.subscription.inside in
-    let item = c.in-Some.item.now in
-    let free : take_objection held c.args.sub ≡ None = ap (λ (v : View). take_objection v c.args.sub) c.self.view_is ∙ c.requires in
+    let held = Rattle.delivery.specs.contracts.net_state.NetState.the_view c.self.inside in let y = Rattle.delivery.specs.contracts.sub.Sub.the_view c.subscription.inside in
+    let item = c.in-Some.item.now in let free : take_objection held c.args.sub ≡ None = ap (λ (v : View). take_objection v c.args.sub) c.self.view_is ∙ c.requires in
     let there = free_there held c.args.sub free in
     let sub : sub_held held c.args.sub ≡ y =
     get_or_default held.subs c.args.sub no_sub c.index-subscription.result.now there ∙ (sym c.index-subscription.ensures ∙ sym c.subscription.view_is) in

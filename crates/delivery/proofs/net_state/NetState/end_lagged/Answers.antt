@@ -1,7 +1,4 @@
-use Rattle.delivery.proofs.Words.Std.{◌≡◌, ◌<◌, ℕ, Bool, true, false, List, None, length, get_or, sym, ap, subst, ◌∙◌, get_or_default, length-set}
-use Rattle.delivery.proofs.Words.Topics.{GroupState}
-use Rattle.delivery.proofs.Words.Core.{ConnectionFault, Event, Outcome, Refusal}
-use Rattle.delivery.proofs.Words.Views.{Makes, take_objection, sub_held, group_held, next_held, has_lagged, View, SubView, no_group, no_endpoint, view_of, no_sub}
+use Rattle.delivery.proofs.Words.All.{◌≡◌, ◌<◌, ℕ, Bool, true, false, List, None, length, get_or, sym, ap, subst, ◌∙◌, get_or_default, length-set, GroupState, ConnectionFault, Event, Outcome, Refusal, Makes, take_objection, sub_held, group_held, next_held, has_lagged, View, SubView, no_group, no_endpoint, view_of, no_sub}
 use Rattle.delivery.proofs.Views.Events.TakeStep.{free_there, free_endpoint, take_nothing, lag_without, take_lags, after_lag, lag_put}
 use Rattle.delivery.proofs.net_state.NetState.end_lagged.Goals as goal
 use Rattle.delivery.proofs.Views.Subscriptions.ClosedIsDropped.{sub_read}
@@ -24,8 +21,7 @@ endpoint_there held s y free sub =
 
 pub returns-then-not-has_lagged : goal.returns-then-not-has_lagged
 returns-then-not-has_lagged c k reached is =
-    let held = Rattle.delivery.specs.contracts.net_state.NetState.the_view c.self.inside in
-    let y = Rattle.delivery.specs.contracts.sub.Sub.the_view c.subscription.inside in
+    let held = Rattle.delivery.specs.contracts.net_state.NetState.the_view c.self.inside in let y = Rattle.delivery.specs.contracts.sub.Sub.the_view c.subscription.inside in
     let free : take_objection held c.args.sub ≡ None = ap (λ (v : View). take_objection v c.args.sub) c.self.view_is ∙ c.requires.open in
     let sub = held_is held c.args.sub c.index-subscription.result.now y free c.index-subscription.ensures c.subscription.view_is in
     let lag = lag_is held c.args.sub y c.deref.result.now false sub c.deref.ensures.value c.if-not-has_lagged.ensures in
@@ -37,16 +33,14 @@ returns-then-not-has_lagged c k reached is =
 
 pub write-requires : goal.write-requires
 write-requires c =
-    let held = Rattle.delivery.specs.contracts.net_state.NetState.the_view c.self.inside in
-    let y = Rattle.delivery.specs.contracts.sub.Sub.the_view c.subscription.inside in
+    let held = Rattle.delivery.specs.contracts.net_state.NetState.the_view c.self.inside in let y = Rattle.delivery.specs.contracts.sub.Sub.the_view c.subscription.inside in
     let free : take_objection held c.args.sub ≡ None = ap (λ (v : View). take_objection v c.args.sub) c.self.view_is ∙ c.requires.open in
     let sub = held_is held c.args.sub c.index-subscription.result.now y free c.index-subscription.ensures c.subscription.view_is in
     subst (λ (v : View). y.connection < length v.endpoints) c.self.view_is (endpoint_there held c.args.sub y free sub)
 
 pub returns-in_default : goal.returns-in_default
 returns-in_default c k reached is =
-    let held = Rattle.delivery.specs.contracts.net_state.NetState.the_view c.self.inside in
-    let y = Rattle.delivery.specs.contracts.sub.Sub.the_view c.subscription.inside in
+    let held = Rattle.delivery.specs.contracts.net_state.NetState.the_view c.self.inside in let y = Rattle.delivery.specs.contracts.sub.Sub.the_view c.subscription.inside in
     let free : take_objection held c.args.sub ≡ None = ap (λ (v : View). take_objection v c.args.sub) c.self.view_is ∙ c.requires.open in
     let sub = held_is held c.args.sub c.index-subscription.result.now y free c.index-subscription.ensures c.subscription.view_is in
     let lag = lag_is held c.args.sub y c.deref.result.now true sub c.deref.ensures.value c.if-not-has_lagged.ensures in
@@ -58,8 +52,7 @@ returns-in_default c k reached is =
 
 pub begin_leaving-requires : goal.begin_leaving-requires
 begin_leaving-requires c =
-    let held = Rattle.delivery.specs.contracts.net_state.NetState.the_view c.self.inside in
-    let y = Rattle.delivery.specs.contracts.sub.Sub.the_view c.subscription.inside in
+    let held = Rattle.delivery.specs.contracts.net_state.NetState.the_view c.self.inside in let y = Rattle.delivery.specs.contracts.sub.Sub.the_view c.subscription.inside in
     let free : take_objection held c.args.sub ≡ None = ap (λ (v : View). take_objection v c.args.sub) c.self.view_is ∙ c.requires.open in
     let sub = held_is held c.args.sub c.index-subscription.result.now y free c.index-subscription.ensures c.subscription.view_is in
     let endpoints = subst (λ (v : View). y.connection < length v.endpoints) c.self.view_is (endpoint_there held c.args.sub y free sub) in
@@ -68,8 +61,7 @@ begin_leaving-requires c =
 
 pub returns : goal.returns
 returns c k reached is =
-    let held = Rattle.delivery.specs.contracts.net_state.NetState.the_view c.self.inside in
-    let y = Rattle.delivery.specs.contracts.sub.Sub.the_view c.subscription.inside in
+    let held = Rattle.delivery.specs.contracts.net_state.NetState.the_view c.self.inside in let y = Rattle.delivery.specs.contracts.sub.Sub.the_view c.subscription.inside in
     let free : take_objection held c.args.sub ≡ None = ap (λ (v : View). take_objection v c.args.sub) c.self.view_is ∙ c.requires.open in
     let sub = held_is held c.args.sub c.index-subscription.result.now y free c.index-subscription.ensures c.subscription.view_is in
     let lag = lag_is held c.args.sub y c.deref.result.now true sub c.deref.ensures.value c.if-not-has_lagged.ensures in

@@ -1,7 +1,4 @@
-use Rattle.delivery.proofs.Words.Std.{◌≡◌, ℕ, get_or, sym, ap, ◌∙◌, arith, option_map}
-use Rattle.delivery.proofs.Words.Lemmas.{none_some, some_same}
-use Rattle.delivery.proofs.Words.Core.{number_by}
-use Rattle.delivery.proofs.Words.Views.{receipt_text, left_at, LeftView, no_endpoint, written_endpoint}
+use Rattle.delivery.proofs.Words.All.{◌≡◌, ℕ, get_or, sym, ap, ◌∙◌, arith, option_map, none_some, some_same, number_by, receipt_text, left_at, LeftView, no_endpoint, written_endpoint}
 use Rattle.delivery.proofs.Views.Endpoints.EndpointChanges.{changed_length}
 use Rattle.delivery.proofs.Views.Events.NextSubs.{next_finds, next_leaves, next_unsubscribes}
 use Rattle.delivery.proofs.net_state.NetState.end_subscription.Goals as goal
@@ -25,13 +22,8 @@ returns-clause-ok c k f left asks =
 
 pub unreachable-requires-in-None : goal.unreachable-requires-in-None
 unreachable-requires-in-None c =
-    let k = c.requires.asks.0 in
-    let f = c.requires.asks.1 in
-    let left = c.requires.asks.2 in
-    let asks = c.requires.asks.3 in
-    let v = c.args.self.now in
-    let mid = c.write_receipt.new.self in
-    let wrote = c.in_ok-write_receipt.ensures.ok no_endpoint in
+    let k = c.requires.asks.0 in let f = c.requires.asks.1 in let left = c.requires.asks.2 in let asks = c.requires.asks.3 in let v = c.args.self.now in
+    let mid = c.write_receipt.new.self in let wrote = c.in_ok-write_receipt.ensures.ok no_endpoint in
     let found = next_finds k c.args.connection f left c.args.id.now c.args.receipt.now v mid no_endpoint asks wrote in
     let same : c.in-Some.sub ≡ number_by c.args.connection c.args.id.now k.steps = some_same _ _ (sym c.in-Some.is ∙ (c.find_sub.ensures ∙ found)) in
     let end = next_leaves k c.args.connection f left c.args.id.now c.args.receipt.now v mid no_endpoint asks wrote in

@@ -1,6 +1,5 @@
 use Rattle.std.proofs.Common.{List, ℕ, Some, None, sym, ap, ◌∙◌}
-use Rattle.delivery.proofs.Words.Core.{is_faulted}
-use Rattle.delivery.proofs.Words.Views.{no_endpoint}
+use Rattle.delivery.proofs.Words.All.{is_faulted, no_endpoint}
 use Rattle.delivery.proofs.Views.Events.NextFrames.{next_ends_with}
 use Rattle.delivery.proofs.net_state.NetState.end_with.Goals as goal
 

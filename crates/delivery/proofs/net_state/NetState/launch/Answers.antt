@@ -1,5 +1,4 @@
-use Rattle.delivery.proofs.Words.Std.{◌≡◌, ◌<◌, ◌+◌, ℕ, length, get_or, set, sym, ap, subst, ◌∙◌, set-get_or}
-use Rattle.delivery.proofs.Words.Views.{PromisedRows, is_flying, speaker_at, View, SenderView, no_endpoint, number_among}
+use Rattle.delivery.proofs.Words.All.{◌≡◌, ◌<◌, ◌+◌, ℕ, length, get_or, set, sym, ap, subst, ◌∙◌, set-get_or, PromisedRows, is_flying, speaker_at, View, SenderView, no_endpoint, number_among}
 use Rattle.delivery.proofs.Views.Events.ConnectionIsThere.{endpoint_found}
 use Rattle.delivery.proofs.Views.Senders.RoomLasts.{count_launched}
 use Rattle.delivery.proofs.Views.Verdicts.VerdictTable.{seqs_restored}
@@ -8,10 +7,7 @@ use Rattle.delivery.proofs.net_state.NetState.launch.Goals as goal
 
 pub invariant_of-self-in-Ok-launch : goal.invariant_of-self-in-Ok-launch
 invariant_of-self-in-Ok-launch c =
-    let senders = c.self.inside.senders.items in
-    let s = c.number_of-index.result in
-    let v = c.args.self.now in
-    let endpoint = c.index.result.now in
+    let senders = c.self.inside.senders.items in let s = c.number_of-index.result in let v = c.args.self.now in let endpoint = c.index.result.now in
     let at = c.index.ensures ∙ ap (λ (x : View). get_or x.endpoints c.args.connection endpoint) c.self.view_is in
     let number : s ≡ speaker_at v c.args.connection =
     c.number_of-index.ensures ∙ ap (number_among v.senders) (endpoint_found v.endpoints c.args.connection endpoint no_endpoint c.requires.there at) in
@@ -23,9 +19,7 @@ invariant_of-self-in-Ok-launch c =
 
 pub returns-in-Err-clause-err : goal.returns-in-Err-clause-err
 returns-in-Err-clause-err c =
-    let senders = c.self.inside.senders.items in
-    let s = c.number_of-index.result in
-    let same = c.in-Err.ensures.err ∙ c.index_mut-state.ensures.value in
+    let senders = c.self.inside.senders.items in let s = c.number_of-index.result in let same = c.in-Err.ensures.err ∙ c.index_mut-state.ensures.value in
     let kept : set senders s c.launch.new.self ≡ senders = ap (λ (x : SenderView). set senders s x) same ∙ set-get_or senders s _ in
     let table = seqs_restored _ s c.add_seq.new.self c.drop_seq.new.self c.in-Ok.ensures.ok c.drop_seq.ensures in
     let rows : c.forgo-in-Err.new.self.rows ≡ c.self.inside.commits.rows =

@@ -1,6 +1,5 @@
 use Rattle.std.proofs.Common.{refl, ap, ◌∙◌}
-use Rattle.delivery.proofs.Words.Core.{new_core, log_limit}
-use Rattle.delivery.proofs.Words.Views.{PromisedRows, view_of}
+use Rattle.delivery.proofs.Words.All.{new_core, log_limit, PromisedRows, view_of}
 use Rattle.delivery.proofs.Views.Lists.ByNumber.{new_groups_view}
 use Rattle.delivery.proofs.Views.Runs.SameView.{same_view}
 use Rattle.delivery.proofs.net_state.NetState.new.Goals as goal

@@ -1,6 +1,5 @@
 use Rattle.std.proofs.Common.{◌≡◌, ℕ, length, sym, ap, subst, ◌∙◌, arith}
-use Rattle.delivery.proofs.Words.Core.{Event, Outcome, accepted_of, text_out, unread_at, names_at}
-use Rattle.delivery.proofs.Words.Views.{Makes, View, view_of, endpoint_view, with_new_endpoint}
+use Rattle.delivery.proofs.Words.All.{Event, Outcome, accepted_of, text_out, unread_at, names_at, Makes, View, view_of, endpoint_view, with_new_endpoint}
 use Rattle.delivery.proofs.Views.Lists.ByNumber.{length-each_number}
 use Rattle.delivery.proofs.Views.Endpoints.NothingBeforeOpen.{untouched}
 use Rattle.delivery.proofs.Views.Events.OpenStep.{open_makes, open_without}
@@ -17,5 +16,4 @@ returns-in-Ok c k reached is =
     (subst (λ (n : ℕ). Makes k Event.Open (Outcome.Opened n) (with_new_endpoint (view_of k))) (sym number) (open_makes k (untouched k (length k.world.connections) reached (omega arith))))
 
 pub returns-in-Err : goal.returns-in-Err
-returns-in-Err c k reached is =
-    subst (λ (v : View). Makes k Event.Open Outcome.NoMemory v) (sym (c.in-Err.ensures.err ∙ is)) (open_without k)
+returns-in-Err c k reached is = subst (λ (v : View). Makes k Event.Open Outcome.NoMemory v) (sym (c.in-Err.ensures.err ∙ is)) (open_without k)

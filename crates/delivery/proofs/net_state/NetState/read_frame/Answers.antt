@@ -1,7 +1,4 @@
-use Rattle.delivery.proofs.Words.Std.{Option, Some, None, get_or, refl, sym, ap, ◌∙◌, arith, Result, Ok, Err}
-use Rattle.delivery.proofs.Words.Frames.{Step}
-use Rattle.delivery.proofs.Words.Core.{Outcome, Refusal}
-use Rattle.delivery.proofs.Words.Views.{EndpointFault, staged_endpoint, no_endpoint}
+use Rattle.delivery.proofs.Words.All.{Option, Some, None, get_or, refl, sym, ap, ◌∙◌, arith, Result, Ok, Err, Step, Outcome, Refusal, EndpointFault, staged_endpoint, no_endpoint}
 use Rattle.delivery.proofs.Views.Events.ReadingChecks.{idle_checked}
 use Rattle.delivery.proofs.Views.Endpoints.EndpointChanges.{changed_length}
 use Rattle.delivery.proofs.Views.Events.NextFaults.{read_judged, next_waits, next_takes, next_faults}
@@ -10,23 +7,19 @@ use Rattle.delivery.proofs.net_state.NetState.read_frame.Goals as goal
 
 pub act-requires-clause-there : goal.act-requires-clause-there
 act-requires-clause-there c =
-    let v = c.args.self.now in
-    let w = c.next_step.new.self in
+    let v = c.args.self.now in let w = c.next_step.new.self in
     let n = changed_length (record v { names = w.names }) w c.args.connection (staged_endpoint (get_or w.endpoints c.args.connection no_endpoint).stage (get_or v.endpoints c.args.connection no_endpoint)) (c.next_step.ensures.stays no_endpoint) in
     omega (arith, n, c.requires.there)
 
 pub refuse-requires : goal.refuse-requires
 refuse-requires c =
-    let v = c.args.self.now in
-    let w = c.next_step.new.self in
+    let v = c.args.self.now in let w = c.next_step.new.self in
     let n = changed_length (record v { names = w.names }) w c.args.connection (staged_endpoint (get_or w.endpoints c.args.connection no_endpoint).stage (get_or v.endpoints c.args.connection no_endpoint)) (c.next_step.ensures.stays no_endpoint) in
     omega (arith, n, c.requires.there)
 
 pub act-requires-clause-asks : goal.act-requires-clause-asks
 act-requires-clause-asks c =
-    let k = c.requires.idle.0 in
-    let step = c.in-Ok-Some.step in
-    let known : Result (Option Step) EndpointFault = Ok (Some step) in
+    let k = c.requires.idle.0 in let step = c.in-Ok-Some.step in let known : Result (Option Step) EndpointFault = Ok (Some step) in
     let h = read_judged k c.args.connection c.args.self.now c.next_step.new.self c.next_step.result known no_endpoint c.requires.idle.1 c.requires.idle.2 c.requires.idle.3
     (c.next_step.ensures.stays no_endpoint) (c.next_step.ensures.judges no_endpoint)
     (c.in-Ok-Some.is ∙ ap (λ (o : Option Step). Ok o) c.in-Ok-Some.field-0-is) in
@@ -44,8 +37,7 @@ returns-in-Ok-None c k reached free is kept =
 
 pub returns-in-Ok-Some : goal.returns-in-Ok-Some
 returns-in-Ok-Some c k reached free is kept =
-    let step = c.in-Ok-Some.step in
-    let known : Result (Option Step) EndpointFault = Ok (Some step) in
+    let step = c.in-Ok-Some.step in let known : Result (Option Step) EndpointFault = Ok (Some step) in
     let h = read_judged k c.args.connection c.args.self.now c.next_step.new.self c.next_step.result known no_endpoint reached free is
     (c.next_step.ensures.stays no_endpoint) (c.next_step.ensures.judges no_endpoint)
     (c.in-Ok-Some.is ∙ ap (λ (o : Option Step). Ok o) c.in-Ok-Some.field-0-is) in

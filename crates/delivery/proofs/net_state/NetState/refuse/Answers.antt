@@ -1,7 +1,4 @@
-use Rattle.delivery.proofs.Words.Std.{Option, None, sym, ap, ◌∙◌, option_map}
-use Rattle.delivery.proofs.Words.Frames.{RawFrame}
-use Rattle.delivery.proofs.Words.Core.{receipt_asked, says_version, is_faulted}
-use Rattle.delivery.proofs.Words.Views.{no_endpoint}
+use Rattle.delivery.proofs.Words.All.{Option, None, sym, ap, ◌∙◌, option_map, RawFrame, receipt_asked, says_version, is_faulted, no_endpoint}
 use Rattle.delivery.proofs.Views.Events.NextFaults.{next_fails}
 use Rattle.delivery.proofs.net_state.NetState.refuse.Goals as goal
 
@@ -10,8 +7,7 @@ returns-in-Some-clause-faulted c = ap is_faulted c.fail.ensures.answer
 
 pub returns-in-Some-clause-ended : goal.returns-in-Some-clause-ended
 returns-in-Some-clause-ended c k reached h =
-    let receipt = option_map (λ r. r.now) c.receipt.result in
-    let same = c.receipt.ensures.value ∙ sym (ap receipt_asked c.in-Some.is) in
+    let receipt = option_map (λ r. r.now) c.receipt.result in let same = c.receipt.ensures.value ∙ sym (ap receipt_asked c.in-Some.is) in
     let says = c.says_version-version.ensures ∙ sym (ap (λ (o : Option RawFrame). says_version o c.args.fault) c.in-Some.is) in
     next_fails k c.args.connection c.args.fault c.args.frame receipt c.says_version-version.result c.args.self.now c.fail.new.self c.fail.result no_endpoint h same says c.fail.ensures.answer (c.fail.ensures.endpoint no_endpoint)
 

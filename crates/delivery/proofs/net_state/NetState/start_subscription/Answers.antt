@@ -1,7 +1,4 @@
-use Rattle.delivery.proofs.Words.Std.{ℕ, length, get_or, refl, ap, arith, Result, Ok}
-use Rattle.delivery.proofs.Words.Topics.{Stamp}
-use Rattle.delivery.proofs.Words.Frames.{NoMemory}
-use Rattle.delivery.proofs.Words.Views.{receipt_text, View, no_endpoint, written_endpoint}
+use Rattle.delivery.proofs.Words.All.{ℕ, length, get_or, refl, ap, arith, Result, Ok, Stamp, NoMemory, receipt_text, View, no_endpoint, written_endpoint}
 use Rattle.delivery.proofs.Views.Endpoints.EndpointChanges.{changed_length, taken_back}
 use Rattle.delivery.proofs.Views.Events.NextSubs.{next_free, next_subscribes}
 use Rattle.delivery.proofs.net_state.NetState.start_subscription.Goals as goal
@@ -26,13 +23,11 @@ pub take_back-requires : goal.take_back-requires
 take_back-requires c =
     let v = c.args.self.now in
     let n = changed_length v c.write_receipt.new.self c.args.connection (written_endpoint (receipt_text c.args.receipt.now) (get_or v.endpoints c.args.connection no_endpoint)) (c.in_ok-write_receipt.ensures.ok no_endpoint) in
-    let m = ap (λ (x : View). length x.endpoints) c.in-Err.ensures.err in
-    omega (arith, n, m, c.requires.there)
+    let m = ap (λ (x : View). length x.endpoints) c.in-Err.ensures.err in omega (arith, n, m, c.requires.there)
 
 pub returns-in-Ok-clause-ok : goal.returns-in-Ok-clause-ok
 returns-in-Ok-clause-ok c k f left asks =
-    let h = c.in-Ok.ensures in
-    let wrote = c.in_ok-write_receipt.ensures.ok no_endpoint in
+    let h = c.in-Ok.ensures in let wrote = c.in_ok-write_receipt.ensures.ok no_endpoint in
     next_subscribes k c.args.connection f left c.args.id c.args.topic c.args.receipt.now c.args.self.now c.write_receipt.new.self c.subscribe.new.self
     c.in-Ok.sub c.in-Ok.from no_endpoint asks wrote (next_free k c.args.connection f left c.args.id c.args.topic c.args.receipt.now c.args.self.now c.write_receipt.new.self no_endpoint asks wrote).0
     (ap (λ (p : ℕ × Stamp). p.0) h.begun) (ap (λ (p : ℕ × Stamp). p.1) h.begun) h.ok

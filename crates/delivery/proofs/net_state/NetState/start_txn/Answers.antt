@@ -2,14 +2,10 @@ use Rattle.delivery.proofs.Views.Events.NextTxns.{next_commits, next_idle}
 use Rattle.delivery.proofs.net_state.NetState.start_txn.Goals as goal
 
 pub launch-requires-clause-begun : goal.launch-requires-clause-begun
-launch-requires-clause-begun c =
-    let asks = c.requires.asks in
-    (next_idle asks.0 c.args.connection asks.1 asks.2 c.args.txn c.args.receipt c.args.self.now asks.3).0
+launch-requires-clause-begun c = let asks = c.requires.asks in (next_idle asks.0 c.args.connection asks.1 asks.2 c.args.txn c.args.receipt c.args.self.now asks.3).0
 
 pub launch-requires-clause-idle : goal.launch-requires-clause-idle
-launch-requires-clause-idle c =
-    let asks = c.requires.asks in
-    (next_idle asks.0 c.args.connection asks.1 asks.2 c.args.txn c.args.receipt c.args.self.now asks.3).1
+launch-requires-clause-idle c = let asks = c.requires.asks in (next_idle asks.0 c.args.connection asks.1 asks.2 c.args.txn c.args.receipt c.args.self.now asks.3).1
 
 pub returns-in-Ok-clause-ok : goal.returns-in-Ok-clause-ok
 returns-in-Ok-clause-ok c k f left asks =

@@ -1,7 +1,5 @@
 use Rattle.std.proofs.Common.{◌≡◌, ℕ, List, Option, true, refl, ap, subst, ◌∙◌}
-use Rattle.delivery.proofs.Words.Frames.{Action}
-use Rattle.delivery.proofs.Words.Core.{claim_fault}
-use Rattle.delivery.proofs.Words.Views.{Asks, claims_none}
+use Rattle.delivery.proofs.Words.All.{Action, claim_fault, Asks, claims_none}
 use Rattle.stomp_session.specs.declared.action.Action.TheVariants as actions
 use Rattle.delivery.proofs.Views.Clients.BothOfStep.{accepted_both, unclaimed_by}
 use Rattle.delivery.proofs.Views.Events.NextFaults.{may_lack}

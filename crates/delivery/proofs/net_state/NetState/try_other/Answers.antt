@@ -1,6 +1,4 @@
-use Rattle.delivery.proofs.Words.Std.{ℕ, List, sym, subst, Result, Ok, Err, OnErr, IfOk-weaker}
-use Rattle.delivery.proofs.Words.Frames.{Action}
-use Rattle.delivery.proofs.Words.Views.{Asks}
+use Rattle.delivery.proofs.Words.All.{ℕ, List, sym, subst, Result, Ok, Err, OnErr, IfOk-weaker, Action, Asks}
 use Rattle.stomp_session.specs.declared.action.Action.TheVariants as actions
 use Rattle.delivery.proofs.Views.Events.WantsMemory.{subscribe_wants, end_wants, commit_wants}
 use Rattle.delivery.proofs.net_state.NetState.try_other.Goals as goal

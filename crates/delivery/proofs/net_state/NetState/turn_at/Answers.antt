@@ -1,13 +1,10 @@
-use Rattle.delivery.proofs.Words.Std.{◌<◌, ◌-◌, get_or, set, length, sym, ap, subst, ◌∙◌, get_or_default}
-use Rattle.delivery.proofs.Words.Topics.{GroupState}
-use Rattle.delivery.proofs.Words.Views.{verdict_held, group_after_turn, group_turn_count, after_turn_at, verdict_at, View}
+use Rattle.delivery.proofs.Words.All.{◌<◌, ◌-◌, get_or, set, length, sym, ap, subst, ◌∙◌, get_or_default, GroupState, verdict_held, group_after_turn, group_turn_count, after_turn_at, verdict_at, View}
 use Rattle.delivery.proofs.Views.Events.TurnStep.{turn_found}
 use Rattle.delivery.proofs.net_state.NetState.turn_at.Goals as goal
 
 pub returns-clause-count : goal.returns-clause-count
 returns-clause-count c d =
-    let g = c.index_mut-group.result.now in
-    let turned = c.turn_counted.ensures.turned in
+    let g = c.index_mut-group.result.now in let turned = c.turn_counted.ensures.turned in
     let there = subst (λ (v : View). c.args.index < length v.groups) (sym c.self.view_is) c.requires in
     let new = turn_found c.self.inside.table g c.turn_counted.new.self turned.0 turned.1 turned.2 in
     c.turn_counted.ensures.count
@@ -17,8 +14,7 @@ returns-clause-count c d =
 
 pub returns-clause-groups : goal.returns-clause-groups
 returns-clause-groups c d =
-    let g = c.index_mut-group.result.now in
-    let turned = c.turn_counted.ensures.turned in
+    let g = c.index_mut-group.result.now in let turned = c.turn_counted.ensures.turned in
     let there = subst (λ (v : View). c.args.index < length v.groups) (sym c.self.view_is) c.requires in
     let new = turn_found c.self.inside.table g c.turn_counted.new.self turned.0 turned.1 turned.2 in
     let held = Rattle.delivery.specs.contracts.net_state.NetState.the_view c.self.inside in

@@ -1,15 +1,11 @@
-use Rattle.delivery.proofs.Words.Std.{◌≡◌, ◌<◌, List, length, get_or, true, sym, ap, subst, ◌∙◌, slice_get}
-use Rattle.delivery.proofs.Words.Topics.{propose_title}
-use Rattle.delivery.proofs.Words.Core.{Event, Outcome}
-use Rattle.delivery.proofs.Words.Views.{there_objection, speaker_at, sender_in, withdraw_refusal, failure_of, withdrawn_view, reads_frames, refused_view, Makes, View, EndpointView, view_of, no_endpoint}
+use Rattle.delivery.proofs.Words.All.{◌≡◌, ◌<◌, List, length, get_or, true, sym, ap, subst, ◌∙◌, slice_get, propose_title, Event, Outcome, there_objection, speaker_at, sender_in, withdraw_refusal, failure_of, withdrawn_view, reads_frames, refused_view, Makes, View, EndpointView, view_of, no_endpoint}
 use Rattle.delivery.proofs.Views.Events.ConnectionIsThere.{endpoint_there}
 use Rattle.delivery.proofs.Views.Events.WithdrawStep.{withdraw_gone, withdraw_refused, withdraw_makes}
 use Rattle.delivery.proofs.net_state.NetState.withdraw.Goals as goal
 
 pub returns-in-Err : goal.returns-in-Err
 returns-in-Err c k reached is =
-    let h = c.in-Err.ensures in
-    let why = ap (λ (v : View). there_objection (slice_get v.endpoints c.args.connection)) (sym is) ∙ h.1 in
+    let h = c.in-Err.ensures in let why = ap (λ (v : View). there_objection (slice_get v.endpoints c.args.connection)) (sym is) ∙ h.1 in
     subst (λ (v : View). Makes k (Event.Withdraw c.args.connection) (Outcome.Refused c.in-Err.refusal) v) (sym is)
     (withdraw_gone k c.args.connection h.0 c.in-Err.refusal why h.2)
 
@@ -20,13 +16,9 @@ end_by_error-requires c =
 
 pub returns-in-Ok-withdraw_of : goal.returns-in-Ok-withdraw_of
 returns-in-Ok-withdraw_of c k reached is =
-    let h = c.in-Ok.ensures in
-    let d = c.in-Ok-withdraw_of.ensures in
-    let s = c.in-Ok.sender in
-    let fault = c.in-Ok-withdraw_of.fault in
+    let h = c.in-Ok.ensures in let d = c.in-Ok-withdraw_of.ensures in let s = c.in-Ok.sender in let fault = c.in-Ok-withdraw_of.fault in
     let free = ap (λ (v : View). there_objection (slice_get v.endpoints c.args.connection)) (sym is) ∙ h.0 in
-    let own = h.1 ∙ ap (λ (v : View). speaker_at v c.args.connection) is in
-    let allowed = d.refused ∙ ap (λ (v : View). withdraw_refusal (sender_in v s).sending) is in
+    let own = h.1 ∙ ap (λ (v : View). speaker_at v c.args.connection) is in let allowed = d.refused ∙ ap (λ (v : View). withdraw_refusal (sender_in v s).sending) is in
     let kept = d.fault ∙ ap (λ (v : View). failure_of (sender_in v s).sending) is in
     let withdrawn : c.withdraw_of.new.self ≡ withdrawn_view s (view_of k) = d.ok ∙ ap (withdrawn_view s) is in
     let asked = subst (λ (v : View). c.end_by_error.result ≡ true → reads_frames (get_or v.endpoints c.args.connection no_endpoint).stage ≡ true) withdrawn c.end_by_error.ensures.asked in
@@ -38,8 +30,7 @@ returns-in-Ok-withdraw_of c k reached is =
 
 pub returns-in-Err-withdraw_of : goal.returns-in-Err-withdraw_of
 returns-in-Err-withdraw_of c k reached is =
-    let h = c.in-Ok.ensures in
-    let free = ap (λ (v : View). there_objection (slice_get v.endpoints c.args.connection)) (sym is) ∙ h.0 in
+    let h = c.in-Ok.ensures in let free = ap (λ (v : View). there_objection (slice_get v.endpoints c.args.connection)) (sym is) ∙ h.0 in
     let own = h.1 ∙ ap (λ (v : View). speaker_at v c.args.connection) is in
     let refused = c.in-Err-withdraw_of.ensures.refused ∙ ap (λ (v : View). withdraw_refusal (sender_in v c.in-Ok.sender).sending) is in
     subst (λ (v : View). Makes k (Event.Withdraw c.args.connection) (Outcome.Refused c.in-Err-withdraw_of.refusal) v) (sym (c.in-Err-withdraw_of.ensures.err ∙ is))

@@ -1,5 +1,4 @@
-use Rattle.delivery.proofs.Words.Std.{◌≡◌, ◌<◌, length, Some, ap, sym, ◌∙◌, arith, slice_get}
-use Rattle.delivery.proofs.Words.Topics.{TraceData, has_span}
+use Rattle.delivery.proofs.Words.All.{◌≡◌, ◌<◌, length, Some, ap, sym, ◌∙◌, arith, slice_get, TraceData, has_span}
 use Rattle.delivery.proofs.Traces.Made.{next_has_none, subs_grow}
 use Rattle.delivery.proofs.net_state.trace.add_subscriptions.Goals as goal
 
@@ -11,7 +10,6 @@ add_subscription-requires c =
 
 pub loop-sub-preserved : goal.loop-sub-preserved
 loop-sub-preserved c =
-    let qs = c.args.report.now.subscriptions in
-    let is : slice_get qs c.loop-sub.sub ≡ Some c.unwrap-queue.result = sym c.subscription.ensures ∙ c.unwrap-queue.ensures in
+    let qs = c.args.report.now.subscriptions in let is : slice_get qs c.loop-sub.sub ≡ Some c.unwrap-queue.result = sym c.subscription.ensures ∙ c.unwrap-queue.ensures in
     subs_grow c.args.trace.now c.loop-sub.trace c.add_subscription.new.trace qs c.loop-sub.sub c.unwrap-queue.result
     is c.loop-sub.invariant c.in_ok-add_subscription.ensures

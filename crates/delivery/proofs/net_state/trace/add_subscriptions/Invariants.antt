@@ -1,5 +1,4 @@
-use Rattle.delivery.proofs.Words.Std.{◌≡◌, ◌++◌, map, take, enumerate_from}
-use Rattle.delivery.proofs.Words.Core.{traced_span, traced_queue}
+use Rattle.delivery.proofs.Words.All.{◌≡◌, ◌++◌, map, take, enumerate_from, traced_span, traced_queue}
 use Rattle.delivery.proofs.Traces.Lists.{made_of}
 use Rattle.delivery.proofs.net_state.trace.add_subscriptions.Given as goal
 

@@ -11,8 +11,7 @@ returns-in-Ok-None c accepted stands unanswered =
 
 pub returns-in-Ok : goal.returns-in-Ok
 returns-in-Ok c accepted stands unanswered =
-    let h = c.in-Ok.ensures in
-    let taken = h.ok accepted stands in
+    let h = c.in-Ok.ensures in let taken = h.ok accepted stands in
     judged_takes accepted c.args.names.now c.accept.new.names c.args.self.now c.accept.new.self c.next.new.self c.in-Ok-Some.field-0 c.in-Ok-Some.frame c.in-Ok.step
     c.in-Ok-Some.ensures.answer c.in-Ok-Some.field-0-is unanswered taken.0 taken.1 h.named h.others
 

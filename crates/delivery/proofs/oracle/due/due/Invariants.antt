@@ -1,7 +1,6 @@
 use Rattle.std.proofs.Common.{◌≡◌, ◌++◌, map, vec_len}
 use Rattle.std.specs.List.{filter}
-use Rattle.delivery.proofs.Words.Topics.{Span}
-use Rattle.delivery.proofs.Words.Machine.{due, is_due, item_at}
+use Rattle.delivery.proofs.Words.All.{Span, due, is_due, item_at}
 use Rattle.delivery.proofs.oracle.due.due.Given as goal
 
 -- what is due of the rows that are left, and then what was gathered

@@ -1,5 +1,5 @@
 use Rattle.std.proofs.Common.{◌≡◌, ◌++◌, vec_len}
-use Rattle.delivery.proofs.Words.Topics.{part_of}
+use Rattle.delivery.proofs.Words.All.{part_of}
 use Rattle.delivery.proofs.oracle.due.part.Given as goal
 
 -- the part of the SENDs that are left, and then what was gathered

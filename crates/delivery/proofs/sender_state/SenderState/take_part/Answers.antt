@@ -1,6 +1,5 @@
 use Rattle.std.proofs.Common.{subst, vec_len, vec_capacity}
-use Rattle.delivery.proofs.Words.Core.{Sending}
-use Rattle.delivery.proofs.Words.Views.{KeepsRoom}
+use Rattle.delivery.proofs.Words.All.{Sending, KeepsRoom}
 use Rattle.delivery.proofs.Views.Senders.RoomLasts.{taken_room}
 use Rattle.delivery.proofs.sender_state.SenderState.take_part.Goals as goal
 use Rattle.delivery.proofs.sender_state.SenderState.take_part.Goals.{in-Resting, in-Idle, in-Marked, in-Flying+else-not-has_topic+in-Some, in-Flying+else-not-has_topic+in-None}

@@ -1,6 +1,5 @@
 use Rattle.std.proofs.Common.{◌≡◌, length, sym, ap, ◌∙◌, arith}
-use Rattle.delivery.proofs.Words.Core.{Report}
-use Rattle.delivery.proofs.Words.Views.{View}
+use Rattle.delivery.proofs.Words.All.{Report, View}
 use Rattle.delivery.proofs.Views.Runs.ReportOfView.{subs_length}
 use Rattle.delivery.proofs.net_state.report.Report.subscriptions_len.Goals as goal
 
