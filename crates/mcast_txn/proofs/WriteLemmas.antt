@@ -8,3 +8,7 @@ use Rattle.smallvec.proofs.SmallVecLemmas.{items-with_items}
 pub written_back : {X : Type 0} (xs lent : List X) (i : ℕ) (x : X) → lent ≡ xs → refill (length xs) xs (set lent i x) ≡ set xs i x
 written_back xs lent i x same =
     ap (λ ys. refill (length xs) xs (set ys i x)) same ∙ items-with_items (record { items = xs; capacity = length xs }) (set xs i x) (length-set xs i x)
+
+-- a list that was lent whole, and written all over, is what was written
+pub rewritten : {X : Type 0} (xs ys : List X) → length ys ≡ length xs → refill (length xs) xs ys ≡ ys
+rewritten xs ys long = items-with_items (record { items = xs; capacity = length xs }) ys long

@@ -1,6 +1,7 @@
 -- These modules only serve proofs: no public contract cites them, and nobody need believe them.
 pub mod Decided
 pub mod DraftSends
+pub mod RowIndex
 pub mod Sealed
 pub mod SealedSends
 pub mod SendsHeld

@@ -1,12 +1,8 @@
 -- Serves proofs only: where a topic's slot is in a list of them; no public contract cites it.
-use Rattle.std.specs.Prelude.{◌≡◌, ◌≢◌, ℕ, ◌<◌, List, length, None}
+use Rattle.std.specs.Prelude.{◌≡◌, ◌≢◌, ℕ, ◌<◌, List, length}
 use Rattle.std.specs.List.{AllByRecursion, HoldsAt}
 use Rattle.mcast_txn.specs.declared.id.Topic.{Topic}
 use Rattle.mcast_txn.specs.declared.parts.slot.Slot.{Slot}
-
--- a slot that holds nothing
-abbrev pub free_slot : {A : Type 0} → Topic → Slot A
-free_slot t = record { topic = t; held = None }
 
 -- the slot at index i is the topic's
 pub record IsIndexOf {A : Type 0} (t : Topic) (slots : List (Slot A)) (i : ℕ) : Type 0 where

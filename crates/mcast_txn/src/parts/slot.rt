@@ -1,15 +1,12 @@
 //! Lists by topics.
 
-ghost use Rattle.std.specs.Prelude.{◌≡◌, ◌≢◌, IfOk, IfNone, IfSome, map};
-ghost use Rattle.mcast_txn.specs.declared.id.Topic.{Topic};
-ghost use Rattle.mcast_txn.specs.Inner.SlotIndex.{IsIndexOf, HasNone, free_slot};
+ghost use Rattle.std.specs.Prelude.{IfNone, IfSome};
+ghost use Rattle.mcast_txn.specs.Inner.SlotIndex.{IsIndexOf, HasNone};
 ghost use Rattle.mcast_txn.specs.Lists.{RisesBy};
 
 use crate::id::Topic;
-use smallvec::SmallVec;
 use std::alloc::Global;
 use std::default::MadeWith;
-use stomp_frame::NoMemory;
 
 /// A topic, and the value stored for it, if any.
 #[derive(Drop)]
@@ -26,20 +23,6 @@ impl<T> MadeWith<Global> for Slot<T> {
             held: None,
         }
     }
-}
-
-/// A free slot for each topic.
-pub(crate) fn free_slots<T: Drop>(
-    alloc: Global,
-    topics: &[Topic],
-) -> Result<SmallVec<Slot<T>, 1>, NoMemory>
-    ensures { IfOk result (λ slots. slots.items ≡ map free_slot topics.now) }
-{
-    let mut slots = SmallVec::with_capacity(alloc, topics.len())?;
-    for &topic in topics {
-        slots.push(Slot { topic, held: None })?;
-    }
-    Ok(slots)
 }
 
 /// Where a topic's slot is.
