@@ -35,7 +35,7 @@ byte items[TOPICS];
 /* The line in which a connection stands: 1 and the topic. */
 byte stands[COMERS];
 
-/* line.rt is_closed and is_first, room.rt reserve: it finds room where nobody stands, or as the first, or where it owes turns
+/* line.rt lets_by and is_first, room.rt reserve: it finds room where nobody stands, or as the first, or where it owes turns
    and overtakes them. */
 #define FINDS(t) (part[t] == 0 && items[t] == 0 && (len(line[t]) == 0 || owes > 0 || line[t] ? [eval(me)]))
 #define HAS_ITEM ((items[0] | items[1]) & BIT(me))

@@ -792,7 +792,7 @@ inline give_places_back(c) {
       assert(e <= MOST); e = 0 } \
     u = 0; w = 0
 
-/* Who owes turns may overtake those who wait, as it comes: line.rt is_closed. */
+/* Who owes turns may overtake those who wait, as it comes: line.rt lets_by. */
 #define MAY_OVERTAKE (!tries && commits > 0)
 #ifdef M_OVERTAKES_ALWAYS
 #define LETS_OVERTAKE(at) true

@@ -29,7 +29,6 @@ mod held;
 mod ignored;
 mod ignored_so_far;
 mod item_rest;
-mod named_last;
 mod open_sub;
 mod taking;
 
@@ -46,7 +45,6 @@ use held::Held;
 pub use ignored::Ignored;
 use ignored_so_far::IgnoredSoFar;
 use mcast_txn::{Topic, Txn};
-use named_last::NamedLast;
 use open_sub::OpenSub;
 use sender_gate::Gate;
 use std::alloc::Global;
@@ -94,8 +92,6 @@ pub struct Conversation<C: BrokerCalls> {
     flags: u64,
     /// How many SENDs it committed, for the server's figures: no contract speaks of it.
     sends: u64,
-    /// The topics that frames' destinations named last. No contract speaks of them.
-    named: NamedLast,
     /// What it asked for that is ignored, for the log: no contract speaks of it.
     ignored: IgnoredSoFar,
 }
@@ -120,7 +116,6 @@ impl<C: BrokerCalls> Drop for Conversation<C> {
             capacity: _,
             flags: _,
             sends: _,
-            named: _,
             ignored: _,
         } = self;
         drop(reader);
@@ -178,7 +173,6 @@ impl<C: BrokerCalls> Conversation<C> {
             capacity,
             flags: 0,
             sends: 0,
-            named: NamedLast::new(),
             ignored: IgnoredSoFar::new(),
         }
     }
@@ -492,7 +486,7 @@ impl<C: BrokerCalls> Conversation<C> {
             × AsksInOrder C.called calls.old asked calls.new
             × DeniesFrame (raw_of frame) e.1 self.old asked self.new) }
     {
-        if is_known(&self.names, &self.named, &frame) {
+        if is_known(&self.names, &frame) {
             match self.session.step(frame, &mut self.names) {
                 Ok(step) => return Ok(step),
                 Err((frame, fault)) => return Err((frame, ConversationFault::from(fault))),
@@ -859,14 +853,14 @@ fn is_idle(reader: &FrameReader, fault: FrameFault) -> bool
     matches!(fault, FrameFault::NoMemory) && reader.clean()
 }
 
-/// Whether the frame has no destination, or one of these names, at which it looks by the topics that were named last.
-fn is_known(names: &Names, named: &NamedLast, frame: &ClientFrame) -> bool
+/// Whether the frame has no destination, or one of these names.
+fn is_known(names: &Names, frame: &ClientFrame) -> bool
     ensures known { result ≡ true → IsKnownTo names.now (raw_of frame.now) }
     ensures unknown { result ≡ false → IsNewTo names.now (raw_of frame.now) }
 {
     match frame {
-        ClientFrame::Send(frame) => named.has(names, frame.destination()),
-        ClientFrame::Subscribe(frame) => named.has(names, frame.destination()),
+        ClientFrame::Send(frame) => names.find(frame.destination()).is_some(),
+        ClientFrame::Subscribe(frame) => names.find(frame.destination()).is_some(),
         _ => true,
     }
 }

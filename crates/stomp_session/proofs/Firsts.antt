@@ -1,10 +1,10 @@
 -- The first name in a list that passes a test, and what a map of fingerprints knows of it.
-use Rattle.std.proofs.Common.{◌≡◌, ◌+◌, ◌<◌, ◌≤◌, ℕ, zero, suc, Bool, true, false, cond, List, [], ◌∷◌, ◌++◌, Some, None, length, take, min, refl, sym, ap, ◌∙◌, arith, slice_get, get_or, position, nat_eq, nat_lt, eqb}
+use Rattle.std.proofs.Common.{◌≡◌, ◌⊎◌, ◌×◌, inl, inr, ◌+◌, ◌<◌, ◌≤◌, ℕ, zero, suc, Bool, true, false, cond, List, [], ◌∷◌, ◌++◌, Option, Some, None, length, take, min, refl, sym, ap, ◌∙◌, arith, slice_get, get_or, position, nat_eq, nat_lt, eqb}
 use Rattle.std.proofs.lemmas.Bool.{true≢false}
 use Rattle.std.proofs.lemmas.List.{get_or-take, length-append, length-map, length-take}
 use Rattle.std.proofs.lemmas.List.Folds.{position_or_len_push}
 use Rattle.std.proofs.lemmas.List.Sums.{fails_before_first, passes_at_first, position_or_len_is}
-use Rattle.std.proofs.lemmas.Option.{get_or_from_slice_get}
+use Rattle.std.proofs.lemmas.Option.{get_or_from_slice_get, none-some, same_Some}
 use Rattle.std.proofs.lemmas.Slice.Eq.{bytes_eq-Decides}
 use Rattle.std.specs.Arc.{arc_value}
 use Rattle.std.specs.Cmp.Lexicographic.{nat_list_eq_equiv}
@@ -15,7 +15,7 @@ use Rattle.std.specs.Map.{lookup}
 use Rattle.std.specs.Option.{option_map, option_or}
 use Rattle.std.specs.Str.{bytes_eq}
 use Rattle.stomp_session.specs.Names.{index_of, is_known}
-use Rattle.stomp_session.specs.Inner.Stored.{FindsFirsts, fingerprint, names_of}
+use Rattle.stomp_session.specs.Inner.Stored.{AreDistinct, FindsFirsts, fingerprint, names_of}
 
 -- ---- where the first is
 
@@ -153,6 +153,49 @@ index_in_front name names count at found within =
     let p = bytes_eq name in
     let is : first p names ≡ at = grind (arith, found, first_within p names) in
     first_in_front p names count ∙ omega (arith, is, within)
+
+-- ---- names each of which is there once
+
+-- a name that isn't known has no place
+pub unknown_nowhere : (name : List ℕ) (names : List (List ℕ)) → is_known name names ≡ false → position (bytes_eq name) names ≡ None
+unknown_nowhere name names unknown =
+    let over : nat_lt (first (bytes_eq name) names) (length names) ≡ false = sym (any_is_first (bytes_eq name) names) ∙ unknown in
+    grind (arith, over)
+
+-- an item of a list with one more is one of the list, or that one
+get_one_more : (names : List (List ℕ)) (name : List ℕ) (at : ℕ) (one : List ℕ) → slice_get (names ++ name ∷ []) at ≡ Some one
+    → (slice_get names at ≡ Some one) ⊎ ((at ≡ length names) × (one ≡ name))
+get_one_more [] name zero one is = inr (refl, sym (same_Some name one is))
+get_one_more [] name (suc at) one is = absurd (none-some one is)
+get_one_more (other ∷ names) name zero one is = inl is
+get_one_more (other ∷ names) name (suc at) one is =
+    elim (get_one_more names name at one is) [
+      | inl before ↦ inl before
+      | inr (there, same) ↦ inr (ap (λ (n : ℕ). n + 1) there, same)
+    ]
+
+-- one more name, which isn't known
+pub distinct_one_more : (names : List (List ℕ)) (name : List ℕ) → AreDistinct names → is_known name names ≡ false
+    → AreDistinct (names ++ name ∷ [])
+distinct_one_more names name distinct unknown at one is =
+    elim (get_one_more names name at one is) [
+      | inl before ↦
+        position-push (bytes_eq one) names name
+        ∙ ap (λ (o : Option ℕ). option_or o (cond (bytes_eq one name) (Some (length names)) None)) (distinct at one before)
+      | inr (there, same) ↦
+        let none : position (bytes_eq one) names ≡ None = ap (λ (x : List ℕ). position (bytes_eq x) names) same ∙ unknown_nowhere name names unknown in
+        let equal : bytes_eq one name ≡ true = (bytes_eq-Decides one name).1 same in
+        position-push (bytes_eq one) names name
+        ∙ ap (λ (o : Option ℕ). option_or o (cond (bytes_eq one name) (Some (length names)) None)) none
+        ∙ ap (λ (b : Bool). cond b (Some (length names)) None) equal
+        ∙ ap Some (sym there)
+    ]
+
+-- a name isn't known to those in front of it
+pub unknown_before : (names : List (List ℕ)) (at : ℕ) (name : List ℕ) → AreDistinct names → slice_get names at ≡ Some name
+    → at < length names → is_known name (take at names) ≡ false
+unknown_before names at name distinct is within =
+    known_in_front name names at at (distinct at name is) (omega (arith, within)) ∙ grind arith
 
 -- a walk over the names that are shared
 pub position-names_of : (text : List ℕ) (names : List (Arc (List ℕ) Global)) → position (λ name. bytes_eq (arc_value name) text) names ≡ position (bytes_eq text) (names_of names)

@@ -4,6 +4,7 @@
 mod action;
 mod destination;
 mod fault;
+mod found_last;
 mod judged;
 pub mod law;
 mod name;

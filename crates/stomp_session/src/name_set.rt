@@ -1,11 +1,13 @@
 //! A list of names that connections share.
 
-ghost use Rattle.std.specs.Prelude.{◌≡◌, ◌∷◌, ◌++◌, ◌≤◌, ℕ, Some, None, [], cond, length, nat_eq, position, slice_get, take, IfOk, OnOk, OnErr};
+ghost use Rattle.std.specs.Prelude.{◌≡◌, ◌∷◌, ◌++◌, ◌≤◌, ℕ, Some, None, [], cond, false, length, nat_eq, position, slice_get, take, true, IfOk, OnOk, OnErr};
 ghost use Rattle.std.specs.Arc.{arc_value};
 ghost use Rattle.std.specs.Option.{option_map, option_or};
 ghost use Rattle.std.specs.Str.{bytes_eq};
 ghost use Rattle.indexmap.specs.IndexMap.{get};
+ghost use Rattle.stomp_session.specs.Names.{is_known};
 
+use crate::found_last::FoundLast;
 use crate::name::{Name, fingerprint};
 use indexmap::IndexMap;
 use std::alloc::Global;
@@ -13,8 +15,8 @@ use std::marker::Model;
 use std::sync::Arc;
 use stomp_frame::NoMemory;
 
-/// Names in their order, which are only added to, and shared once they are there. In contracts it is the list of the
-/// names.
+/// Names in their order, each once, which are only added to, and shared once they are there. In contracts it is the list
+/// of the names.
 #[derive(Drop)]
 pub(crate) struct NameSet {
     names: Vec<Arc<Name>>,
@@ -24,13 +26,14 @@ pub(crate) struct NameSet {
 
 impl Model for NameSet {
     ghost use Rattle.std.specs.Prelude.{ℕ, List};
-    ghost use Rattle.stomp_session.specs.Inner.Stored.{FindsFirsts, names_of};
+    ghost use Rattle.stomp_session.specs.Inner.Stored.{AreDistinct, FindsFirsts, names_of};
 
     ghost Value = { List (List ℕ) };
 
     ghost view = { λ s. names_of s.names.items };
 
-    ghost invariant = { λ s. FindsFirsts s.firsts.entries (names_of s.names.items) };
+    ghost invariant = { λ s.
+      FindsFirsts s.firsts.entries (names_of s.names.items) × AreDistinct (names_of s.names.items) };
 }
 
 impl NameSet {
@@ -59,9 +62,41 @@ impl NameSet {
         Some(name.octets())
     }
 
-    /// The index of the first name that has these octets. It is found without a walk, but where the first name with
-    /// their fingerprint has other octets.
-    pub(crate) fn find(&self, text: &[u8]) -> Option<usize>
+    /// The index of the name that has these octets. It is looked for where the last ones were found, and then searched
+    /// for.
+    #[inline(always)]
+    pub(crate) fn find(&self, text: &[u8], found: &FoundLast) -> Option<usize>
+        ensures { result ≡ position (bytes_eq text.now) self.now }
+    {
+        let last = found.last();
+        if self.is_at(last, text) {
+            return Some(last);
+        }
+        let before = found.before();
+        if self.is_at(before, text) {
+            found.swap();
+            return Some(before);
+        }
+        let index = self.search(text)?;
+        found.note(index);
+        Some(index)
+    }
+
+    /// Whether the name at this index has these octets: no other has them then.
+    #[inline(always)]
+    fn is_at(&self, at: usize, text: &[u8]) -> bool
+        ensures { result ≡ true → position (bytes_eq text.now) self.now ≡ Some at }
+    {
+        match self.name(at) {
+            Some(name) => name == text,
+            None => false,
+        }
+    }
+
+    /// The index of the name that has these octets. It is found without a walk, but where the first name with their
+    /// fingerprint has other octets.
+    #[inline(never)]
+    fn search(&self, text: &[u8]) -> Option<usize>
         ensures { result ≡ position (bytes_eq text.now) self.now }
     {
         let first = *self.firsts.get(&fingerprint(text))?;
@@ -71,8 +106,9 @@ impl NameSet {
         }
     }
 
-    /// Puts a name behind the others.
+    /// Puts a name behind the others, of which none may have its octets.
     pub(crate) fn add(&mut self, name: Arc<Name>) -> Result<(), NoMemory>
+        requires { is_known (arc_value name) self.old ≡ false }
         ensures ok { OnOk result (self.new ≡ self.old ++ arc_value name ∷ []) }
         ensures err { OnErr result (self.new ≡ self.old) }
     {

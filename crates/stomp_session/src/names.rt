@@ -11,6 +11,7 @@ ghost use Rattle.stomp_session.specs.Inner.Stored.{names_in};
 
 use crate::destination::Destination;
 use crate::fault::SessionFault;
+use crate::found_last::FoundLast;
 use crate::name::Name;
 use crate::name_set::NameSet;
 use mcast_txn::Topic;
@@ -53,6 +54,7 @@ pub struct Names {
     shared: Option<Arc<NameSet>>,
     /// How many of those are the names.
     count: usize,
+    found: FoundLast,
 }
 
 impl Model for Names {
@@ -75,6 +77,7 @@ impl Names {
             alloc,
             shared: None,
             count: 0,
+            found: FoundLast::new(),
         }
     }
 
@@ -101,6 +104,7 @@ impl Names {
             alloc: self.alloc,
             shared,
             count: self.count,
+            found: FoundLast::new(),
         })
     }
 
@@ -172,12 +176,13 @@ impl Names {
         })
     }
 
-    /// The topic of this name, or `None` where no topic has it. It is found without a walk.
+    /// The topic of this name, or `None` where no topic has it. It is found without a walk, and without a search where it
+    /// is one of the two that were found last.
     pub fn find(&self, name: &[u8]) -> Option<Topic>
         ensures known { is_some result ≡ is_known name.now self.now }
         ensures index { IfSome result (λ topic. topic.0 ≡ index_of name.now self.now) }
     {
-        let index = index_in(&self.shared, name)?;
+        let index = index_in(&self.shared, name, &self.found)?;
         if index < self.count {
             Some(Topic(index as u32))
         } else {
@@ -209,12 +214,17 @@ fn is_same_at(here: &Names, there: &Names, topic: Topic) -> bool
     }
 }
 
-/// The index of the first of these names that is this one.
-fn index_in(shared: &Option<Arc<NameSet>>, name: &[u8]) -> Option<usize>
+/// The index of the one of these names that is this one.
+#[inline(always)]
+fn index_in(
+    shared: &Option<Arc<NameSet>>,
+    name: &[u8],
+    found: &FoundLast,
+) -> Option<usize>
     ensures { result ≡ position (bytes_eq name.now) (names_in shared.now) }
 {
     match shared {
-        Some(set) => set.find(name),
+        Some(set) => set.find(name, found),
         None => None,
     }
 }
@@ -229,14 +239,15 @@ fn shared_by(shared: &Option<Arc<NameSet>>) -> Result<Option<Arc<NameSet>>, NoMe
     }
 }
 
-/// Puts a name behind the first `count`, in their place where nobody else has them.
+/// Puts a name behind the first `count`, of which none is this one, in their place where nobody else has them.
 fn grow(
     alloc: Global,
     shared: &mut Option<Arc<NameSet>>,
     count: usize,
     name: Arc<Name>,
 ) -> Result<(), NoMemory>
-    requires { count ≤ length (names_in shared.old) }
+    requires there { count ≤ length (names_in shared.old) }
+    requires unknown { is_known (arc_value name) (take count (names_in shared.old)) ≡ false }
     ensures ok { OnOk result
         (names_in shared.new ≡ take count (names_in shared.old) ++ arc_value name ∷ []) }
     ensures err { OnErr result (names_in shared.new ≡ names_in shared.old) }
@@ -256,7 +267,8 @@ fn is_added_alone(
     count: usize,
     name: &Arc<Name>,
 ) -> Result<bool, NoMemory>
-    requires { count ≤ length (names_in shared.old) }
+    requires there { count ≤ length (names_in shared.old) }
+    requires unknown { is_known (arc_value name.now) (take count (names_in shared.old)) ≡ false }
     ensures added { IfOk result (λ added. added ≡ true
         → names_in shared.new ≡ take count (names_in shared.old) ++ arc_value name.now ∷ []) }
     ensures same { IfOk result (λ added. added ≡ false → names_in shared.new ≡ names_in shared.old) }

@@ -1,6 +1,6 @@
 //! What one connection asks of the broker.
 
-ghost use Rattle.std.specs.Prelude.{if◌then◌else◌, ◌≡◌, ◌≤◌, ◌<◌, ◌⊎◌, ◌==◌, ◌-◌, [], map, true, IfSome, None, Some};
+ghost use Rattle.std.specs.Prelude.{if◌then◌else◌, ◌≡◌, ◌&&◌, ◌≤◌, ◌<◌, ◌⊎◌, ◌==◌, ◌-◌, [], map, nat_lt, true, IfSome, None, Some};
 ghost use Rattle.std.specs.Option.{is_some};
 ghost use Rattle.mcast_txn.specs.Transaction.{topics_of};
 ghost use Rattle.broker_server.specs.BrokerRows.{AsksInOrder, Unsubscribes};
@@ -599,7 +599,7 @@ impl<'a, R: Wait + Log + Clock, W: Side, T: Side> Calls<'a, R, W, T> {
     /// Whether it may overtake those who wait for room: it owes turns, and fewer than it does at once. Else it would turn what
     /// it owes, and wait, for each of its transactions.
     fn may_overtake(&self) -> bool
-        ensures { result ≡ true → 0 < self.now.commits }
+        ensures { result ≡ (nat_lt 0 self.now.commits && nat_lt self.now.commits 16) }
     {
         self.commits > 0 && self.commits < AT_ONCE
     }

@@ -214,12 +214,12 @@ impl<R: Wait, W: Side, T: Side> Hub<R, W, T> {
         }
     }
 
-    /// Whether who comes for room at this topic has to stand in the line there, where it may overtake or may not.
+    /// Lets by who comes for room at this topic, where the line there does.
     #[inline(always)]
-    fn is_closed(&self, topic: Topic, may_overtake: bool) -> bool {
+    fn lets_by(&self, topic: Topic, may_overtake: bool) -> bool {
         match self.topics.get(topic.0 as usize) {
-            Some(seats) => seats.line().is_closed(may_overtake),
-            None => false,
+            Some(seats) => seats.line().lets_by(may_overtake),
+            None => true,
         }
     }
 
@@ -239,7 +239,7 @@ impl<R: Wait, W: Side, T: Side> Hub<R, W, T> {
     {
         let topics = txn.topics().as_slice();
         for topic in topics {
-            if self.is_closed(*topic, may_overtake) {
+            if !self.lets_by(*topic, may_overtake) {
                 return Err(NoRoom::Full {
                     topic: *topic,
                     sub: None,

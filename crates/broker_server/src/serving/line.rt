@@ -7,18 +7,19 @@ use crate::serving::waiters::Waiters;
 use std::sync::atomic::{AtomicU64, Ordering};
 use std::sync::{Mutex, Wait};
 
-/// So many transactions overtake the first of a line at most (our choice): as many as a queue holds.
+/// So many transactions overtake the first of a line (our choice), and one more for each thread that was just asking when
+/// it became the first: as many as a queue holds.
 const MOST_OVERTAKING: u64 = 64;
 
 /// Those who wait for room at a topic, in the order in which they came; and for what the first waits. What room there is
-/// is the first's. Who waits writes its mark and then asks for room again; who makes room has made it before it reads the
+/// is the first's, but for those that overtake it. Who waits writes its mark and then asks for room again; who makes room has made it before it reads the
 /// mark: so either the one that waits finds it, or it is rung. That needs all these steps in one order: each is SeqCst,
 /// and has to stay so.
 #[derive(Drop)]
 pub(crate) struct Line {
     /// The code of the mark, which is written under the lock, or by the first.
     mark: AtomicU64,
-    /// How many may have overtaken the first since it is that.
+    /// How many overtook the first since it is that, or asked whether they may.
     overtaking: AtomicU64,
     queue: Mutex<Queue>,
 }
@@ -49,14 +50,14 @@ impl Line {
         self.mark.load(Ordering::SeqCst) != NOBODY
     }
 
-    /// Whether who comes for room has to stand in the line: somebody waits there, and it may not overtake, or so many
-    /// have overtaken the first already.
+    /// Lets by who comes for room, where nobody waits, or where it may overtake the first and few have: then it is counted.
+    /// Whom it doesn't let by has to stand in the line.
     #[inline(always)]
-    pub(crate) fn is_closed(&self, may_overtake: bool) -> bool {
-        self.is_awaited() && !(may_overtake && self.lets_overtake())
+    pub(crate) fn lets_by(&self, may_overtake: bool) -> bool {
+        !self.is_awaited() || (may_overtake && self.lets_overtake())
     }
 
-    /// Whether one more may overtake the first.
+    /// Lets one more overtake the first, which is counted, where few have.
     #[inline(never)]
     fn lets_overtake(&self) -> bool {
         self.overtaking.fetch_add(1, Ordering::SeqCst) < MOST_OVERTAKING

@@ -1,10 +1,11 @@
 -- What maps of octets and lists of names store. Only proofs go by it; no public contract speaks of it.
-use Rattle.std.specs.Prelude.{◌≡◌, ℕ, Bool, List, [], map, nat_eq, position, Option, None, Some, Vec}
+use Rattle.std.specs.Prelude.{◌≡◌, ℕ, Bool, List, [], map, nat_eq, position, slice_get, Option, None, Some, Vec}
 use Rattle.std.specs.declared.alloc.Global.{Global}
 use Rattle.std.specs.declared.sync.Arc.{Arc}
 use Rattle.std.specs.Arc.{arc_value}
 use Rattle.std.specs.Hash.FoldHasher.{initial, write, finish}
 use Rattle.std.specs.Map.{lookup}
+use Rattle.std.specs.Str.{bytes_eq}
 use Rattle.mcast_txn.specs.declared.id.Topic.{Topic}
 use Rattle.stomp_session.specs.declared.subscription.Subscription.{Subscription}
 
@@ -39,6 +40,10 @@ names_of names = map arc_value names
 -- of each fingerprint the map has the index of the first of these names that has it
 abbrev pub FindsFirsts : List (ℕ × ℕ) → List (List ℕ) → Type 0
 FindsFirsts entries names = (f : ℕ) → lookup (nat_eq f) entries ≡ position (λ name. nat_eq f (fingerprint name)) names
+
+-- no two of these names are the same: each is the first of its octets
+abbrev pub AreDistinct : List (List ℕ) → Type 0
+AreDistinct names = (at : ℕ) (name : List ℕ) → slice_get names at ≡ Some name → position (bytes_eq name) names ≡ Some at
 
 -- the names of a list that is there from the first on
 abbrev pub names_in : Option (Arc (List (List ℕ)) Global) → List (List ℕ)

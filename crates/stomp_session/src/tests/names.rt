@@ -69,6 +69,36 @@ fn names_are_numbered_from_zero(rt: HostRuntime) -> Result<(), Fail> {
     Ok(())
 }
 
+/// Three names with their numbers, and one that isn't there.
+const FOUR: &[(&[u8], u32)] = &[(b"A", 0), (b"B", 1), (b"C", 2), (b"D", 1000)];
+
+/// Whether four searches one after another, each for the one of these that a digit of this number to base 4 says, find
+/// what is there.
+fn are_found(names: &Names, order: usize) -> bool {
+    let mut rest = order;
+    for _ in 0..4 {
+        let Some(&(name, number)) = FOUR.get(rest % 4) else {
+            return false;
+        };
+        if found(names, name) != number {
+            return false;
+        }
+        rest /= 4;
+    }
+    true
+}
+
+/// What was found before changes nothing.
+#[test]
+fn names_are_found_in_any_order(rt: HostRuntime) -> Result<(), Fail> {
+    let mut names = Names::new(rt.alloc());
+    assert!(rt; count_up(&mut names, &[(b"A", 1), (b"B", 2), (b"C", 3)])?);
+    for order in 0..256 {
+        assert!(rt; are_found(&names, order));
+    }
+    Ok(())
+}
+
 /// Takes the last name away, where there is one.
 fn take_back(names: &mut Names) {
     if names.len() > 0 {

@@ -15,4 +15,4 @@ invariant_of-self-2 c f =
     let all : names_of c.push_reserved.new.self.items ≡ names_of items ++ name ∷ [] =
     ap names_of (c.push_reserved.ensures.items ∙ ap (λ (xs : List (Arc (List ℕ) Global)). xs ++ c.args.name ∷ []) c.reserve.ensures.items)
     ∙ names_of-push items c.args.name in
-    rw all (finds_one_more c.self.inside.firsts.entries c.note_first.new.firsts.entries (names_of items) name c.self.invariant (λ g. rw (← mark, ← at) (c.in_ok-note_first.ensures.ok g)) f)
+    rw all (finds_one_more c.self.inside.firsts.entries c.note_first.new.firsts.entries (names_of items) name c.self.invariant.0 (λ g. rw (← mark, ← at) (c.in_ok-note_first.ensures.ok g)) f)
