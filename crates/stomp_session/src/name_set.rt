@@ -65,7 +65,7 @@ impl NameSet {
     /// The index of the name that has these octets. It is looked for where the last ones were found, and then searched
     /// for.
     #[inline(always)]
-    pub(crate) fn find(&self, text: &[u8], found: &FoundLast) -> Option<usize>
+    pub(crate) fn find(&self, found: &FoundLast, text: &[u8]) -> Option<usize>
         ensures { result ≡ position (bytes_eq text.now) self.now }
     {
         let last = found.last();
