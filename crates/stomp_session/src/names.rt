@@ -147,11 +147,7 @@ impl Names {
 
     /// What a destination names: 76 where no topic has the name and none is made for it, 75 where none has it and there
     /// are 1,024. It changes nothing, and takes no memory.
-    pub(crate) fn judge(
-        &self,
-        found: &FoundLast,
-        name: &[u8],
-    ) -> Result<Destination, SessionFault>
+    pub(crate) fn judge(&self, found: &FoundLast, name: &[u8]) -> Result<Destination, SessionFault>
         ensures topic { IfOk result (λ d. d.topic.0 ≡ index_of name.now self.now) }
         ensures is_new { IfOk result (λ d. d.is_new ≡ not (is_known name.now self.now)) }
         ensures few { IfOk result (λ d. d.is_new ≡ true → length self.now < max_topics) }
@@ -225,11 +221,7 @@ fn is_same_at(here: &Names, there: &Names, topic: Topic) -> bool
 
 /// The index of the one of these names that is this one.
 #[inline(always)]
-fn index_in(
-    shared: &Option<Arc<NameSet>>,
-    found: &FoundLast,
-    name: &[u8],
-) -> Option<usize>
+fn index_in(shared: &Option<Arc<NameSet>>, found: &FoundLast, name: &[u8]) -> Option<usize>
     ensures { result ≡ position (bytes_eq name.now) (names_in shared.now) }
 {
     match shared {
