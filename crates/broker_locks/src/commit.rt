@@ -19,8 +19,9 @@ use sender_gate::{Flying, Gate};
 /// Commits a transaction: enters its parts by rising topic, each with the gate's floor, and decides by the tickets.
 /// The point is told before each proposal. Returned are the gate, whose floor is the stamp now, the stamp, and a note
 /// of the flight's cell, which knows the verdict that was set there. Refused: 40, 41, 42 or 49 where a topic refuses
-/// its part, with that topic's fault; then what was entered is cancelled, and the gate is returned with its old floor. 32 where the flight has
-/// another verdict; then the parts are cancelled likewise, and the gate's floor is this one's stamp.
+/// its part, with that topic's fault; then what was entered is cancelled, and the gate is returned with its old floor.
+/// 32 where the flight has another verdict; then the parts are cancelled likewise, and the gate's floor is this one's
+/// stamp.
 pub fn commit_on<P: Places, Q: Point>(
     flying: Flying,
     places: &mut P,

@@ -12,8 +12,8 @@ use mcast_group::{Proposal, ProposeFault};
 use mcast_txn::{NoMemory, Part, Stamp, Ticket, Topic, TxnId};
 use std::alloc::Global;
 use std::snapshot::Snapshot;
-use std::sync::ledger::Share;
 use std::sync::Wait;
+use std::sync::ledger::Share;
 
 /// A broker's locks, the share of the worker that commits, the room that is reserved for its commit, and what that did
 /// behind them. Each call takes a topic's lock, within it the total's for one step of a proposal, and lets go of both.

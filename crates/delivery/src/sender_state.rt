@@ -191,9 +191,8 @@ impl SenderState {
     pub(crate) fn take_part(&mut self, topic: Topic) -> Result<(Stamp, Part), Refusal>
         ensures refused { result_err result ≡ part_refusal topic self.old.sending }
         ensures floor { IfOk result (λ taken. taken.0 ≡ (gate_of self.old.sending).floor) }
-        ensures part { IfOk result (λ taken. Some (data_of taken.1)
-            ≡ part_in topic self.old.sending) }
-        ensures own { IfOk result (λ taken. taken.1.topic ≡ topic) }
+        ensures part { IfOk result (λ taken. Some (data_of taken.1) ≡ part_in topic self.old.sending) }
+        ensures own { IfOk result (λ taken. (data_of taken.1).topic ≡ topic) }
         ensures flown { OnOk result (is_flying self.old.sending ≡ true) }
         ensures flying { is_flying self.new.sending ≡ is_flying self.old.sending }
         ensures new { self.new ≡ taken_sender topic self.old }
