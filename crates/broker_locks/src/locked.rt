@@ -71,9 +71,9 @@ impl<'a, R: Wait, W: Side, T: Side> Places for Locked<'a, R, W, T> {
 
     ghost may_refuse = { λ l floor part fault. Unit {0} };
 
-    /// Enters the part behind its topic's lock, before which it is moved to the heap, with a copy for each subscription
-    /// that was open there. Refused as there, 49 also where there is no such lock, 42 also where there is no memory to
-    /// move it. Where room is reserved at its topic, that is used up as it is entered.
+    /// Enters the part behind its topic's lock, before which it is shared for each subscription that was open there.
+    /// Refused as there, 49 also where there is no such lock, 42 also where there is no memory to share it. Where room
+    /// is reserved at its topic, that is used up as it is entered.
     fn propose(&mut self, floor: Stamp, part: Part) -> Result<Ticket, ProposeFault> {
         let Some(lock) = self.broker.lock_of(part.topic()) else {
             return Err(ProposeFault::Twice);

@@ -160,7 +160,7 @@ impl<R: Wait> Place<R> {
         Ok(ticket)
     }
 
-    /// `propose`, of a part that was moved to the heap before, and whose ticket is counted. The counter is asked once
+    /// `propose`, of a part that was made ready before, and whose ticket is counted. The counter is asked once
     /// all memory is made and nothing else can refuse: so a total that is full is 40, and nothing is entered, and the
     /// ticket that was counted is given.
     pub fn enter<C: TicketCounter>(

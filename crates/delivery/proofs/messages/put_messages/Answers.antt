@@ -11,6 +11,6 @@ loop-i-preserved c =
         (λ (p : PartMessage). (sent.index ≡ p.index) × (sent.headers.now ≡ p.headers) × (sent.body.now ≡ p.body)) sends there c.send-send.ensures in
     let p = lent.0 in let stamp = ap (λ (i : Item). i.stamp) c.item.view_is in
     let body : c.as_slice.result.now ≡ p.body = c.as_slice.ensures ∙ lent.2.2 in
-    let whole = c.in_ok-write_server.ensures.ok
+    let whole : c.write_server.new.out ≡ c.loop-i.out ++ spelling_of (message_of c.args.id.now item.stamp p) = c.in_ok-write_server.ensures.ok
     ∙ (λ k. c.loop-i.out ++ spelling_of (message_frame c.args.id.now (message_id (stamp k).n (stamp k).topic.0 (lent.2.0 k)) (lent.2.1 k) (body k))) in
     record { written = text_put (message_of c.args.id.now item.stamp) item.sends c.loop-i.i p c.args.out.now c.loop-i.out c.write_server.new.out there lent.1 c.loop-i.invariant.written whole }

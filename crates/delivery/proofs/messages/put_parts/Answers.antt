@@ -23,7 +23,7 @@ loop-i-preserved c =
         (λ (p : PartMessage). (sent.index ≡ p.index) × (sent.headers.now ≡ p.headers) × (sent.body.now ≡ p.body)) sends there c.send-sent.ensures in
     let p = lent.0 in let stamp = ap (λ (x : Item). x.stamp) c.item.view_is in
     let body : c.as_slice.result.now ≡ p.body = c.as_slice.ensures ∙ lent.2.2 in
-    let whole = c.in_ok-write_part_message.ensures.ok
+    let whole : c.write_part_message.new.out ≡ c.loop-i.out ++ spelling_of (placed_of (length item.sends) c.args.id.now item.stamp (i + 1, p)) = c.in_ok-write_part_message.ensures.ok
     ∙ (λ k. c.loop-i.out ++ spelling_of (part_message_frame (i + 1) (many k) c.args.id.now (message_id (stamp k).n (stamp k).topic.0 (lent.2.0 k)) (lent.2.1 k) (body k))) in
     record {
       written = text_put (placed_of (length item.sends) c.args.id.now item.stamp) (enumerate_from 1 item.sends) i (i + 1, p) c.args.out.now c.loop-i.out
