@@ -26,10 +26,6 @@ MOST_STILL, RATE_AGAIN, OF_COMING = 1.5, 0.9, 0.05
 AGAIN_WITHIN = 70
 SLOW_BUT_READING = Pace("200 KB a second", 2000, 0.01)
 
-# For how long one that reads fast enough may stand still: less than the second for which one that had 8 MiB taken costs nothing. Beside busy
-# processes the system's own next take of what it reads comes so much later.
-PAUSE, BUSY_PAUSE = 0.9, 0.7
-
 # Of those who share a slow topic: the octets of a SEND there; how many the system keeps of what one of them sends, since all of that is done
 # once they have left; within how many seconds the log is to say that they wait, and how many octets the system's buffers take at most then.
 SHARED, SHARED_ROOM, MOST_FILLING, BUFFERED = 1000, 65536, 60, 8 << 20
@@ -154,13 +150,13 @@ def stop_twice(number, seconds=2):
         os.kill(number, signal.SIGCONT)
 
 
-def fast_enough_with_pauses(trial, count=4000, pause=PAUSE):
+def fast_enough_with_pauses(trial, count=4000):
     """4,000 SENDs of 10,000 octets that come at once, to one that reads 2 MB a second, and from the sixth second on stands still for 0.9 s each
     three seconds."""
-    return comes_whole(trial, trial.part(count), 10_000, 2_000_000, Pauses(6, 3, pause))
+    return comes_whole(trial, trial.part(count), 10_000, 2_000_000, Pauses(6, 3, 0.9))
 
 
-ALL_FAST_ENOUGH = (fast_enough, fast_enough_for_large_sends, fast_enough_with_pauses, fast_enough_where_the_server_stands_still)
+FAST_ENOUGH_BESIDE_OTHERS = (fast_enough, fast_enough_for_large_sends, fast_enough_where_the_server_stands_still)
 
 
 class Pauses:
@@ -324,11 +320,10 @@ def bursts_of_many(trial):
 
 
 def busy_machine(trial, count=16):
-    """All that says who is ended, beside 16 processes that never rest."""
-    words = {fast_enough_with_pauses: {"pause": BUSY_PAUSE}}
-    rows = (bursts, bursts_of_many, waiting_for_receipts, read_after_the_last, *ALL_FAST_ENOUGH)
+    """All that says who is ended, but for who stands still again and again, beside 16 processes that never rest."""
+    rows = (bursts, bursts_of_many, waiting_for_receipts, read_after_the_last, *FAST_ENOUGH_BESIDE_OTHERS)
     with busy_processes(trial.part(count)):
-        return "; ".join(row(trial, **words.get(row, {})) for row in rows)
+        return "; ".join(row(trial) for row in rows)
 
 
 ROWS = [
@@ -339,7 +334,8 @@ ROWS = [
     slow_subscribers_that_come_each_second,
     slow_subscribers_that_subscribe_again,
     slow_for_a_minute,
-    *ALL_FAST_ENOUGH,
+    fast_enough_with_pauses,
+    *FAST_ENOUGH_BESIDE_OTHERS,
     read_after_the_last,
     waiting_for_receipts,
     sharing_a_slow_topic,

@@ -486,7 +486,7 @@ impl<C: BrokerCalls> Conversation<C> {
             × AsksInOrder C.called calls.old asked calls.new
             × DeniesFrame (raw_of frame) e.1 self.old asked self.new) }
     {
-        if is_known(&self.names, &frame) {
+        if is_known(&self.session, &self.names, &frame) {
             match self.session.step(frame, &mut self.names) {
                 Ok(step) => return Ok(step),
                 Err((frame, fault)) => return Err((frame, ConversationFault::from(fault))),
@@ -854,13 +854,13 @@ fn is_idle(reader: &FrameReader, fault: FrameFault) -> bool
 }
 
 /// Whether the frame has no destination, or one of these names.
-fn is_known(names: &Names, frame: &ClientFrame) -> bool
+fn is_known(session: &Session, names: &Names, frame: &ClientFrame) -> bool
     ensures known { result ≡ true → IsKnownTo names.now (raw_of frame.now) }
     ensures unknown { result ≡ false → IsNewTo names.now (raw_of frame.now) }
 {
     match frame {
-        ClientFrame::Send(frame) => names.find(frame.destination()).is_some(),
-        ClientFrame::Subscribe(frame) => names.find(frame.destination()).is_some(),
+        ClientFrame::Send(frame) => session.knows(names, frame.destination()),
+        ClientFrame::Subscribe(frame) => session.knows(names, frame.destination()),
         _ => true,
     }
 }

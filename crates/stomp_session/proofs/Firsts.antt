@@ -1,5 +1,5 @@
 -- The first name in a list that passes a test, and what a map of fingerprints knows of it.
-use Rattle.std.proofs.Common.{◌≡◌, ◌⊎◌, ◌×◌, inl, inr, ◌+◌, ◌<◌, ◌≤◌, ℕ, zero, suc, Bool, true, false, cond, List, [], ◌∷◌, ◌++◌, Option, Some, None, length, take, min, refl, sym, ap, ◌∙◌, arith, slice_get, get_or, position, nat_eq, nat_lt, eqb}
+use Rattle.std.proofs.Common.{◌≡◌, ◌⊎◌, inl, inr, ◌+◌, ◌<◌, ◌≤◌, ℕ, zero, suc, Bool, true, false, cond, List, [], ◌∷◌, ◌++◌, Option, Some, None, length, take, min, refl, sym, ap, ◌∙◌, arith, slice_get, get_or, position, nat_eq, nat_lt, eqb}
 use Rattle.std.proofs.lemmas.Bool.{true≢false}
 use Rattle.std.proofs.lemmas.List.{get_or-take, length-append, length-map, length-take}
 use Rattle.std.proofs.lemmas.List.Folds.{position_or_len_push}
@@ -171,7 +171,7 @@ get_one_more (other ∷ names) name zero one is = inl is
 get_one_more (other ∷ names) name (suc at) one is =
     elim (get_one_more names name at one is) [
       | inl before ↦ inl before
-      | inr (there, same) ↦ inr (ap (λ (n : ℕ). n + 1) there, same)
+      | inr (there, same) ↦ inr (omega (arith, there), same)
     ]
 
 -- one more name, which isn't known
@@ -180,15 +180,15 @@ pub distinct_one_more : (names : List (List ℕ)) (name : List ℕ) → AreDisti
 distinct_one_more names name distinct unknown at one is =
     elim (get_one_more names name at one is) [
       | inl before ↦
-        position-push (bytes_eq one) names name
-        ∙ ap (λ (o : Option ℕ). option_or o (cond (bytes_eq one name) (Some (length names)) None)) (distinct at one before)
+          position-push (bytes_eq one) names name
+          ∙ ap (λ (o : Option ℕ). option_or o (cond (bytes_eq one name) (Some (length names)) None)) (distinct at one before)
       | inr (there, same) ↦
-        let none : position (bytes_eq one) names ≡ None = ap (λ (x : List ℕ). position (bytes_eq x) names) same ∙ unknown_nowhere name names unknown in
-        let equal : bytes_eq one name ≡ true = (bytes_eq-Decides one name).1 same in
-        position-push (bytes_eq one) names name
-        ∙ ap (λ (o : Option ℕ). option_or o (cond (bytes_eq one name) (Some (length names)) None)) none
-        ∙ ap (λ (b : Bool). cond b (Some (length names)) None) equal
-        ∙ ap Some (sym there)
+          let none : position (bytes_eq one) names ≡ None = ap (λ (x : List ℕ). position (bytes_eq x) names) same ∙ unknown_nowhere name names unknown in
+          let equal : bytes_eq one name ≡ true = (bytes_eq-Decides one name).1 same in
+          position-push (bytes_eq one) names name
+          ∙ ap (λ (o : Option ℕ). option_or o (cond (bytes_eq one name) (Some (length names)) None)) none
+          ∙ ap (λ (b : Bool). cond b (Some (length names)) None) equal
+          ∙ ap Some (sym there)
     ]
 
 -- a name isn't known to those in front of it

@@ -33,7 +33,7 @@ impl Model for NameSet {
     ghost view = { λ s. names_of s.names.items };
 
     ghost invariant = { λ s.
-      FindsFirsts s.firsts.entries (names_of s.names.items) × AreDistinct (names_of s.names.items) };
+        FindsFirsts s.firsts.entries (names_of s.names.items) × AreDistinct (names_of s.names.items) };
 }
 
 impl NameSet {
@@ -65,7 +65,7 @@ impl NameSet {
     /// The index of the name that has these octets. It is looked for where the last ones were found, and then searched
     /// for.
     #[inline(always)]
-    pub(crate) fn find(&self, text: &[u8], found: &FoundLast) -> Option<usize>
+    pub(crate) fn find(&self, found: &FoundLast, text: &[u8]) -> Option<usize>
         ensures { result ≡ position (bytes_eq text.now) self.now }
     {
         let last = found.last();
@@ -87,8 +87,8 @@ impl NameSet {
     fn is_at(&self, at: usize, text: &[u8]) -> bool
         ensures { result ≡ true → position (bytes_eq text.now) self.now ≡ Some at }
     {
-        match self.name(at) {
-            Some(name) => name == text,
+        match self.names.get(at) {
+            Some(name) => name.octets() == text,
             None => false,
         }
     }

@@ -54,7 +54,6 @@ pub struct Names {
     shared: Option<Arc<NameSet>>,
     /// How many of those are the names.
     count: usize,
-    found: FoundLast,
 }
 
 impl Model for Names {
@@ -77,7 +76,6 @@ impl Names {
             alloc,
             shared: None,
             count: 0,
-            found: FoundLast::new(),
         }
     }
 
@@ -104,7 +102,6 @@ impl Names {
             alloc: self.alloc,
             shared,
             count: self.count,
-            found: FoundLast::new(),
         })
     }
 
@@ -150,14 +147,14 @@ impl Names {
 
     /// What a destination names: 76 where no topic has the name and none is made for it, 75 where none has it and there
     /// are 1,024. It changes nothing, and takes no memory.
-    pub(crate) fn judge(&self, name: &[u8]) -> Result<Destination, SessionFault>
+    pub(crate) fn judge(&self, found: &FoundLast, name: &[u8]) -> Result<Destination, SessionFault>
         ensures topic { IfOk result (λ d. d.topic.0 ≡ index_of name.now self.now) }
         ensures is_new { IfOk result (λ d. d.is_new ≡ not (is_known name.now self.now)) }
         ensures few { IfOk result (λ d. d.is_new ≡ true → length self.now < max_topics) }
         ensures ok { OnOk result (destination_fault name.now self.now ≡ None) }
         ensures err { IfErr result (λ fault. destination_fault name.now self.now ≡ Some fault) }
     {
-        if let Some(topic) = self.find(name) {
+        if let Some(topic) = self.find_by(found, name) {
             return Ok(Destination {
                 topic,
                 is_new: false,
@@ -176,13 +173,21 @@ impl Names {
         })
     }
 
-    /// The topic of this name, or `None` where no topic has it. It is found without a walk, and without a search where it
-    /// is one of the two that were found last.
+    /// The topic of this name, or `None` where no topic has it. It is found without a walk.
     pub fn find(&self, name: &[u8]) -> Option<Topic>
         ensures known { is_some result ≡ is_known name.now self.now }
         ensures index { IfSome result (λ topic. topic.0 ≡ index_of name.now self.now) }
     {
-        let index = index_in(&self.shared, name, &self.found)?;
+        self.find_by(&FoundLast::new(), name)
+    }
+
+    /// The same, without a search where it is one of the two that were found last.
+    #[inline(always)]
+    pub(crate) fn find_by(&self, found: &FoundLast, name: &[u8]) -> Option<Topic>
+        ensures known { is_some result ≡ is_known name.now self.now }
+        ensures index { IfSome result (λ topic. topic.0 ≡ index_of name.now self.now) }
+    {
+        let index = index_in(&self.shared, found, name)?;
         if index < self.count {
             Some(Topic(index as u32))
         } else {
@@ -216,15 +221,11 @@ fn is_same_at(here: &Names, there: &Names, topic: Topic) -> bool
 
 /// The index of the one of these names that is this one.
 #[inline(always)]
-fn index_in(
-    shared: &Option<Arc<NameSet>>,
-    name: &[u8],
-    found: &FoundLast,
-) -> Option<usize>
+fn index_in(shared: &Option<Arc<NameSet>>, found: &FoundLast, name: &[u8]) -> Option<usize>
     ensures { result ≡ position (bytes_eq name.now) (names_in shared.now) }
 {
     match shared {
-        Some(set) => set.find(name, found),
+        Some(set) => set.find(found, name),
         None => None,
     }
 }

@@ -1,6 +1,6 @@
 //! A connection's session.
 
-ghost use Rattle.std.specs.Prelude.{◌≡◌, ◌∷◌, [], ◌++◌, ◌-◌, ◌^◌, codes, min, ℕ, List, false, Some, None, IfSome, IfOk, IfErr, OnOk, OnErr};
+ghost use Rattle.std.specs.Prelude.{◌≡◌, ◌<◌, ◌∷◌, [], ◌++◌, ◌-◌, ◌^◌, codes, length, min, not, ℕ, List, false, true, Some, None, IfSome, IfOk, IfErr, OnOk, OnErr};
 ghost use Rattle.stomp_frame.specs.declared.command.Command.TheVariants as commands;
 ghost use Rattle.stomp_frame.specs.declared.raw_frame.RawFrame.{RawFrame as Frame};
 ghost use Rattle.stomp_frame.specs.ClientFrames.{raw_of};
@@ -8,17 +8,18 @@ ghost use Rattle.stomp_frame.specs.Headers.{IsText, first_of};
 ghost use Rattle.stomp_session.specs.declared.action.Action.TheVariants as actions;
 ghost use Rattle.stomp_session.specs.declared.phase.Phase.TheVariants as phases;
 ghost use Rattle.stomp_session.specs.declared.fault.SessionFault.TheVariants as faults;
-ghost use Rattle.stomp_session.specs.Names.{with_name};
+ghost use Rattle.stomp_session.specs.Names.{index_of, is_known, max_topics, with_name};
 ghost use Rattle.stomp_session.specs.Frames.{field, wants_parts, with_destination};
 ghost use Rattle.stomp_session.specs.Open.{after_close, asks_parts, held_after, open_weight, StandsFor};
 ghost use Rattle.mcast_txn.specs.Checks.{first_refusal};
 ghost use Rattle.stomp_session.specs.Refusals.{is_closed, is_new, has_other_ack};
 ghost use Rattle.stomp_session.specs.Answers.{Accepts, AreTexts, Refuses};
-ghost use Rattle.stomp_session.specs.Inner.Effects.{AcceptsAs, Handles, IsRouteOf, RefusesAs, held_with, is_send_frame, refusal_by};
+ghost use Rattle.stomp_session.specs.Inner.Effects.{AcceptsAs, Handles, IsRouteOf, RefusesAs, destination_fault, held_with, is_send_frame, refusal_by};
 
 use crate::action::{Action, Step};
 use crate::destination::Destination;
 use crate::fault::SessionFault;
+use crate::found_last::FoundLast;
 use crate::judged::Judged;
 use crate::names::Names;
 use crate::opened::Opened;
@@ -41,6 +42,8 @@ pub struct Session {
     phase: Phase,
     subscriptions: Subscriptions,
     transactions: Opened<Draft>,
+    /// Which of the names its frames named last.
+    found: FoundLast,
 }
 
 impl Drop for Session {
@@ -51,6 +54,7 @@ impl Drop for Session {
             phase: _,
             subscriptions,
             transactions,
+            found: _,
         } = self;
         drop(subscriptions);
         drop(transactions);
@@ -132,6 +136,7 @@ impl Session {
             phase: Phase::New,
             subscriptions: Subscriptions::new(alloc),
             transactions: Opened::new(alloc),
+            found: FoundLast::new(),
         }
     }
 
@@ -152,6 +157,27 @@ impl Session {
         ensures { result ≡ asks_parts id.now self.now }
     {
         self.subscriptions.asks_parts(id)
+    }
+
+    /// Whether this is one of the names. It is no search where its frames named it last, or before that.
+    #[inline(always)]
+    pub fn knows(&self, names: &Names, name: &[u8]) -> bool
+        ensures { result ≡ is_known name.now names.now }
+    {
+        names.find_by(&self.found, name).is_some()
+    }
+
+    /// What a destination names: 76 where no topic has the name and none is made for it, 75 where none has it and there are
+    /// 1,024. It changes nothing, and takes no memory.
+    #[inline(always)]
+    fn destination(&self, names: &Names, name: &[u8]) -> Result<Destination, SessionFault>
+        ensures topic { IfOk result (λ d. d.topic.0 ≡ index_of name.now names.now) }
+        ensures is_new { IfOk result (λ d. d.is_new ≡ not (is_known name.now names.now)) }
+        ensures few { IfOk result (λ d. d.is_new ≡ true → length names.now < max_topics) }
+        ensures ok { OnOk result (destination_fault name.now names.now ≡ None) }
+        ensures err { IfErr result (λ fault. destination_fault name.now names.now ≡ Some fault) }
+    {
+        names.judge(&self.found, name)
     }
 
     /// What the SENDs of its open transactions weigh: their octets, and 128 for each of them and of their headers. 2^64 - 1
@@ -208,7 +234,7 @@ impl Session {
         if has_other_ack(&frame.raw) {
             return Err(SessionFault::AckMode);
         }
-        let Destination { topic, is_new } = names.judge(frame.destination())?;
+        let Destination { topic, is_new } = self.destination(names, frame.destination())?;
         let id = frame.id();
         if self.subscriptions.is_open(id) {
             return Err(SessionFault::SubIdInUse);
@@ -305,7 +331,7 @@ impl Session {
             (RefusesAs commands.Send (held_with names.now self.now) frame.now.raw) }
     {
         self.connected()?;
-        let Destination { topic, is_new } = names.judge(frame.destination())?;
+        let Destination { topic, is_new } = self.destination(names, frame.destination())?;
         let transaction = match frame.raw.headers.first(b"transaction") {
             Some(name) => Some(self.transactions.index_for_send(name)?),
             None => None,

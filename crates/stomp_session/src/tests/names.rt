@@ -1,6 +1,7 @@
 //! Names of topics.
 
 use super::client::add_name;
+use crate::found_last::FoundLast;
 use crate::{Names, is_name};
 use mcast_txn::Topic;
 use std::test::Fail;
@@ -72,15 +73,19 @@ fn names_are_numbered_from_zero(rt: HostRuntime) -> Result<(), Fail> {
 /// Three names with their numbers, and one that isn't there.
 const FOUR: &[(&[u8], u32)] = &[(b"A", 0), (b"B", 1), (b"C", 2), (b"D", 1000)];
 
-/// Whether four searches one after another, each for the one of these that a digit of this number to base 4 says, find
-/// what is there.
+/// Whether four are found as they are, one after another, each the one of these that a digit of this number to base 4 says.
 fn are_found(names: &Names, order: usize) -> bool {
+    let last = FoundLast::new();
     let mut rest = order;
     for _ in 0..4 {
         let Some(&(name, number)) = FOUR.get(rest % 4) else {
             return false;
         };
-        if found(names, name) != number {
+        let is_there = match names.find_by(&last, name) {
+            Some(topic) => topic.0 == number,
+            None => number == 1000,
+        };
+        if !is_there {
             return false;
         }
         rest /= 4;

@@ -1,7 +1,7 @@
 use Rattle.std.proofs.Common.{◌≡◌, ◌∙◌, nat_lt, true, false, sym, arith}
 use Rattle.stomp_session.specs.Inner.Stored.{names_in}
 use Rattle.stomp_session.proofs.Firsts.{index_in_front, known_in_front, unknown_in_front}
-use Rattle.stomp_session.proofs.names.Names.find.Goals as goal
+use Rattle.stomp_session.proofs.names.Names.find_by.Goals as goal
 
 pub returns-in_err-index-clause-known : goal.returns-in_err-index-clause-known
 returns-in_err-index-clause-known c =
