@@ -156,7 +156,7 @@ def fast_enough_with_pauses(trial, count=4000):
     return comes_whole(trial, trial.part(count), 10_000, 2_000_000, Pauses(6, 3, 0.9))
 
 
-FAST_ENOUGH_BESIDE_OTHERS = (fast_enough, fast_enough_for_large_sends, fast_enough_where_the_server_stands_still)
+ALL_FAST_ENOUGH = (fast_enough, fast_enough_for_large_sends, fast_enough_with_pauses, fast_enough_where_the_server_stands_still)
 
 
 class Pauses:
@@ -320,8 +320,8 @@ def bursts_of_many(trial):
 
 
 def busy_machine(trial, count=16):
-    """All that says who is ended, but for who stands still again and again, beside 16 processes that never rest."""
-    rows = (bursts, bursts_of_many, waiting_for_receipts, read_after_the_last, *FAST_ENOUGH_BESIDE_OTHERS)
+    """All that says who is ended, beside 16 processes that never rest."""
+    rows = (bursts, bursts_of_many, waiting_for_receipts, read_after_the_last, *ALL_FAST_ENOUGH)
     with busy_processes(trial.part(count)):
         return "; ".join(row(trial) for row in rows)
 
@@ -334,8 +334,7 @@ ROWS = [
     slow_subscribers_that_come_each_second,
     slow_subscribers_that_subscribe_again,
     slow_for_a_minute,
-    fast_enough_with_pauses,
-    *FAST_ENOUGH_BESIDE_OTHERS,
+    *ALL_FAST_ENOUGH,
     read_after_the_last,
     waiting_for_receipts,
     sharing_a_slow_topic,
@@ -344,4 +343,4 @@ ROWS = [
 ]
 
 # Rows that are run again in the same server: behind the second time memory is to be what the first one left.
-AGAIN = [sharing_a_slow_topic, slow_subscribers_that_come_anew, slow_subscribers_that_come_each_second]
+AGAIN = [sharing_a_slow_topic]
