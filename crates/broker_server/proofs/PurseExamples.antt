@@ -72,7 +72,7 @@ no_more = refl
 
 -- a connection of which nothing is known
 abbrev newcomer : Pace
-newcomer = record { since = None; taken = 0; tenths = record { tenths = no_tenths }; known = Full; given_up = false; ever = 0 }
+newcomer = record { since = None; taken = 0; tenths = record { tenths = no_tenths }; gulped = None; known = Full; given_up = false; ever = 0 }
 
 -- one that is behind since the tenth second, and had so many octets taken in each of these five tenths
 abbrev taking : ℕ → Pace
@@ -106,6 +106,24 @@ paused_for_a_while = refl
 
 pub paused_too_long : price_at pausing (at 121) ≡ Full
 paused_too_long = refl
+
+-- so where it has caught up since, as behind a pause in which its queue was emptied: 11.8 seconds from the beginning it
+-- has taken nothing since it fell behind at 11.2, and so much at once at 11.0
+abbrev caught_up : Pace
+caught_up = after_falling_behind (after_catching_up pausing (at 111)) (at 112)
+
+pub paused_since_it_caught_up : price_at caught_up (at 118) ≡ Sixtieth
+paused_since_it_caught_up = refl
+
+pub paused_too_long_since : price_at caught_up (at 120) ≡ Full
+paused_too_long_since = refl
+
+-- but not what the buffers may have held, nor small pieces
+pub newcomers_may_not_pause : price_at (after_falling_behind (after_catching_up (taking 600000) (at 105)) (at 106)) (at 108) ≡ Full
+newcomers_may_not_pause = refl
+
+pub small_pieces_are_no_gulp : (after_octets (after_octets (after_falling_behind newcomer (at 100)) (at 100) 40000) (at 101) 40000).gulped ≡ None
+small_pieces_are_no_gulp = refl
 
 -- one that isn't behind costs nothing
 pub not_behind : price_at newcomer (at 105) ≡ Free

@@ -142,18 +142,23 @@ fast_tenth pace = if is_proven pace then fast else twice_a_tenth fast
 abbrev pub slow_tenth : Pace → ℕ
 slow_tenth pace = if nat_le most_buffered pace.ever then slow else twice_a_tenth slow
 
+-- It may pause: it took more than the system's buffers hold while it was behind, and so much at once, within the last
+-- second, that it is slow for a second, if it has caught up since or not.
+abbrev pub may_pause : Pace → Moment → Bool
+may_pause pace now = nat_le most_buffered pace.ever && is_some pace.gulped && nat_lt (time_since pace.gulped now) second
+
 -- the price in the first tenth of being behind: the one that is known, but a sixtieth at least where the system's
 -- buffers may have caught up for it
 abbrev pub first_price : Pace → Price
 first_price pace = if is_proven pace then Free else dearer pace.known Sixtieth
 
 -- the price after so long a time of being behind: in the first tenth that one, else by what was taken since it
--- is behind, over a second at most
+-- is behind, over a second at most; one that may pause counts as slow
 abbrev pub price_behind : Pace → Moment → ℕ → Price
 price_behind pace now time =
     if nat_lt time tenth then first_price pace else
     pace_price (is_taking pace.tenths.tenths now (min time second) fast (fast_tenth pace))
-    (is_taking pace.tenths.tenths now (min time second) slow (slow_tenth pace))
+    (may_pause pace now || is_taking pace.tenths.tenths now (min time second) slow (slow_tenth pace))
 
 -- a connection's price: nothing where it isn't behind
 abbrev pub price_at : Pace → Moment → Price
@@ -176,13 +181,20 @@ known_price known octets time =
     let price = pace_price (has_rate octets time fast) (has_rate octets time slow) in
     if nat_lt time tenth then Free else if nat_lt time second then cheaper known price else price
 
+-- when it took so much at once last, in one tenth of a second, that it is slow for a second, where this was taken then
+abbrev pub gulped_after : List Tenth → Moment → Option Moment → Option Moment
+gulped_after tenths now gulped = if nat_le slow (tenth_octets tenths (now.0 / tenth)) then Some now else gulped
+
 -- a pace after the system took so many octets
 abbrev pub after_octets : Pace → Moment → ℕ → Pace
-after_octets pace now octets = if is_some pace.since then record pace {
-  taken = plus pace.taken octets;
-  tenths = record { tenths = tenths_after pace.tenths.tenths now octets };
-  ever = plus pace.ever octets;
-} else pace
+after_octets pace now octets =
+    let tenths = tenths_after pace.tenths.tenths now octets in
+    if is_some pace.since then record pace {
+      taken = plus pace.taken octets;
+      tenths = record { tenths = tenths };
+      gulped = gulped_after tenths now pace.gulped;
+      ever = plus pace.ever octets;
+    } else pace
 
 -- after it took less than there was
 abbrev pub after_falling_behind : Pace → Moment → Pace

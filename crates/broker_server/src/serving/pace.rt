@@ -14,6 +14,7 @@ ghost use Rattle.broker_server.specs.Purses.{
   is_proven,
   is_trusted_at,
   known_price,
+  may_pause,
   no_tenths,
   pace_price,
   price_at,
@@ -47,6 +48,8 @@ pub(crate) struct Pace {
     /// How many octets were taken since then.
     taken: u64,
     tenths: Tenths,
+    /// When it took so much at once last, while it was behind, that it is slow for a second: also before it caught up.
+    gulped: Option<Moment>,
     /// What it cost when it was behind last, of which the price in the first tenth of a second of being behind is made.
     known: Price,
     /// Whether it was passed over since it is behind, and isn't waited for at any topic until it catches up.
@@ -91,6 +94,7 @@ impl Pace {
           since = None;
           taken = 0;
           tenths = record { tenths = no_tenths };
+          gulped = None;
           known = Price.Full;
           given_up = false;
           ever = 0;
@@ -100,6 +104,7 @@ impl Pace {
             since: None,
             taken: 0,
             tenths: Tenths::new(),
+            gulped: None,
             known: Price::Full,
             given_up: false,
             ever: 0,
@@ -114,6 +119,9 @@ impl Pace {
             self.taken = self.taken.saturating_add(octets);
             self.ever = self.ever.saturating_add(octets);
             self.tenths.add(now, octets);
+            if self.tenths.octets_at(now) >= u64::from(SLOW) {
+                self.gulped = Some(now);
+            }
         }
     }
 
@@ -243,6 +251,17 @@ impl Pace {
         }
     }
 
+    /// Whether it may pause: more was taken than the system's buffers hold, and enough for a second at once, within the last
+    /// second.
+    fn may_pause(&self, now: Moment) -> bool
+        ensures { result ≡ may_pause self.now now }
+    {
+        match self.gulped {
+            Some(gulped) => self.ever >= MOST_BUFFERED && now.since(gulped).0 < SECOND,
+            None => false,
+        }
+    }
+
     /// What waiting for it costs in the first tenth of a second of being behind: as it was behind last, but a sixtieth at
     /// least where the system's buffers may have caught up for it.
     fn first_price(&self) -> Price
@@ -268,7 +287,7 @@ impl Pace {
         }
         let time = Span(time.0.min(SECOND));
         let is_fast = self.is_taking(now, time, FAST, self.fast_tenth());
-        let is_slow = self.is_taking(now, time, SLOW, self.slow_tenth());
+        let is_slow = self.may_pause(now) || self.is_taking(now, time, SLOW, self.slow_tenth());
         pace_price(is_fast, is_slow)
     }
 }

@@ -50,6 +50,13 @@ impl Tenths {
         }
     }
 
+    /// How many octets were taken in this moment's tenth.
+    pub(crate) fn octets_at(&self, now: Moment) -> u64
+        ensures { result ≡ tenth_octets self.now.tenths (now.0 / tenth) }
+    {
+        self.octets_in(now.0 / TENTH)
+    }
+
     /// More octets were taken at this moment.
     #[tactic(auto, using(crate::proofs::PurseLemmas::octets_of_this, crate::proofs::PurseLemmas::octets_of_another))]
     pub(crate) fn add(&mut self, now: Moment, octets: u64)
