@@ -96,33 +96,43 @@ slower_costs_all = refl
 pub buffers_are_no_pace : price_at (after_octets (after_falling_behind newcomer (at 100)) (at 100) 4194304) (at 105) ≡ Full
 buffers_are_no_pace = refl
 
--- one that took 9 MB while it was behind, and then nothing for eight tenths, costs a sixtieth still, and all after eleven:
--- what its buffers hold it had taken before
+-- one that took 9 MB while it was behind, the last 200,000 octets at once, and then nothing for 19 tenths, costs a sixtieth
+-- still, and all after two seconds: what its buffers hold it had taken before
 abbrev pausing : Pace
 pausing = after_octets (after_octets (after_falling_behind newcomer (at 100)) (at 100) 8800000) (at 110) 200000
 
-pub paused_for_a_while : price_at pausing (at 118) ≡ Sixtieth
+pub paused_for_a_while : price_at pausing (at 129) ≡ Sixtieth
 paused_for_a_while = refl
 
-pub paused_too_long : price_at pausing (at 121) ≡ Full
+pub paused_too_long : price_at pausing (at 130) ≡ Full
 paused_too_long = refl
 
--- so where it has caught up since, as behind a pause in which its queue was emptied: 11.8 seconds from the beginning it
+-- where these were 100,000 all after eleven tenths
+abbrev sipping : Pace
+sipping = after_octets (after_octets (after_falling_behind newcomer (at 100)) (at 100) 8800000) (at 110) 100000
+
+pub less_counts_for_a_second : price_at sipping (at 120) ≡ Sixtieth
+less_counts_for_a_second = refl
+
+pub and_no_longer : price_at sipping (at 121) ≡ Full
+and_no_longer = refl
+
+-- so where it has caught up since, as behind a pause in which its queue was emptied: 12.9 seconds from the beginning it
 -- has taken nothing since it fell behind at 11.2, and so much at once at 11.0
 abbrev caught_up : Pace
 caught_up = after_falling_behind (after_catching_up pausing (at 111)) (at 112)
 
-pub paused_since_it_caught_up : price_at caught_up (at 118) ≡ Sixtieth
+pub paused_since_it_caught_up : price_at caught_up (at 129) ≡ Sixtieth
 paused_since_it_caught_up = refl
 
-pub paused_too_long_since : price_at caught_up (at 120) ≡ Full
+pub paused_too_long_since : price_at caught_up (at 130) ≡ Full
 paused_too_long_since = refl
 
 -- but not what the buffers may have held, nor small pieces
 pub newcomers_may_not_pause : price_at (after_falling_behind (after_catching_up (taking 600000) (at 105)) (at 106)) (at 108) ≡ Full
 newcomers_may_not_pause = refl
 
-pub small_pieces_are_no_gulp : (after_octets (after_octets (after_falling_behind newcomer (at 100)) (at 100) 40000) (at 101) 40000).gulped ≡ None
+pub small_pieces_are_no_gulp : (after_octets (after_octets (after_falling_behind newcomer (at 100)) (at 100) 80000) (at 101) 80000).gulped ≡ None
 small_pieces_are_no_gulp = refl
 
 -- one that isn't behind costs nothing

@@ -143,9 +143,10 @@ abbrev pub slow_tenth : Pace → ℕ
 slow_tenth pace = if nat_le most_buffered pace.ever then slow else twice_a_tenth slow
 
 -- It may pause: it took more than the system's buffers hold while it was behind, and so much at once, within the last
--- second, that it is slow for a second, if it has caught up since or not.
+-- two seconds, that it is slow for as long, if it has caught up since or not.
 abbrev pub may_pause : Pace → Moment → Bool
-may_pause pace now = nat_le most_buffered pace.ever && is_some pace.gulped && nat_lt (time_since pace.gulped now) second
+may_pause pace now =
+    nat_le most_buffered pace.ever && is_some pace.gulped && nat_lt (time_since pace.gulped now) (2 * second)
 
 -- the price in the first tenth of being behind: the one that is known, but a sixtieth at least where the system's
 -- buffers may have caught up for it
@@ -181,9 +182,9 @@ known_price known octets time =
     let price = pace_price (has_rate octets time fast) (has_rate octets time slow) in
     if nat_lt time tenth then Free else if nat_lt time second then cheaper known price else price
 
--- when it took so much at once last, in one tenth of a second, that it is slow for a second, where this was taken then
+-- when it took so much at once last, in one tenth of a second, that it is slow for two, where this was taken then
 abbrev pub gulped_after : List Tenth → Moment → Option Moment → Option Moment
-gulped_after tenths now gulped = if nat_le slow (tenth_octets tenths (now.0 / tenth)) then Some now else gulped
+gulped_after tenths now gulped = if nat_le (2 * slow) (tenth_octets tenths (now.0 / tenth)) then Some now else gulped
 
 -- a pace after the system took so many octets
 abbrev pub after_octets : Pace → Moment → ℕ → Pace

@@ -36,6 +36,11 @@ const FAST: u32 = 8_388_608;
 /// Where so many are, it costs a sixtieth of the time (our choice).
 const SLOW: u32 = 65_536;
 
+/// So many at once, in a tenth of a second, are two seconds of who is slow, and count for as long (our choice).
+const GULP: u64 = 131_072;
+
+const GULP_LASTS: u64 = 2_000_000_000;
+
 /// So many octets are more than the system's buffers hold (our choice).
 pub(crate) const MOST_BUFFERED: u64 = 8_388_608;
 
@@ -48,7 +53,7 @@ pub(crate) struct Pace {
     /// How many octets were taken since then.
     taken: u64,
     tenths: Tenths,
-    /// When it took so much at once last, while it was behind, that it is slow for a second: also before it caught up.
+    /// When it took so much at once last, while it was behind, that it is slow for two seconds: also before it caught up.
     gulped: Option<Moment>,
     /// What it cost when it was behind last, of which the price in the first tenth of a second of being behind is made.
     known: Price,
@@ -119,7 +124,7 @@ impl Pace {
             self.taken = self.taken.saturating_add(octets);
             self.ever = self.ever.saturating_add(octets);
             self.tenths.add(now, octets);
-            if self.tenths.octets_at(now) >= u64::from(SLOW) {
+            if self.tenths.octets_at(now) >= GULP {
                 self.gulped = Some(now);
             }
         }
@@ -251,13 +256,13 @@ impl Pace {
         }
     }
 
-    /// Whether it may pause: more was taken than the system's buffers hold, and enough for a second at once, within the last
-    /// second.
+    /// Whether it may pause: more was taken than the system's buffers hold, and enough for two seconds at once, within the
+    /// last two.
     fn may_pause(&self, now: Moment) -> bool
         ensures { result ≡ may_pause self.now now }
     {
         match self.gulped {
-            Some(gulped) => self.ever >= MOST_BUFFERED && now.since(gulped).0 < SECOND,
+            Some(gulped) => self.ever >= MOST_BUFFERED && now.since(gulped).0 < GULP_LASTS,
             None => false,
         }
     }
