@@ -39,6 +39,7 @@ const SLOW: u32 = 65_536;
 /// So many at once, in a tenth of a second, are two seconds of who is slow, and count for as long (our choice).
 const GULP: u64 = 131_072;
 
+/// For so long, in nanoseconds.
 const GULP_LASTS: u64 = 2_000_000_000;
 
 /// So many octets are more than the system's buffers hold (our choice).
