@@ -3,7 +3,7 @@
 import collections
 import itertools
 
-# A row's words are the load generator's plan (plan.h). A growth is the group of rows that are compared with one of them. Beside a row so
+# A row's words are the load generator's plan (c/plan.h). A growth is the group of rows that are compared with one of them. Beside a row so
 # many processes are busy.
 Row = collections.namedtuple("Row", "name words topics kind growth busy", defaults=(1, "rate", None, 0))
 

@@ -18,6 +18,7 @@ UNIT = os.path.join(ROOT, "packaging", "stompd.service")
 START_SECONDS = 30
 STOP_SECONDS = 10
 
+# The sources of the C programs, which lie in c/: what the floor and the shape share, the load generator's protocols, and each program's own.
 COMMON = ["talk.c", "transactions.c", "frame.c", "message.c", "names.c", "octets.c", "listening.c", "room.c"]
 WIRES = ["wire.c", "wire_stomp.c", "wire_nats.c", "wire_mqtt.c", "wire_redis.c", "frame.c"]
 PROGRAMS = {
@@ -38,8 +39,8 @@ def build():
     os.makedirs(OUT, exist_ok=True)
     for name, sources in PROGRAMS.items():
         words = ["cc", *FLAGS, "-o", os.path.join(OUT, name), *sources]
-        if subprocess.run(words, cwd=HERE, check=False).returncode != 0:
-            raise Stop(f"bench/serving: {name} can't be compiled")
+        if subprocess.run(words, cwd=os.path.join(HERE, "c"), check=False).returncode != 0:
+            raise Stop(f"bench/serving/c: {name} can't be compiled")
 
 
 def find_stompd(path):

@@ -343,4 +343,4 @@ ROWS = [
 ]
 
 # Rows that are run again in the same server: behind the second time memory is to be what the first one left.
-AGAIN = [sharing_a_slow_topic, slow_subscribers_that_come_anew]
+AGAIN = [sharing_a_slow_topic, slow_subscribers_that_come_anew, slow_subscribers_that_come_each_second]

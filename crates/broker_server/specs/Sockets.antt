@@ -2,6 +2,7 @@
 use Rattle.std.specs.Prelude.{◌≡◌, ◌⊎◌, ℕ, ◌<◌, ◌≤◌, ◌==◌, ◌&&◌, ◌||◌, not, Bool, true, false, nat_lt, List, [], ◌∷◌, ◌++◌, length, Option, None, Some, if◌then◌else◌}
 use Rattle.mio.specs.declared.event.event.Event.{Event}
 use Rattle.mio.specs.Event.{event_token, is_readable, is_writable, is_error, is_read_closed, is_write_closed}
+use Rattle.broker_server.specs.Counts.{plus}
 use Rattle.broker_server.specs.declared.serving.socket.Came.{Came}
 use Rattle.broker_server.specs.declared.serving.socket.Came.TheVariants.{Octets, Nothing, Again, End}
 use Rattle.broker_server.specs.declared.serving.socket.Socket.{Socket}
@@ -47,6 +48,11 @@ after_read (Octets n) room socket = record socket {
 after_read Nothing room socket = record socket { readable = false }
 after_read Again room socket = socket
 after_read End room socket = socket
+
+-- how many octets were read in all, where they were so many before a read that gave this
+abbrev pub octets_with : Came → ℕ → ℕ
+octets_with (Octets n) octets = plus octets n
+octets_with _ octets = octets
 
 -- A read, which leaves the room so.
 -- idle: it gives nothing where nothing can be there.

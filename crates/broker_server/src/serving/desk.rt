@@ -1,9 +1,10 @@
 //! What a connection's thread works at.
 
-ghost use Rattle.std.specs.Prelude.{◌≡◌, ◌<◌, ◌-◌, ◌==◌, ◌&&◌, nat_le, true, false, List, [], IfSome, None, Some, is_some};
+ghost use Rattle.std.specs.Prelude.{if◌then◌else◌, ◌≡◌, ◌<◌, ◌-◌, ◌==◌, ◌&&◌, nat_lt, nat_le, true, false, List, [], IfSome, None, Some, is_some};
 ghost use Rattle.broker_server.specs.BrokerRows.{BrokerRow};
+ghost use Rattle.broker_server.specs.Counts.{plus};
 ghost use Rattle.broker_server.specs.Delivering.{DeliversRound, may_read};
-ghost use Rattle.broker_server.specs.Sockets.{SocketReads, SocketWrites};
+ghost use Rattle.broker_server.specs.Sockets.{SocketReads, SocketWrites, octets_with};
 ghost use Rattle.broker_server.specs.declared.serving.socket.Came.TheVariants.{Nothing};
 
 use crate::conversation::{BrokerCalls, Conversation};
@@ -88,7 +89,14 @@ impl<'a, R: Wait + Log + Clock, W: Side, T: Side> Desk<'a, R, W, T> {
     pub(crate) fn write(&mut self) -> usize
         ensures written { SocketWrites self.old.socket self.old.talk.wire result
             self.new.socket self.new.talk.wire }
-        ensures calls { self.new.calls ≡ self.old.calls }
+        ensures rest { self.new ≡ record self.old {
+          socket = self.new.socket;
+          talk = self.new.talk;
+          untaken = self.new.untaken;
+          streak = self.new.streak;
+          octets_out = if nat_lt 0 result then plus self.old.octets_out result
+            else self.old.octets_out;
+        } }
         ensures talk { self.new.talk ≡ record self.old.talk { wire = self.new.talk.wire } }
         ensures taken { 0 < result → self.new.untaken ≡ None }
         ensures untaken { result ≡ 0 → self.new.untaken ≡ self.old.untaken }
@@ -114,7 +122,14 @@ impl<'a, R: Wait + Log + Clock, W: Side, T: Side> Desk<'a, R, W, T> {
     fn write_some(&mut self) -> usize
         ensures written { SocketWrites self.old.socket self.old.talk.wire result
             self.new.socket self.new.talk.wire }
-        ensures calls { self.new.calls ≡ self.old.calls }
+        ensures rest { self.new ≡ record self.old {
+          socket = self.new.socket;
+          talk = self.new.talk;
+          untaken = self.new.untaken;
+          streak = self.new.streak;
+          octets_out = if nat_lt 0 result then plus self.old.octets_out result
+            else self.old.octets_out;
+        } }
         ensures talk { self.new.talk ≡ record self.old.talk { wire = self.new.talk.wire } }
         ensures taken { 0 < result → self.new.untaken ≡ None }
         ensures untaken { result ≡ 0 → self.new.untaken ≡ self.old.untaken }
@@ -152,8 +167,10 @@ impl<'a, R: Wait + Log + Clock, W: Side, T: Side> Desk<'a, R, W, T> {
         ensures idle { may_read self.old.talk ≡ false
             → (result ≡ Nothing) × (self.new ≡ self.old) × (room.new ≡ room.old) }
         ensures read { may_read self.old.talk ≡ true → SocketReads self.old.socket result room.new self.new.socket }
-        ensures talk { self.new.talk ≡ self.old.talk }
-        ensures calls { self.new.calls ≡ self.old.calls }
+        ensures rest { self.new ≡ record self.old {
+          socket = self.new.socket;
+          octets_in = octets_with result self.old.octets_in;
+        } }
     {
         if !self.talk.may_read() {
             return Came::Nothing;
