@@ -68,7 +68,7 @@
 #ifndef FRAMES                   /* frames of each client of those who take, at any time: UNSUBSCRIBE or its end */
 #define FRAMES 0
 #endif
-#ifndef LATE                     /* 1: the last subscription isn't there at the beginning: SUBSCRIBE may be a frame */
+#ifndef LATE                     /* 1: the last subscription isn't there at the beginning: SUBSCRIBE may be a frame; 2: no other is */
 #define LATE 0
 #endif
 #ifndef REFUSALS                 /* so many transactions are refused as they are entered at their last topic */
@@ -80,7 +80,8 @@
 #ifndef WITHOUT                  /* so many are committed without room, for want of memory */
 #define WITHOUT 0
 #endif
-/* NEVER: the client of the first subscription never reads. CLOSES: the server ends, at some time. HEADS: a head turns
+/* NEVER: the client of the first subscription never reads; or, as 2, of the second. TARRIES: a thread may be late: who reads
+   may be passed over, too, where nothing was taken since the look before. CLOSES: the server ends, at some time. HEADS: a head turns
    what was committed by who has committed more than one. Transactions are to one topic or two; those of sender n are to
    the topics whose bits are TO0, TO1, TO2; BOTH: to all; OTHER: the first sender's are to all, and the others' to those
    of these bits. SETTLES: a verdict is a step of its own. ONCE: who reads a transaction that finds no room sleeps, where
@@ -112,6 +113,11 @@
 #define TO2 TO1
 #endif
 #define TO(c) ((c) == 0 -> TO0 : ((c) == 1 -> TO1 : TO2))
+#ifdef NEVER
+#define NEVER_READS(c) ((c) == TAKER(NEVER - 1))
+#else
+#define NEVER_READS(c) false
+#endif
 #ifdef HALVES
 #define HALFWAY(c) half[c]
 #define OWES(c) owing[c]
@@ -208,6 +214,11 @@ byte told[NUMBER];                 /* told, and not heard */
 bool telling[NUMBER];              /* just being told: nothing is heard */
 bool passed_over[NUMBER];          /* the seat's, for who takes */
 bool has[NUMBER];                  /* the connection has it */
+#ifdef TARRIES
+bool taken[NUMBER];                /* the seat's: something was taken since a look; */
+bool took[NUMBER];                 /* the same, for the property alone */
+bool tarried[NUMBER];              /* the account's: a look found it, and its connection wasn't behind */
+#endif
 
 bool closing;
 byte passes, refusals, given_back, without;
@@ -243,6 +254,26 @@ bool served;                     /* the first sender's were entered */
 #define HAS_ROOM(t, count) (!IS_FULL(t, count))
 #endif
 #define HEAR(sub) if :: telling[sub] -> skip :: else -> told[sub] = 0 fi
+
+/* Who a look may pass over, of those who lack room: seat_entry.rt join_look. It finds the seats by their subscriptions'
+   numbers, and one that hasn't begun has none. */
+#ifdef TARRIES
+#define IS_LATE(sub) (tarried[sub] && !taken[sub])
+#else
+#define IS_LATE(sub) false
+#endif
+#ifdef M_SEAT_AT_ZERO
+#define BEGINS_BESIDE(sub) (sub == 0 && seated[SUBS - 1] && !open_[SUBS - 1] && TOPIC(SUBS - 1) == TOPIC(0) && !reads[TAKER(SUBS - 1)])
+#else
+#define BEGINS_BESIDE(sub) false
+#endif
+#define IS_SLOW(sub) (!reads[TAKER(sub)] || IS_LATE(sub) || BEGINS_BESIDE(sub))
+/* Who may lag: where each client reads always, or never, and there is memory, only those of one that never does. */
+#if STOPS > 0 || WITHOUT > 0 || defined(TARRIES)
+#define MAY_LAG(sub) true
+#else
+#define MAY_LAG(sub) !reads[TAKER(sub)]
+#endif
 
 /* What the inlines below use; each leaves its own as it found it: zero. */
 #ifdef M_RUNG_FOR_ONE
@@ -387,6 +418,13 @@ inline tell_taken(sub, is_rung) {
   :: d_step { told[sub] > 0 -> telling[sub] = true };
      d_step { told[sub] = told[sub] + untold[sub]; untold[sub] = 0; telling[sub] = false }
   fi;
+#ifdef TARRIES
+  d_step {                                                       /* seat.rt set_taken */
+#ifndef M_TAKEN_UNTOLD
+    taken[sub] = true;
+#endif
+    took[sub] = true };
+#endif
 #ifdef M_RUNG_FOR_ONE
   if
   :: is_rung && lacked -> lacked = false; line_ring(TOPIC(sub), Sub(sub))
@@ -593,7 +631,7 @@ inline topic_turn(at) {
              if
              :: u < SUBS ->
                 if
-                :: queue[u] >= CAPACITY -> assert(!waited[u]); lagged[u] = true
+                :: queue[u] >= CAPACITY -> assert(!waited[u] && MAY_LAG(u)); lagged[u] = true
                 :: else -> queue[u]++
                 fi;
                 u++; TO_THE_NEXT(GETS(at))
@@ -693,8 +731,18 @@ inline turn_owed(may_tell) {
 inline look_at_whom(at, c) {
 #if PASSES > 0
   do
-  :: d_step { passes < PASSES && x < SUBS && TOPIC(x) == at && !topic[at] && !reads[TAKER(x)] && LACKS(x, asks) ->
+#ifdef TARRIES
+  :: d_step { x < SUBS && TOPIC(x) == at && !topic[at] && !seats[at] && LACKS(x, asks) ->
+       over = IS_SLOW(x); assert(!over || !reads[TAKER(x)] || !took[x]);
+       tarried[x] = reads[TAKER(x)]; taken[x] = false; took[x] = false };
+     if
+     :: !over || passes >= PASSES -> over = false; x++
+     :: over -> over = false; x++                                /* it is waited for still */
+     :: d_step { over && passes < PASSES && !topic[at] -> over = false; passes++;
+#else
+  :: d_step { passes < PASSES && x < SUBS && TOPIC(x) == at && !topic[at] && IS_SLOW(x) && LACKS(x, asks) ->
        passes++;
+#endif
 #ifdef M_PASSED_FIRST
        passed_over[x] = true
      };
@@ -716,7 +764,12 @@ inline look_at_whom(at, c) {
      :: !done
      fi;
      x++
+#ifdef TARRIES
+     fi
+  :: x < SUBS && !(TOPIC(x) == at && LACKS(x, asks)) -> x++
+#else
   :: x < SUBS -> x++
+#endif
   :: x >= SUBS -> break
   od;
   x = 0;
@@ -738,7 +791,7 @@ inline look_at_whom(at, c) {
   fi } u = 0
 #define SETTLE for (u : 0 .. TOPICS - 1) { if :: want & BIT(u) -> undecided[u]-- :: else fi } u = 0; want = 0
 #define MAY_BE_PASSED(sub) (sub < SUBS && stands[c] == 1 + TOPIC(sub) && line[TOPIC(sub)] ? [eval(c)] && \
-  LACKS(sub, asks) && !reads[TAKER(sub)])
+  LACKS(sub, asks) && IS_SLOW(sub))
 /* waiting.rt gives_up: leaves its line, and gives all back */
 inline cancel(c) {
   if
@@ -1329,24 +1382,21 @@ end:
 }
 #endif
 
+#define MAY_SUBSCRIBE(c) (LATE && TAKER(SUBS - 1) == c && !open_[SUBS - 1] && !seated[SUBS - 1])
 /* A client of who takes: it stops reading for a while, or says its frames. */
 proctype Client(byte c) {
   byte stops = 1, said;
 end:
   do
   :: atomic { reads[c] && stops < STOPS -> stops++; reads[c] = false }
-#ifdef NEVER
-  :: atomic { !reads[c] && c != TAKER(0) -> reads[c] = true }
-#else
-  :: atomic { !reads[c] -> reads[c] = true }
-#endif
+  :: atomic { !reads[c] && !NEVER_READS(c) -> reads[c] = true }
 #if FRAMES > 0
-  :: atomic { said < FRAMES && frame[c] == Nothing && !gone[c] ->
+  :: atomic { said < FRAMES && frame[c] == Nothing && !gone[c] && (LATE < 2 || MAY_SUBSCRIBE(c)) ->
        said++;
        if
-       :: LATE && TAKER(SUBS - 1) == c && !open_[SUBS - 1] && !seated[SUBS - 1] && said == 1 -> frame[c] = Subscribe
-       :: frame[c] = Unsubscribe
-       :: frame[c] = End
+       :: MAY_SUBSCRIBE(c) && said == 1 -> frame[c] = Subscribe
+       :: LATE < 2 -> frame[c] = Unsubscribe
+       :: LATE < 2 -> frame[c] = End
        fi }
 #endif
   od
@@ -1436,11 +1486,7 @@ init {
       :: !SENDS(i) && FILLED == 0 -> bell[i] = Asleep
       :: else
       fi;
-#ifdef NEVER
-      reads[i] = (STOPS == 0 && i != TAKER(0));
-#else
-      reads[i] = (STOPS == 0);
-#endif
+      reads[i] = (STOPS == 0 && !NEVER_READS(i));
 #ifndef HALVES
       if :: reads[i] -> skip :: else -> wire[i] = WIRE; blocked[i] = true fi;
 #endif
