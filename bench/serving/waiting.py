@@ -156,7 +156,19 @@ def fast_enough_with_pauses(trial, count=4000):
     return comes_whole(trial, trial.part(count), 10_000, 2_000_000, Pauses(6, 3, 0.9))
 
 
-ALL_FAST_ENOUGH = (fast_enough, fast_enough_for_large_sends, fast_enough_with_pauses, fast_enough_where_the_server_stands_still)
+def fast_enough_with_early_pauses(trial, count=2000):
+    """2,000 SENDs of 10,000 octets that come at once, to one that reads 2 MB a second, and from its first half second on stands still for 0.8 s
+    each 1.3 seconds: within its first 8 MiB, too."""
+    return comes_whole(trial, trial.part(count), 10_000, 2_000_000, Pauses(0.5, 1.3, 0.8))
+
+
+ALL_FAST_ENOUGH = (
+    fast_enough,
+    fast_enough_for_large_sends,
+    fast_enough_with_pauses,
+    fast_enough_with_early_pauses,
+    fast_enough_where_the_server_stands_still,
+)
 
 
 class Pauses:
