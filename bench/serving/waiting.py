@@ -162,13 +162,8 @@ def fast_enough_with_early_pauses(trial, count=2000):
     return comes_whole(trial, trial.part(count), 10_000, 2_000_000, Pauses(0.5, 1.3, 0.8))
 
 
-ALL_FAST_ENOUGH = (
-    fast_enough,
-    fast_enough_for_large_sends,
-    fast_enough_with_pauses,
-    fast_enough_with_early_pauses,
-    fast_enough_where_the_server_stands_still,
-)
+# Those that come whole beside busy processes, too.
+ALL_FAST_ENOUGH = (fast_enough, fast_enough_for_large_sends, fast_enough_with_pauses, fast_enough_where_the_server_stands_still)
 
 
 class Pauses:
@@ -347,6 +342,7 @@ ROWS = [
     slow_subscribers_that_subscribe_again,
     slow_for_a_minute,
     *ALL_FAST_ENOUGH,
+    fast_enough_with_early_pauses,
     read_after_the_last,
     waiting_for_receipts,
     sharing_a_slow_topic,
