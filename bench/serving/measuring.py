@@ -24,6 +24,9 @@ LEAST_SAID = 0.05
 # The window of a run at half of a server's rate, which is never to be full.
 WIDE = 8192
 
+# How long connections are idle, in seconds, before what they take is looked at.
+IDLE_BEFORE = 2
+
 
 def processor_times():
     """The processors' time so far, in ticks: all of it, and what the machine's host took for others (*steal*)."""
@@ -196,11 +199,12 @@ def first_figures(server, prefix, seconds):
 
 
 def idle_figures(server, prefix, count, seconds):
-    """Memory of an idle connection in KiB, and processor time of all of them together, in microseconds a second."""
+    """Memory of an idle connection in KiB, and processor time of all of them together, in microseconds a second, once they are at rest: a
+    connection of ours gives room back within a second."""
     before, connections = server.memory(), []
     try:
         connections += (subscribed(server, prefix) for _ in range(count))
-        time.sleep(min(1.0, seconds))
+        time.sleep(IDLE_BEFORE)
         begun, taken = time.monotonic(), server.time()
         time.sleep(seconds)
         taken = (server.time() - taken) / (time.monotonic() - begun)

@@ -156,6 +156,13 @@ def fast_enough_with_pauses(trial, count=4000):
     return comes_whole(trial, trial.part(count), 10_000, 2_000_000, Pauses(6, 3, 0.9))
 
 
+def fast_enough_with_early_pauses(trial, count=2000):
+    """2,000 SENDs of 10,000 octets that come at once, to one that reads 2 MB a second, and from its first half second on stands still for 0.8 s
+    each 1.3 seconds: within its first 8 MiB, too."""
+    return comes_whole(trial, trial.part(count), 10_000, 2_000_000, Pauses(0.5, 1.3, 0.8))
+
+
+# Those that come whole beside busy processes, too.
 ALL_FAST_ENOUGH = (fast_enough, fast_enough_for_large_sends, fast_enough_with_pauses, fast_enough_where_the_server_stands_still)
 
 
@@ -335,6 +342,7 @@ ROWS = [
     slow_subscribers_that_subscribe_again,
     slow_for_a_minute,
     *ALL_FAST_ENOUGH,
+    fast_enough_with_early_pauses,
     read_after_the_last,
     waiting_for_receipts,
     sharing_a_slow_topic,
@@ -343,4 +351,4 @@ ROWS = [
 ]
 
 # Rows that are run again in the same server: behind the second time memory is to be what the first one left.
-AGAIN = [sharing_a_slow_topic, slow_subscribers_that_come_anew]
+AGAIN = [sharing_a_slow_topic, slow_subscribers_that_come_anew, slow_subscribers_that_come_each_second]

@@ -72,7 +72,7 @@ no_more = refl
 
 -- a connection of which nothing is known
 abbrev newcomer : Pace
-newcomer = record { since = None; taken = 0; tenths = record { tenths = no_tenths }; gulped = None; known = Full; given_up = false; ever = 0 }
+newcomer = record { since = None; taken = 0; tenths = record { tenths = no_tenths }; resumed = false; gulped = None; known = Full; given_up = false; ever = 0 }
 
 -- one that is behind since the tenth second, and had so many octets taken in each of these five tenths
 abbrev taking : ℕ → Pace
@@ -95,6 +95,24 @@ slower_costs_all = refl
 -- 4 MiB that the system's buffers took at once, and nothing since
 pub buffers_are_no_pace : price_at (after_octets (after_falling_behind newcomer (at 100)) (at 100) 4194304) (at 105) ≡ Full
 buffers_are_no_pace = refl
+
+-- nor all that they took in the first tenth
+pub nor_a_tenth_later : price_at (after_octets (after_falling_behind newcomer (at 100)) (record { 0 = 10099999999 }) 4194304) (at 105) ≡ Full
+nor_a_tenth_later = refl
+
+-- but what is taken two tenths after it fell behind, by a client that the machine stops for long, counts for a second
+abbrev stopped : Pace
+stopped = after_octets (after_falling_behind newcomer (at 100)) (at 102) 200000
+
+pub reads_at_times : price_at stopped (at 112) ≡ Sixtieth
+reads_at_times = refl
+
+pub and_not_since : price_at stopped (at 113) ≡ Full
+and_not_since = refl
+
+-- and no longer once it fell behind anew
+pub resumes_anew : price_at (after_octets (after_falling_behind (after_catching_up stopped (at 103)) (at 104)) (at 104) 4194304) (at 109) ≡ Full
+resumes_anew = refl
 
 -- one that took 9 MB while it was behind, the last 200,000 octets at once, and then nothing for 19 tenths, costs a sixtieth
 -- still, and all after two seconds: what its buffers hold it had taken before
@@ -199,11 +217,11 @@ not_after_a_second = refl
 pub newcomers_aren't_trusted : is_trusted_at (after_falling_behind newcomer (at 200)) (at 201) ≡ false
 newcomers_aren't_trusted = refl
 
--- what it takes in one tenth pays for a second: 4 MB for four tenths, which aren't enough of one that isn't proven
+-- what it takes in one tenth pays for a second: 4 MB for four tenths, which of one that isn't proven cost a sixtieth
 pub free_at_once : price_at (after_octets (after_falling_behind proven (at 200)) (at 203) 4000000) (at 204) ≡ Free
 free_at_once = refl
 
-pub not_at_once : price_at (after_octets (after_falling_behind newcomer (at 200)) (at 203) 4000000) (at 204) ≡ Full
+pub not_at_once : price_at (after_octets (after_falling_behind newcomer (at 200)) (at 203) 4000000) (at 204) ≡ Sixtieth
 not_at_once = refl
 
 -- what it took while it was behind, over all of that time: 9 MB in one second, and in two

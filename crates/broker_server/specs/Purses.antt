@@ -135,12 +135,13 @@ abbrev pub pace_price : Bool → Bool → Price
 pace_price is_fast is_slow = if is_fast then Free else if is_slow then Sixtieth else Full
 
 -- how much of a tenth counts for being fast, and for being slow: twice its share, since the system's buffers
--- take much at once; where they are known to hold less than was taken all that a second has
+-- take much at once; all that a second has where they are known to hold less than was taken, or, for being slow,
+-- something was taken again a tenth of a second after it fell behind
 abbrev pub fast_tenth : Pace → ℕ
 fast_tenth pace = if is_proven pace then fast else twice_a_tenth fast
 
 abbrev pub slow_tenth : Pace → ℕ
-slow_tenth pace = if nat_le most_buffered pace.ever then slow else twice_a_tenth slow
+slow_tenth pace = if nat_le most_buffered pace.ever || pace.resumed then slow else twice_a_tenth slow
 
 -- It may pause: it took more than the system's buffers hold while it was behind, and so much at once, within the last
 -- two seconds, that it is slow for as long, if it has caught up since or not.
@@ -193,6 +194,7 @@ after_octets pace now octets =
     if is_some pace.since then record pace {
       taken = plus pace.taken octets;
       tenths = record { tenths = tenths };
+      resumed = pace.resumed || nat_le tenth (time_since pace.since now);
       gulped = gulped_after tenths now pace.gulped;
       ever = plus pace.ever octets;
     } else pace
@@ -203,6 +205,7 @@ after_falling_behind pace now = if is_some pace.since then pace else record pace
   since = Some now;
   taken = 0;
   tenths = record { tenths = no_tenths };
+  resumed = false;
 }
 
 -- after it took all

@@ -54,6 +54,9 @@ pub(crate) struct Pace {
     /// How many octets were taken since then.
     taken: u64,
     tenths: Tenths,
+    /// Whether something was taken a tenth of a second or more after it fell behind: what the system's buffers take by
+    /// themselves they have taken before.
+    resumed: bool,
     /// When it took so much at once last, while it was behind, that it is slow for two seconds: also before it caught up.
     gulped: Option<Moment>,
     /// What it cost when it was behind last, of which the price in the first tenth of a second of being behind is made.
@@ -100,6 +103,7 @@ impl Pace {
           since = None;
           taken = 0;
           tenths = record { tenths = no_tenths };
+          resumed = false;
           gulped = None;
           known = Price.Full;
           given_up = false;
@@ -110,6 +114,7 @@ impl Pace {
             since: None,
             taken: 0,
             tenths: Tenths::new(),
+            resumed: false,
             gulped: None,
             known: Price::Full,
             given_up: false,
@@ -121,9 +126,10 @@ impl Pace {
     pub(crate) fn takes(&mut self, now: Moment, octets: u64)
         ensures { self.new ≡ after_octets self.old now octets }
     {
-        if self.since.is_some() {
+        if let Some(since) = self.since {
             self.taken = self.taken.saturating_add(octets);
             self.ever = self.ever.saturating_add(octets);
+            self.resumed = self.resumed || now.since(since).0 >= TENTH;
             self.tenths.add(now, octets);
             if self.tenths.octets_at(now) >= GULP {
                 self.gulped = Some(now);
@@ -139,6 +145,7 @@ impl Pace {
             self.since = Some(now);
             self.taken = 0;
             self.tenths = Tenths::new();
+            self.resumed = false;
         }
     }
 
@@ -246,11 +253,12 @@ impl Pace {
         }
     }
 
-    /// How much of one counts for being slow: where more was taken than the system's buffers hold, all that a second has.
+    /// How much of one counts for being slow: where more was taken than the system's buffers hold, or something again a
+    /// tenth of a second after it fell behind, all that a second has.
     fn slow_tenth(&self) -> u32
         ensures { result ≡ slow_tenth self.now }
     {
-        if self.ever >= MOST_BUFFERED {
+        if self.ever >= MOST_BUFFERED || self.resumed {
             SLOW
         } else {
             twice_a_tenth(SLOW)
