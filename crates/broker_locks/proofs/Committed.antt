@@ -1,5 +1,5 @@
 -- What a commit leaves, by what its steps leave.
-use Rattle.std.proofs.Common.{◌≡◌, ◌++◌, ◌+◌, ℕ, true, inl, inr, List, [], map, length, Some, Result, Ok, Err, IfOk, IfErr, append_assoc, append-nil, refl, sym, ap, subst, ◌∙◌, arith}
+use Rattle.std.proofs.Common.{◌≡◌, ◌++◌, ◌+◌, ℕ, true, inl, inr, List, map, length, Some, Result, Ok, Err, IfOk, IfErr, append_assoc, refl, sym, ap, subst, ◌∙◌}
 use Rattle.std.specs.Prelude.{slice_get}
 use Rattle.std.proofs.lemmas.List.{length-map}
 use Rattle.delivery.proofs.Views.Senders.TicketsOfTopics.{rows_of_slots}
@@ -13,7 +13,7 @@ use Rattle.mcast_group.specs.declared.fault.ProposeFault.{ProposeFault}
 use Rattle.mcast_group.specs.declared.fault.ProposeFault.TheVariants as propose
 use Rattle.sender_gate.specs.Gate.{FlightState, GateState, gate_after}
 use Rattle.broker_locks.specs.declared.fault.CommitFault.{CommitFault}
-use Rattle.broker_locks.specs.declared.fault.CommitFault.TheVariants.{AlreadySet, NoMemory}
+use Rattle.broker_locks.specs.declared.fault.CommitFault.TheVariants.{AlreadySet}
 use Rattle.broker_locks.specs.Commits.{AreTold, IsCommitted, IsRefused, EnteredPart, some_refusal, cancelled, entered, parts_in, proposed_stamp, refused_floor, topics_in}
 use Rattle.broker_locks.specs.Faults.{commit_fault}
 use Rattle.broker_locks.specs.Inner.Cancelling.{IsDecidedGate, cancelled_at, topics_given}
@@ -140,21 +140,7 @@ module _ (first now : FlightState) (ns : List ℕ) (old rows : List PlaceRow) (w
 
 -- ---- a refused commit
 
--- one that had no memory for the commit itself
-pub unbegun : {P Q : Type 0} (may : P → Stamp → TopicPart → ProposeFault → Type 0) (told : Q → Topic → ℕ → Q → Type 0) (flight : FlightState) (old : List PlaceRow) (had : ℕ) (was : Q) (gate : GateState) → gate ≡ gate_after flight flight.floor → IsRefused may told flight old old had had was was gate NoMemory
-unbegun may told flight old had was gate left = record {
-  proposals = [];
-  first = refl;
-  rows = sym (append-nil old);
-  given = omega arith;
-  left = left;
-  decided = λ set. absurd (fault_other propose.NoMemory set);
-  tried = 0;
-  tells = refl;
-  why = inr (inr (refl, refl, refl));
-}
-
--- the same, said without the places that refused
+-- a refused commit, said without the places that refused
 pub refused_somewhere : {P Q : Type 0} (may : P → Stamp → TopicPart → ProposeFault → Type 0) (told : Q → Topic → ℕ → Q → Type 0) (flight : FlightState) (old new : List PlaceRow) (had has had' has' : ℕ) (was is_now : Q) (gate : GateState) (fault : CommitFault) → had ≡ had' → has ≡ has' → IsRefused may told flight old new had has was is_now gate fault → IsRefused some_refusal told flight old new had' has' was is_now gate fault
 refused_somewhere may told flight old new had has had' has' was is_now gate fault e f r = record {
   proposals = r.proposals;

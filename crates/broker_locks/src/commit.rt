@@ -1,7 +1,6 @@
 //! Commits over any places.
 
 ghost use Rattle.std.specs.Prelude.{◌≡◌, ◌++◌, ◌+◌, ◌≤◌, ◌<◌, ℕ, List, length, map, false, IfOk, IfErr, OnOk, OnErr};
-ghost use Rattle.std.specs.Arc.{arc_value};
 ghost use Rattle.std.specs.List.{list_any};
 ghost use Rattle.std.specs.Option.{is_none};
 ghost use Rattle.sender_gate.specs.Gate.{FlightState};
@@ -14,15 +13,15 @@ use crate::fault::CommitFault;
 use crate::places::Places;
 use crate::point::Point;
 use mcast_group::ProposeFault;
-use mcast_txn::{AlreadySet, Flight, Seen, Stamp, Tickets, TxnId};
+use mcast_txn::{AlreadySet, Seen, Stamp, Tickets, TxnId};
 use sender_gate::{Flying, Gate};
 
 /// Commits a transaction: enters its parts by rising topic, each with the gate's floor, and decides by the tickets.
 /// The point is told before each proposal. Returned are the gate, whose floor is the stamp now, the stamp, and a note
 /// of the flight's cell, which knows the verdict that was set there. Refused: 40, 41, 42 or 49 where a topic refuses
-/// its part, with that topic's fault, 42 also where there is no memory to share the flight, before the first
-/// proposal; then what was entered is cancelled, and the gate is returned with its old floor. 32 where the flight has
-/// another verdict; then the parts are cancelled likewise, and the gate's floor is this one's stamp.
+/// its part, with that topic's fault; then what was entered is cancelled, and the gate is returned with its old floor.
+/// 32 where the flight has another verdict; then the parts are cancelled likewise, and the gate's floor is this one's
+/// stamp.
 pub fn commit_on<P: Places, Q: Point>(
     flying: Flying,
     places: &mut P,
@@ -43,11 +42,8 @@ pub fn commit_on<P: Places, Q: Point>(
         (P.given places.new ≤ P.given places.old + length (topics_in flying.state)) }
 {
     let mut flying = flying;
-    let Ok(flight) = flying.flight().clone() else {
-        return Err((flying.withdraw().0, CommitFault::NoMemory));
-    };
     match propose_all(&mut flying, places, point) {
-        Ok(()) => settle(flying, &flight, places),
+        Ok(()) => settle(flying, places),
         Err(fault) => {
             let id = flying.id();
             let (gate, tickets) = flying.withdraw();
@@ -61,10 +57,8 @@ pub fn commit_on<P: Places, Q: Point>(
 /// the parts are cancelled.
 fn settle<P: Places>(
     flying: Flying,
-    flight: &Flight,
     places: &mut P,
 ) -> Result<(Gate, Stamp, Seen), (Gate, CommitFault)>
-    requires own { flight.now ≡ flying.flight }
     requires complete { list_any (λ slot. is_none slot.1) flying.state.tickets ≡ false }
     requires entered { AreUncancelled (topics_given flying.state) flying.state.id (P.rows places.old) }
     ensures decided { IfOk result (λ done. IsDecidedGate flying.state done.0 × (done.1 ≡ done.0.floor)
@@ -77,10 +71,11 @@ fn settle<P: Places>(
         ≡ P.rows places.old ++ map (cancelled_at flying.state.id) (topics_given flying.state))) }
 {
     let id = flying.id();
-    let Ok((gate, verdict)) = flying.decide() else {
+    let Ok((gate, verdict, parts)) = flying.decide_keeping() else {
         unreachable!();
     };
     let stamp = verdict.stamp();
+    let flight = parts.flight();
     let mut note = flight.note();
     match flight.decide(&mut note, verdict) {
         Ok(()) => Ok((gate, stamp, Seen::new(note))),

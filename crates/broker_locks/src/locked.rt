@@ -1,7 +1,6 @@
 //! A broker's locks, as a commit sees them.
 
 ghost use Rattle.std.specs.Prelude.{◌≡◌, [], IfOk};
-ghost use Rattle.std.specs.Arc.{arc_value};
 ghost use Rattle.broker_locks.specs.Place.{proposal_of};
 
 use crate::broker::Broker;
@@ -13,8 +12,8 @@ use mcast_group::{Proposal, ProposeFault};
 use mcast_txn::{NoMemory, Part, Stamp, Ticket, Topic, TxnId};
 use std::alloc::Global;
 use std::snapshot::Snapshot;
+use std::sync::Wait;
 use std::sync::ledger::Share;
-use std::sync::{Arc, Wait};
 
 /// A broker's locks, the share of the worker that commits, the room that is reserved for its commit, and what that did
 /// behind them. Each call takes a topic's lock, within it the total's for one step of a proposal, and lets go of both.
@@ -72,19 +71,19 @@ impl<'a, R: Wait, W: Side, T: Side> Places for Locked<'a, R, W, T> {
 
     ghost may_refuse = { λ l floor part fault. Unit {0} };
 
-    /// Enters the part behind its topic's lock, before which it is moved to the heap, with a copy for each subscription
-    /// that was open there. Refused as there, 49 also where there is no such lock, 42 also where there is no memory to
-    /// move it. Where room is reserved at its topic, that is used up as it is entered.
-    fn propose(&mut self, floor: Stamp, part: Arc<Part>) -> Result<Ticket, ProposeFault> {
-        let Some(lock) = self.broker.lock_of(part.topic) else {
+    /// Enters the part behind its topic's lock, before which it is shared for each subscription that was open there.
+    /// Refused as there, 49 also where there is no such lock, 42 also where there is no memory to share it. Where room
+    /// is reserved at its topic, that is used up as it is entered.
+    fn propose(&mut self, floor: Stamp, part: Part) -> Result<Ticket, ProposeFault> {
+        let Some(lock) = self.broker.lock_of(part.topic()) else {
             return Err(ProposeFault::Twice);
         };
         let Ok(()) = self.done.reserve() else {
             return Err(ProposeFault::NoMemory);
         };
-        let shown = Snapshot::of(&*part);
-        let many = self.broker.open_at(part.topic);
-        let index = self.reserved.index_of(part.topic);
+        let shown = Snapshot::of(&part);
+        let many = self.broker.open_at(part.topic());
+        let index = self.reserved.index_of(part.topic());
         let Ok(proposal) = copied(self.broker.alloc(), part, many) else {
             return Err(ProposeFault::NoMemory);
         };
@@ -116,8 +115,8 @@ impl<'a, R: Wait, W: Side, T: Side> Places for Locked<'a, R, W, T> {
 }
 
 /// A proposal of this part, with a copy for each of so many subscriptions.
-fn copied(alloc: Global, part: Arc<Part>, many: usize) -> Result<Proposal, NoMemory>
-    ensures { IfOk result (λ proposal. proposal ≡ proposal_of (arc_value part)) }
+fn copied(alloc: Global, part: Part, many: usize) -> Result<Proposal, NoMemory>
+    ensures { IfOk result (λ proposal. proposal ≡ proposal_of part) }
 {
     let mut proposal = Proposal::new(alloc, part)?;
     proposal.copy_for(alloc, many)?;

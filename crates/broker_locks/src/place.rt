@@ -1,7 +1,6 @@
 //! What one topic's lock guards.
 
 ghost use Rattle.std.specs.Prelude.{◌≡◌, ◌+◌, ℕ, List, [], length, nat_lt, slice_get, true, Result, Ok, Some, None, OnOk, OnErr, IfOk, IfErr};
-ghost use Rattle.std.specs.Arc.{arc_value};
 ghost use Rattle.std.specs.Option.{option_map};
 ghost use Rattle.mcast_txn.specs.Part.{data_of};
 ghost use Rattle.mcast_txn.specs.Span.{LogRow};
@@ -25,7 +24,7 @@ use mcast_group::{
 use mcast_txn::{NoMemory, Part, Seen, Stamp, Ticket, Topic, TxnId};
 use std::alloc::Global;
 use std::marker::Model;
-use std::sync::{Arc, Wait};
+use std::sync::Wait;
 use sub_queue::Source;
 use trace_audit::{AddFault, Trace};
 
@@ -140,17 +139,17 @@ impl<R: Wait> Place<R> {
     /// Enters a part, and gives its ticket. Refused, in this order: 49 where the part isn't of this topic or a part
     /// of the transaction is pending, 40 where no number is left, 41 where the log is at its limit, 42 out of memory;
     /// the place is then as it was.
-    pub fn propose(&mut self, floor: Stamp, part: Arc<Part>) -> Result<Ticket, ProposeFault>
-        ensures allowed { OnOk result (place_fault floor (data_of (arc_value part)) self.old ≡ None) }
+    pub fn propose(&mut self, floor: Stamp, part: Part) -> Result<Ticket, ProposeFault>
+        ensures allowed { OnOk result (place_fault floor (data_of part) self.old ≡ None) }
         ensures ticket { IfOk result (λ ticket. ticket ≡ record {
-          id = (data_of (arc_value part)).id;
+          id = (data_of part).id;
           topic = self.old.cells.group.topic.topic;
           n = next_number floor self.old.cells.group.topic;
         }) }
         ensures ok { OnOk result
-            (self.new ≡ place_after_propose floor (proposal_of (arc_value part)) self.old) }
+            (self.new ≡ place_after_propose floor (proposal_of part) self.old) }
         ensures fault { IfErr result
-            (λ fault. fault ≡ or_no_memory (place_fault floor (data_of (arc_value part)) self.old)) }
+            (λ fault. fault ≡ or_no_memory (place_fault floor (data_of part) self.old)) }
         ensures err { OnErr result (self.new ≡ self.old) }
     {
         if !is_part_at(self.group().topic(), &part) {
@@ -161,7 +160,7 @@ impl<R: Wait> Place<R> {
         Ok(ticket)
     }
 
-    /// `propose`, of a part that was moved to the heap before, and whose ticket is counted. The counter is asked once
+    /// `propose`, of a part that was made ready before, and whose ticket is counted. The counter is asked once
     /// all memory is made and nothing else can refuse: so a total that is full is 40, and nothing is entered, and the
     /// ticket that was counted is given.
     pub fn enter<C: TicketCounter>(
@@ -344,7 +343,7 @@ impl<R: Wait> Place<R> {
 fn is_part_at(topic: Topic, part: &Part) -> bool
     ensures { result ≡ is_part_at topic (data_of part.now) }
 {
-    part.topic.0 == topic.0 && names(topic, part.topics.as_slice())
+    part.topic().0 == topic.0 && names(topic, part.topics().as_slice())
 }
 
 /// Whether a topic is one of these.

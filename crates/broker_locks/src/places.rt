@@ -2,13 +2,11 @@
 
 use mcast_group::ProposeFault;
 use mcast_txn::{Part, Stamp, Ticket, Topic, TxnId};
-use std::sync::Arc;
 
 /// The topics as commits see them. In contracts it is the list of what was done there, in order: parts that were
 /// entered, and parts that were cancelled.
 pub trait Places {
     ghost use Rattle.std.specs.Prelude.{◌≡◌, ◌++◌, ◌+◌, ℕ, List, [], ◌∷◌, true, IfOk, IfErr, OnOk, OnErr};
-    ghost use Rattle.std.specs.Arc.{arc_value};
     ghost use Rattle.mcast_txn.specs.declared.stamp.Stamp.{Stamp};
     ghost use Rattle.mcast_txn.specs.Transaction.{TopicPart};
     ghost use Rattle.mcast_group.specs.declared.fault.ProposeFault.{ProposeFault};
@@ -26,15 +24,15 @@ pub trait Places {
 
     /// Enters the part at its topic, and gives its ticket, whose number is above the floor's. It makes the room that
     /// its cancelling needs. Refused, nothing has changed. It may wait for another thread.
-    fn propose(&mut self, floor: Stamp, part: Arc<Part>) -> Result<Ticket, ProposeFault>
-        ensures ticket { IfOk result (λ ticket. IsTicketFor floor (data_of (arc_value part)) ticket) }
+    fn propose(&mut self, floor: Stamp, part: Part) -> Result<Ticket, ProposeFault>
+        ensures ticket { IfOk result (λ ticket. IsTicketFor floor (data_of part) ticket) }
         ensures entered { IfOk result
             (λ ticket. rows self.new
-            ≡ rows self.old ++ Entered (data_of (arc_value part)) floor ticket.n ∷ []) }
+            ≡ rows self.old ++ Entered (data_of part) floor ticket.n ∷ []) }
         ensures one { OnOk result (given self.new ≡ given self.old + 1) }
         ensures refused { OnErr result (rows self.new ≡ rows self.old) }
         ensures none { OnErr result (given self.new ≡ given self.old) }
-        ensures fault { IfErr result (may_refuse self.old floor (data_of (arc_value part))) };
+        ensures fault { IfErr result (may_refuse self.old floor (data_of part)) };
 
     /// Cancels the transaction's part at the topic, which was entered and not cancelled yet. It takes no memory, and
     /// may wait for another thread.

@@ -51,13 +51,13 @@ pub(crate) fn write_message(
     if parts {
         return write_part(id, item, at, out);
     }
-    let send = item.part.sends.get(at);
+    let send = item.part.send(at);
     let message = ServerFrame::Message {
         subscription: id,
         n: item.stamp.n,
         topic: item.stamp.topic.0,
         index: send.index,
-        headers: &send.headers,
+        headers: send.headers,
         body: send.body.as_slice(),
     };
     write_with_eol(&message, out)
@@ -72,15 +72,14 @@ fn write_part(id: &[u8], item: &Released, at: usize, out: &mut Octets) -> Result
         (λ f. out.new ≡ out.old ++ spelling_with_eol f)) }
     ensures err { OnErr result (out.new ≡ out.old) }
 {
-    let sends = &item.part.sends;
-    let count = sends.len();
-    let send = sends.get(at);
+    let count = item.part.len();
+    let send = item.part.send(at);
     let message = PartMessage {
         subscription: id,
         n: item.stamp.n,
         topic: item.stamp.topic.0,
         index: send.index,
-        headers: &send.headers,
+        headers: send.headers,
         body: send.body.as_slice(),
         at: at as u64 + 1,
         count: count as u64,

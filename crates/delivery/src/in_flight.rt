@@ -1,7 +1,6 @@
 //! Transactions in flight, as the core sees them.
 
 ghost use Rattle.std.specs.Prelude.{◌≡◌, map, Some, None, IfErr, IfOk, OnErr, OnOk, is_err};
-ghost use Rattle.std.specs.Arc.{arc_value};
 ghost use Rattle.std.specs.List.{list_any};
 ghost use Rattle.std.specs.Option.{is_none, option_map};
 ghost use Rattle.mcast_txn.specs.Ballot.{slots_of_rows, tickets_put};
@@ -13,7 +12,6 @@ ghost use Rattle.sender_gate.specs.Gate.{ballot_of, flight_answer, gate_after};
 use mcast_txn::{Part, Stamp, Ticket, Tickets, Topic, TopicSet, TxnId, Verdict};
 use sender_gate::{Flying, Gate, GateFault};
 use std::marker::Model;
-use std::sync::Arc;
 
 /// A transaction in flight, without its cell: the core keeps verdicts in a table. In contracts it is what the flight
 /// is but for that.
@@ -61,8 +59,8 @@ impl InFlight {
 
     /// Takes the topic's part out: `None` where it was taken out before, or where the transaction doesn't name the
     /// topic.
-    pub(crate) fn part(&mut self, topic: Topic) -> Option<Arc<Part>>
-        ensures part { option_map (λ part. data_of (arc_value part)) result ≡ held_at topic self.old.parts }
+    pub(crate) fn part(&mut self, topic: Topic) -> Option<Part>
+        ensures part { option_map data_of result ≡ held_at topic self.old.parts }
         ensures taken { self.new ≡ record self.old { parts = with_slot topic None self.old.parts } }
     {
         self.flying.part(topic)

@@ -14,15 +14,14 @@ fn put_messages(id: &[u8], item: &Released, out: &mut Octets) -> Result<(), NoMe
     ensures ok { OnOk result (out.new ≡ out.old ++ flat_map spelling_of (item_messages id.now item.now)) }
     ensures err { OnErr result (Extends out.old out.new) }
 {
-    let sends = &item.part.sends;
-    for i in 0..sends.len() {
-        let send = sends.get(i);
+    for i in 0..item.part.len() {
+        let send = item.part.send(i);
         let message = ServerFrame::Message {
             subscription: id,
             n: item.stamp.n,
             topic: item.stamp.topic.0,
             index: send.index,
-            headers: &send.headers,
+            headers: send.headers,
             body: send.body.as_slice(),
         };
         write_server(&message, out)?;
@@ -36,16 +35,15 @@ fn put_parts(id: &[u8], item: &Released, out: &mut Octets) -> Result<(), NoMemor
     ensures ok { OnOk result (out.new ≡ out.old ++ flat_map spelling_of (part_messages id.now item.now)) }
     ensures err { OnErr result (Extends out.old out.new) }
 {
-    let sends = &item.part.sends;
-    let count = sends.len();
+    let count = item.part.len();
     for i in 0..count {
-        let sent = sends.get(i);
+        let sent = item.part.send(i);
         let message = PartMessage {
             subscription: id,
             n: item.stamp.n,
             topic: item.stamp.topic.0,
             index: sent.index,
-            headers: &sent.headers,
+            headers: sent.headers,
             body: sent.body.as_slice(),
             at: i as u64 + 1,
             count: count as u64,

@@ -1,7 +1,6 @@
 //! Senders of the core.
 
 ghost use Rattle.std.specs.Prelude.{◌≡◌, ◌≤◌, ◌+◌, ◌++◌, ◌<◌, ◌==◌, true, false, [], length, Some, IfOk, IfSome, OnOk, OnErr, vec_len, vec_capacity};
-ghost use Rattle.std.specs.Arc.{arc_value};
 ghost use Rattle.std.specs.List.{position, remove};
 ghost use Rattle.std.specs.Option.{option_map};
 ghost use Rattle.std.specs.Result.{result_err};
@@ -26,7 +25,6 @@ use sender_gate::Gate;
 use std::alloc::Global;
 use std::marker::Model;
 use std::mem;
-use std::sync::Arc;
 use stomp_frame::NoMemory;
 
 /// A sender: its gate or its undecided transaction, unless it is resting, and the tickets that it has to cancel.
@@ -99,7 +97,7 @@ impl SenderState {
         ensures ok { OnOk result (self.new ≡ launched_sender txn self.old) }
         ensures err { OnErr result (self.new ≡ self.old) }
     {
-        let topics = txn.share_topics()?;
+        let topics = txn.topics().copied(alloc)?;
         self.leftovers.reserve(topics.len())?;
         let gate = take_gate(&mut self.sending);
         match gate.begin(alloc, txn) {
@@ -190,12 +188,11 @@ impl SenderState {
     /// Takes the part at the topic out of its transaction, to be proposed, with the sender's floor. It takes no memory.
     /// Refused where none is undecided (83), where a topic refused it (88), where it doesn't name the topic (84), and
     /// where the part was taken out before (51).
-    pub(crate) fn take_part(&mut self, topic: Topic) -> Result<(Stamp, Arc<Part>), Refusal>
+    pub(crate) fn take_part(&mut self, topic: Topic) -> Result<(Stamp, Part), Refusal>
         ensures refused { result_err result ≡ part_refusal topic self.old.sending }
         ensures floor { IfOk result (λ taken. taken.0 ≡ (gate_of self.old.sending).floor) }
-        ensures part { IfOk result (λ taken. Some (data_of (arc_value taken.1))
-            ≡ part_in topic self.old.sending) }
-        ensures own { IfOk result (λ taken. (arc_value taken.1).topic ≡ topic) }
+        ensures part { IfOk result (λ taken. Some (data_of taken.1) ≡ part_in topic self.old.sending) }
+        ensures own { IfOk result (λ taken. (data_of taken.1).topic ≡ topic) }
         ensures flown { OnOk result (is_flying self.old.sending ≡ true) }
         ensures flying { is_flying self.new.sending ≡ is_flying self.old.sending }
         ensures new { self.new ≡ taken_sender topic self.old }

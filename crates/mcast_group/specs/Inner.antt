@@ -5,4 +5,5 @@ pub mod GroupInvariant
 pub mod Keys
 pub mod Learnt
 pub mod Log
+pub mod RowTopics
 pub mod Subscriptions

@@ -3,7 +3,6 @@
 ghost use Rattle.std.specs.Prelude.{◌≡◌, ◌-◌, [], length, map, nat_lt, slice_get, None, Some, OnOk, OnErr, IfOk, IfErr, IsOk};
 ghost use Rattle.mcast_txn.specs.Part.{data_of, flight_of_part};
 ghost use Rattle.mcast_txn.specs.Flight.{cell_of};
-ghost use Rattle.std.specs.Arc.{arc_value};
 ghost use Rattle.mcast_group.specs.CellGroup.{CellTurns, cell_group_after_cancel, cell_group_after_propose, new_cell_group, open_count, waiting_ids};
 ghost use Rattle.std.specs.Option.{option_map};
 ghost use Rattle.sub_queue.specs.Shown.{room};
@@ -23,7 +22,6 @@ use mcast_txn::{NoMemory, Part, Seen, Stamp, Ticket, Topic, TxnId};
 use std::alloc::Global;
 use std::collections::VecDeque;
 use std::marker::Model;
-use std::sync::Arc;
 use sub_queue::Outlet;
 
 /// Behind the end of a subscription so many drains give back the room of an idle topic (our choice).
@@ -135,16 +133,18 @@ impl<Q: Outlet + Drop> CellGroup<Q> {
         ensures err { OnErr result (self.new ≡ self.old) }
     {
         let index = self.group.place_for(floor, proposal.part())?;
+        let Ok(part) = proposal.share() else {
+            return Err(ProposeFault::NoMemory);
+        };
         let Ok(()) = make_room(&mut self.waiting, &mut self.notes) else {
             return Err(ProposeFault::NoMemory);
         };
         self.group.sound();
-        let (prepared, flight) = proposal.into_parts();
         let waiting = WaitingPart {
-            id: prepared.part().id(),
-            flight,
+            id: proposal.id(),
+            part,
         };
-        let ticket = self.group.enter_allowed(floor, index, prepared, counter)?;
+        let ticket = self.group.enter_allowed(floor, index, proposal, counter)?;
         put(&mut self.waiting, waiting);
         self.group.sound();
         Ok(ticket)
@@ -155,22 +155,22 @@ impl<Q: Outlet + Drop> CellGroup<Q> {
         &mut self,
         alloc: Global,
         floor: Stamp,
-        part: Arc<Part>,
+        part: Part,
     ) -> Result<Ticket, ProposeFault>
-        requires { (arc_value part).topic ≡ self.old.group.topic.topic }
+        requires { (data_of part).topic ≡ self.old.group.topic.topic }
         ensures allowed { OnOk result
-            (propose_fault floor (data_of (arc_value part)) self.old.group.topic ≡ None) }
+            (propose_fault floor (data_of part) self.old.group.topic ≡ None) }
         ensures ticket { IfOk result (λ ticket. ticket ≡ record {
-          id = (data_of (arc_value part)).id;
+          id = (data_of part).id;
           topic = self.old.group.topic.topic;
           n = next_number floor self.old.group.topic;
         }) }
         ensures ok { OnOk result (self.new ≡ cell_group_after_propose floor (record {
-          part = data_of (arc_value part);
-          cell = cell_of (flight_of_part (arc_value part));
+          part = data_of part;
+          cell = cell_of (flight_of_part part);
         }) self.old) }
         ensures fault { IfErr result
-            (λ fault. fault ≡ propose_refusal floor (data_of (arc_value part)) self.old.group.topic) }
+            (λ fault. fault ≡ propose_refusal floor (data_of part) self.old.group.topic) }
         ensures err { OnErr result (self.new ≡ self.old) }
     {
         self.group.place_for(floor, &part)?;

@@ -17,7 +17,7 @@ impl Cells {
     pub fn look(part: &Part) -> Option<(&Verdict, Seen)>
         ensures { IfSome result (λ found. found.1 ≡ sight_of (flight_of_part part.now) found.0.now) }
     {
-        part.flight.see()
+        part.flight().see()
     }
 }
 

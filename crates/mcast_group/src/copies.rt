@@ -1,7 +1,6 @@
 //! Copies of a pending part, one for each open subscription.
 
 ghost use Rattle.std.specs.Prelude.{◌≡◌, ℕ, ◌+◌, ◌≤◌, ◌<◌, List, [], ◌∷◌, ◌++◌, length, map, take, slice_index_or, IfSome, IfNone, OnOk, OnErr, IfOk};
-ghost use Rattle.std.specs.Arc.{arc_value};
 ghost use Rattle.std.specs.List.{remove};
 ghost use Rattle.mcast_txn.specs.Lists.{In};
 ghost use Rattle.mcast_txn.specs.Part.{data_of};
@@ -9,19 +8,17 @@ ghost use Rattle.mcast_txn.specs.Transaction.{TopicPart};
 ghost use Rattle.mcast_group.specs.Inner.Copies.{AreOf, HaveCopies};
 ghost use Rattle.mcast_group.specs.Machine.{Pending};
 
-use crate::pending::PendingPart;
 use crate::pending_parts::PendingParts;
 use mcast_txn::{NoMemory, Part};
 use std::alloc::Global;
 use std::collections::VecDeque;
 use std::marker::Model;
-use std::sync::Arc;
 
 /// Copies of a pending part: shared once more for each open subscription, so that a release takes no memory. The first
 /// lies in place: where there is one, a list takes no memory of its own.
 pub(crate) struct Copies {
-    first: Option<Arc<Part>>,
-    others: Vec<Arc<Part>>,
+    first: Option<Part>,
+    others: Vec<Part>,
 }
 
 impl Drop for Copies {
@@ -35,14 +32,13 @@ impl Drop for Copies {
 
 impl Model for Copies {
     ghost use Rattle.std.specs.Prelude.{List, map};
-    ghost use Rattle.std.specs.Arc.{arc_value};
     ghost use Rattle.mcast_txn.specs.Part.{data_of};
     ghost use Rattle.mcast_txn.specs.Transaction.{TopicPart};
     ghost use Rattle.mcast_group.specs.Inner.Copies.{IsFirst, with_first};
 
     ghost Value = { List TopicPart };
 
-    ghost view = { λ c. map (λ part. data_of (arc_value part)) (with_first c.first c.others.items) };
+    ghost view = { λ c. map data_of (with_first c.first c.others.items) };
 
     ghost invariant = { λ c. IsFirst c.first c.others.items };
 }
@@ -59,9 +55,9 @@ impl Copies {
     }
 
     /// Takes one out.
-    pub(crate) fn take(&mut self) -> Option<Arc<Part>>
+    pub(crate) fn take(&mut self) -> Option<Part>
         ensures none { IfNone result (length self.old ≡ 0) }
-        ensures is { IfSome result (λ part. In (data_of (arc_value part)) self.old) }
+        ensures is { IfSome result (λ part. In (data_of part) self.old) }
         ensures rest { (c : TopicPart) → In c self.new → In c self.old }
         ensures many { length self.old ≤ length self.new + 1 }
     {
@@ -71,11 +67,22 @@ impl Copies {
         }
     }
 
+    /// None, which take no memory.
+    #[inline(always)]
+    pub(crate) fn none(alloc: Global) -> Copies
+        ensures { result ≡ [] }
+    {
+        Copies {
+            first: None,
+            others: Vec::new(alloc),
+        }
+    }
+
     /// `many` copies of a part.
     #[inline(always)]
-    pub(crate) fn of(alloc: Global, part: &PendingPart, many: usize) -> Result<Copies, NoMemory>
+    pub(crate) fn of(alloc: Global, part: &Part, many: usize) -> Result<Copies, NoMemory>
         ensures many { IfOk result (λ copies. length copies ≡ many) }
-        ensures of { IfOk result (λ copies. AreOf part.now.part copies) }
+        ensures of { IfOk result (λ copies. AreOf (data_of part.now) copies) }
     {
         let mut copies = Copies {
             first: None,
@@ -101,8 +108,8 @@ impl Copies {
 
     /// One copy more.
     #[inline(always)]
-    pub(crate) fn add(&mut self, part: &PendingPart) -> Result<(), NoMemory>
-        ensures ok { OnOk result (self.new ≡ self.old ++ part.now.part ∷ []) }
+    pub(crate) fn add(&mut self, part: &Part) -> Result<(), NoMemory>
+        ensures ok { OnOk result (self.new ≡ self.old ++ data_of part.now ∷ []) }
         ensures err { OnErr result (self.new ≡ self.old) }
     {
         let copy = part.share()?;
@@ -128,7 +135,7 @@ pub(crate) fn add_to_each(
         → HaveCopies n pending.now (map (take n) copies.new.items) }
 {
     for i in 0..pending.len() {
-        copies[i].add(pending.at(i))?;
+        copies[i].add(pending.at(i).part())?;
     }
     Ok(())
 }

@@ -1,19 +1,17 @@
 //! Parts that a topic has released.
 
 ghost use Rattle.std.specs.Prelude.{◌≡◌, IfSome};
-ghost use Rattle.std.specs.Arc.{arc_value};
 ghost use Rattle.std.specs.Option.{is_some};
 ghost use Rattle.mcast_txn.specs.Part.{data_of, flight_of_part};
 ghost use Rattle.mcast_group.specs.Noted.{IsSightOf};
 
 use mcast_txn::{Part, Seen, Stamp};
 use std::marker::Model;
-use std::sync::Arc;
 
 /// A part that its topic has released, the stamp with which it was, and the note of its flight's cell that was kept
 /// beside it, where the cell told the stamp. In contracts it is these, and its flight.
 pub struct Departed {
-    part: Arc<Part>,
+    part: Part,
     stamp: Stamp,
     seen: Option<Seen>,
 }
@@ -33,29 +31,28 @@ impl Drop for Departed {
 
 impl Model for Departed {
     ghost use Rattle.std.specs.Prelude.{IfSome};
-    ghost use Rattle.std.specs.Arc.{arc_value};
     ghost use Rattle.mcast_txn.specs.Part.{data_of, flight_of_part};
     ghost use Rattle.mcast_group.specs.Noted.{DepartedState, IsSightOf};
 
     ghost Value = { DepartedState };
 
     ghost view = { λ d. record {
-      part = data_of (arc_value d.part);
-      flight = flight_of_part (arc_value d.part);
+      part = data_of d.part;
+      flight = flight_of_part d.part;
       stamp = d.stamp;
       seen = d.seen;
     } };
 
-    ghost invariant = { λ d. IfSome d.seen (IsSightOf (flight_of_part (arc_value d.part)) d.stamp) };
+    ghost invariant = { λ d. IfSome d.seen (IsSightOf (flight_of_part d.part) d.stamp) };
 }
 
 impl Departed {
     /// A part that leaves.
-    pub(crate) fn new(part: Arc<Part>, stamp: Stamp, seen: Option<Seen>) -> Departed
-        requires { IfSome seen (IsSightOf (flight_of_part (arc_value part)) stamp) }
+    pub(crate) fn new(part: Part, stamp: Stamp, seen: Option<Seen>) -> Departed
+        requires { IfSome seen (IsSightOf (flight_of_part part) stamp) }
         ensures { result ≡ record {
-          part = data_of (arc_value part);
-          flight = flight_of_part (arc_value part);
+          part = data_of part;
+          flight = flight_of_part part;
           stamp = stamp;
           seen = seen;
         } }
@@ -64,9 +61,9 @@ impl Departed {
     }
 
     /// The part.
-    pub fn part(&self) -> &Arc<Part>
-        ensures data { data_of (arc_value result.now) ≡ self.now.part }
-        ensures flight { flight_of_part (arc_value result.now) ≡ self.now.flight }
+    pub fn part(&self) -> &Part
+        ensures data { data_of result.now ≡ self.now.part }
+        ensures flight { flight_of_part result.now ≡ self.now.flight }
     {
         &self.part
     }

@@ -1,7 +1,6 @@
 //! A topic of the multicast.
 
 ghost use Rattle.std.specs.Prelude.{◌≡◌, ℕ, ◌+◌, ◌-◌, ◌<◌, ◌≤◌, Bool, true, false, [], List, length, map, take, slice_get, slice_index_or, Option, Some, None, OnOk, OnErr, IfOk, IfErr, IsOk};
-ghost use Rattle.std.specs.Arc.{arc_value};
 ghost use Rattle.std.specs.Option.{option_map};
 ghost use Rattle.std.specs.Result.{result_err};
 ghost use Rattle.mcast_txn.specs.Part.{data_of};
@@ -22,7 +21,6 @@ ghost use Rattle.mcast_group.specs.Inner.GroupInvariant.{entry_of};
 ghost use Rattle.mcast_group.specs.Inner.Keys.{IsIndexPast};
 ghost use Rattle.mcast_group.specs.Machine.{Pending, cancel_fault, after_cancel, after_drain, after_turn, decided_stamp, due_part, key, learn_fault, after_learn, new_topic, insert_pending, is_pending, next_number, propose_fault, after_propose, subscription_state, subscribe_fault, unsubscribe_fault};
 
-use crate::boxed_part::BoxedPart;
 use crate::copies::{Copies, add_to_each, cut_copies, keep_in_each, take_at};
 use crate::departed::Departed;
 use crate::ended::Ended;
@@ -30,8 +28,9 @@ use crate::fault::{CancelFault, LearnFault, NoSub, ProposeFault, SubFault};
 use crate::law::has_one_row_each;
 use crate::log::Log;
 use crate::log_rows::LogRows;
+use crate::pending::PendingPart;
 use crate::pending_parts::PendingParts;
-use crate::prepared::Prepared;
+use crate::proposal::Proposal;
 use crate::row::Row;
 use crate::state::SubState;
 use crate::subscription::Subscription;
@@ -42,7 +41,6 @@ use mcast_txn::{NoMemory, Part, Released, Stamp, Ticket, Topic, TxnId, Verdict};
 use std::alloc::Global;
 use std::collections::VecDeque;
 use std::marker::Model;
-use std::sync::Arc;
 use sub_queue::{Outlet, VecOutlet};
 
 /// A topic of the multicast: its clock, its pending parts, the rows that it released, and its subscriptions. In
@@ -206,7 +204,7 @@ impl<Q: Outlet + Drop> Group<Q> {
         self.subscriptions
             .give_all(needs, self.frontier, &part, &mut copies);
         cut_copies(&mut self.copies, had, self.subscriptions.open_len());
-        let (row, departed) = part.depart();
+        let (row, departed) = part.depart(self.alloc);
         self.rows.push(row);
         self.frontier = departed.stamp();
         Some(departed)
@@ -261,25 +259,25 @@ impl<Q: Outlet + Drop> Group<Q> {
     /// makes the room that the other calls need. Refused, in this order: 49 where a part of the transaction is
     /// pending, 40 where no number is left, 41 where the log is at its limit, 42 out of memory; what shows is
     /// then as it was.
-    pub fn propose(&mut self, floor: Stamp, part: Arc<Part>) -> Result<Ticket, ProposeFault>
-        requires { (arc_value part).topic ≡ self.old.topic.topic }
-        ensures allowed { OnOk result (propose_fault floor (data_of (arc_value part)) self.old.topic ≡ None) }
+    pub fn propose(&mut self, floor: Stamp, part: Part) -> Result<Ticket, ProposeFault>
+        requires { (data_of part).topic ≡ self.old.topic.topic }
+        ensures allowed { OnOk result (propose_fault floor (data_of part) self.old.topic ≡ None) }
         ensures ticket { IfOk result (λ ticket. ticket ≡ record {
-          id = (data_of (arc_value part)).id;
+          id = (data_of part).id;
           topic = self.old.topic.topic;
           n = next_number floor self.old.topic;
         }) }
         ensures ok { OnOk result (self.new
-            ≡ record self.old { topic = after_propose floor (data_of (arc_value part)) self.old.topic }) }
+            ≡ record self.old { topic = after_propose floor (data_of part) self.old.topic }) }
         ensures fault { IfErr result
-            (λ fault. fault ≡ propose_refusal floor (data_of (arc_value part)) self.old.topic) }
+            (λ fault. fault ≡ propose_refusal floor (data_of part) self.old.topic) }
         ensures err { OnErr result (self.new ≡ self.old) }
     {
         let index = self.place_for(floor, &part)?;
-        let Ok(prepared) = Prepared::new(self.alloc, part) else {
+        let Ok(proposal) = Proposal::new(self.alloc, part) else {
             return Err(ProposeFault::NoMemory);
         };
-        self.enter_allowed(floor, index, prepared, &mut Uncounted)
+        self.enter_allowed(floor, index, proposal, &mut Uncounted)
     }
 
     /// Enters a part that the topic doesn't refuse, at the index where it comes, once the counter has counted its
@@ -288,26 +286,26 @@ impl<Q: Outlet + Drop> Group<Q> {
         &mut self,
         floor: Stamp,
         index: usize,
-        prepared: Prepared,
+        proposal: Proposal,
         counter: &mut C,
     ) -> Result<Ticket, ProposeFault>
-        requires own { prepared.topic ≡ self.old.topic.topic }
-        requires allowed { propose_fault floor prepared self.old.topic ≡ None }
-        requires at { IsIndexPast (λ p. id_lt p.part.id prepared.id) self.old.topic.pending index }
+        requires own { proposal.part.topic ≡ self.old.topic.topic }
+        requires allowed { propose_fault floor proposal.part self.old.topic ≡ None }
+        requires at { IsIndexPast (λ p. id_lt p.part.id proposal.part.id) self.old.topic.pending index }
         ensures ticket { IfOk result (λ ticket. ticket ≡ record {
-          id = prepared.id;
+          id = proposal.part.id;
           topic = self.old.topic.topic;
           n = next_number floor self.old.topic;
         }) }
         ensures ok { OnOk result (self.new
-            ≡ record self.old { topic = after_propose floor prepared self.old.topic }) }
+            ≡ record self.old { topic = after_propose floor proposal.part self.old.topic }) }
         ensures counted { OnOk result (C.counted counter.old counter.new) }
         ensures fault { IfErr result (IsRefusedBy C.refused None counter.old counter.new) }
         ensures err { OnErr result (self.new ≡ self.old) }
     {
-        let id = prepared.part().id();
+        let id = proposal.id();
         let n = self.clock.max(floor.n) + 1;
-        self.put_in(index, prepared, n, counter)?;
+        self.put_in(index, proposal, n, counter)?;
         Ok(Ticket {
             id,
             topic: self.topic,
@@ -367,21 +365,21 @@ impl<Q: Outlet + Drop> Group<Q> {
     fn put_in<C: TicketCounter>(
         &mut self,
         index: usize,
-        prepared: Prepared,
+        proposal: Proposal,
         n: u64,
         counter: &mut C,
     ) -> Result<(), ProposeFault>
-        requires own { prepared.topic ≡ self.old.topic.topic }
+        requires own { proposal.part.topic ≡ self.old.topic.topic }
         requires may { (floor : Stamp) × (n ≡ next_number floor self.old.topic)
-            × (propose_fault floor prepared self.old.topic ≡ None) }
-        requires at { IsIndexPast (λ p. id_lt p.part.id prepared.id) self.old.topic.pending index }
+            × (propose_fault floor proposal.part self.old.topic ≡ None) }
+        requires at { IsIndexPast (λ p. id_lt p.part.id proposal.part.id) self.old.topic.pending index }
         ensures ok { OnOk result (self.new
-            ≡ record self.old { topic = after_enter n prepared self.old.topic }) }
+            ≡ record self.old { topic = after_enter n proposal.part self.old.topic }) }
         ensures counted { OnOk result (C.counted counter.old counter.new) }
         ensures fault { IfErr result (IsRefusedBy C.refused None counter.old counter.new) }
         ensures err { OnErr result (self.new ≡ self.old) }
     {
-        let (part, made) = prepared.into_numbered(self.alloc, n, self.subscriptions.open_len())?;
+        let (part, made) = proposal.into_numbered(self.alloc, n, self.subscriptions.open_len())?;
         self.rows.reserve(self.pending.len() + 1)?;
         self.subscriptions.reserve_each(self.pending.len() + 1)?;
         put(
@@ -600,7 +598,7 @@ fn put<C: TicketCounter>(
     pending: &mut PendingParts,
     copies: &mut VecDeque<Copies>,
     index: usize,
-    part: BoxedPart,
+    part: PendingPart,
     made: Copies,
     counter: &mut C,
 ) -> Result<(), ProposeFault>

@@ -1,27 +1,29 @@
 //! Parts that are pending at a topic.
 
 ghost use Rattle.std.specs.Prelude.{◌≡◌, Some, None, IfOk, IfSome};
-ghost use Rattle.std.specs.Arc.{arc_value};
 ghost use Rattle.std.specs.Option.{is_some};
+ghost use Rattle.mcast_txn.specs.Ids.{id_lt};
 ghost use Rattle.mcast_txn.specs.Part.{data_of};
 ghost use Rattle.mcast_group.specs.Noted.{IsSightOf};
 ghost use Rattle.mcast_group.specs.Inner.Keys.{keyed_of};
+ghost use Rattle.mcast_group.specs.Inner.RowTopics.{IsKeptFor};
 ghost use Rattle.mcast_group.specs.Machine.{has_row, is_foreign, key, has_learnt_other, row_of, ticket_stamp};
 
 use crate::departed::Departed;
 use crate::keys::Keyed;
 use crate::learnt::Learnt;
 use crate::row::Row;
-use mcast_txn::{Flight, NoMemory, Part, Seen, Stamp, TopicSet, TxnId, Verdict};
+use crate::row_topics::RowTopics;
+use mcast_txn::{Flight, Part, Seen, Stamp, TxnId, Verdict};
+use std::alloc::Global;
 use std::marker::Model;
-use std::sync::Arc;
 
 /// A part that is pending: the number of its ticket, and its stamp once that is learnt, with the note by which the cell
-/// of its flight told it.
+/// of its flight told it. Its id lies beside it, so that a search reads no transaction.
 pub(crate) struct PendingPart {
-    part: Arc<Part>,
-    /// The part's topics, shared once more, so that a release takes no memory.
-    topics: Arc<TopicSet>,
+    id: TxnId,
+    part: Part,
+    topics: RowTopics,
     number: u64,
     learnt: Learnt,
 }
@@ -30,6 +32,7 @@ impl Drop for PendingPart {
     /// Written out, so that letting a part go is one call for the prover wherever it happens.
     fn drop(self) {
         let PendingPart {
+            id: _,
             part,
             topics,
             number: _,
@@ -42,40 +45,45 @@ impl Drop for PendingPart {
 }
 
 impl Model for PendingPart {
-    ghost use Rattle.std.specs.Prelude.{◌≡◌};
-    ghost use Rattle.std.specs.Arc.{arc_value};
     ghost use Rattle.mcast_txn.specs.Part.{data_of, flight_of_part};
     ghost use Rattle.mcast_group.specs.Machine.{Pending};
     ghost use Rattle.mcast_group.specs.Inner.Learnt.{IsPart};
 
     ghost Value = { Pending };
 
-    ghost view = { λ p. record { part = data_of (arc_value p.part); number = p.number; learnt = p.learnt.stamp } };
+    ghost view = { λ p. record { part = data_of p.part; number = p.number; learnt = p.learnt.stamp } };
 
-    ghost invariant = { λ p. IsPart (flight_of_part (arc_value p.part)) (arc_value p.topics)
-        (data_of (arc_value p.part)).topics p.learnt.seen };
+    ghost invariant = { λ p. IsPart p.id (data_of p.part) (flight_of_part p.part) p.topics p.learnt.seen };
 }
 
 impl PendingPart {
-    /// A part that hasn't learnt its stamp.
-    pub(crate) fn new(part: Arc<Part>, number: u64) -> Result<PendingPart, NoMemory>
-        ensures { IfOk result
-            (λ pending. pending ≡ record { part = data_of (arc_value part); number = number; learnt = None }) }
+    /// A part that hasn't learnt its stamp, with what is kept of its topics.
+    #[inline(always)]
+    pub(crate) fn new(part: Part, topics: RowTopics, number: u64) -> PendingPart
+        requires { IsKeptFor (data_of part).topics topics }
+        ensures { result ≡ record { part = data_of part; number = number; learnt = None } }
     {
-        let topics = part.topics.clone()?;
-        Ok(PendingPart {
+        PendingPart {
+            id: part.id(),
             part,
             topics,
             number,
             learnt: Learnt::nothing(),
-        })
+        }
     }
 
     /// The transaction.
     pub(crate) fn id(&self) -> TxnId
         ensures { result ≡ self.now.part.id }
     {
-        self.part.id()
+        self.id
+    }
+
+    /// Whether its id is below this one.
+    pub(crate) fn is_before(&self, id: TxnId) -> bool
+        ensures { result ≡ id_lt self.now.part.id id }
+    {
+        self.id < id
     }
 
     /// The part.
@@ -85,20 +93,13 @@ impl PendingPart {
         &self.part
     }
 
-    /// The part, shared once more.
-    pub(crate) fn share(&self) -> Result<Arc<Part>, NoMemory>
-        ensures { IfOk result (λ part. data_of (arc_value part) ≡ self.now.part) }
-    {
-        Ok(self.part.clone()?)
-    }
-
     /// Its ticket as a stamp.
     fn ticket_stamp(&self) -> Stamp
         ensures { result ≡ ticket_stamp self.now }
     {
         Stamp {
             n: self.number,
-            topic: self.part.topic,
+            topic: self.part.topic(),
         }
     }
 
@@ -119,39 +120,30 @@ impl PendingPart {
         self.learnt.stamp().is_some()
     }
 
-    /// Its ticket has this number.
-    pub(crate) fn number_as(&mut self, number: u64)
-        ensures { self.new ≡ record self.old { number = number } }
-    {
-        self.number = number;
-    }
-
     /// Takes its stamp, and keeps a note of its flight's cell where that has the stamp.
     pub(crate) fn learn(&mut self, stamp: Stamp)
         ensures { self.new ≡ record self.old { learnt = Some stamp } }
     {
-        let seen = seen_at(&self.part.flight, stamp);
+        let seen = seen_at(self.part.flight(), stamp);
         self.learnt = Learnt::of(stamp, seen);
     }
 
-    /// Its row of the log, at its key, and itself with its note.
-    pub(crate) fn depart(self) -> (Row, Departed)
+    /// Its row of the log, at its key, and itself with its note: with no memory.
+    pub(crate) fn depart(self, alloc: Global) -> (Row, Departed)
         ensures row { result.0 ≡ row_of self }
         ensures part { result.1.part ≡ self.part }
         ensures stamp { result.1.stamp ≡ key self }
     {
         let stamp = self.key();
         let PendingPart {
+            id,
             part,
             topics,
             number: _,
             learnt,
         } = self;
-        let row = Row {
-            id: part.id(),
-            stamp,
-            topics,
-        };
+        let topics = topics.into_topics(alloc, part.topics());
+        let row = Row { id, topics, stamp };
         (row, Departed::new(part, stamp, learnt.into_seen()))
     }
 
@@ -159,7 +151,7 @@ impl PendingPart {
     pub(crate) fn is_foreign(&self, verdict: &Verdict) -> bool
         ensures { result ≡ is_foreign verdict.now self.now }
     {
-        verdict.id() != self.part.id() || !has_row(verdict.rows(), self.ticket_stamp())
+        verdict.id() != self.id || !has_row(verdict.rows(), self.ticket_stamp())
     }
 
     /// Whether it has learnt another stamp.
@@ -178,7 +170,7 @@ impl PendingPart {
     {
         Keyed {
             key: self.key(),
-            id: self.part.id(),
+            id: self.id,
         }
     }
 }

@@ -9,7 +9,6 @@ ghost use Rattle.mcast_group.specs.Machine.{Pending, clashes, insert_pending, is
 ghost use Rattle.mcast_group.specs.Group.{IsRefusedBy};
 ghost use Rattle.mcast_group.specs.Inner.Keys.{IsIndexPast};
 
-use crate::boxed_part::BoxedPart;
 use crate::fault::{LearnFault, ProposeFault};
 use crate::keys::Keys;
 use crate::pending::PendingPart;
@@ -22,7 +21,7 @@ use std::marker::Model;
 /// The parts that are pending, twice: by rising id, and their keys, falling. So a part is found by halving, and the
 /// least is at the end. In contracts it is the list by id.
 pub(crate) struct PendingParts {
-    parts: VecDeque<BoxedPart>,
+    parts: VecDeque<PendingPart>,
     keys: Keys,
 }
 
@@ -70,7 +69,7 @@ impl PendingParts {
         requires { index < length self.now }
         ensures { result.now ≡ slice_index_or self.now index result.now }
     {
-        self.parts[index].part()
+        &self.parts[index]
     }
 
     /// The index past the parts whose id is below this one. The last part is looked at first, then the first: a
@@ -97,15 +96,26 @@ impl PendingParts {
         ensures index { IsIndexPast (λ p. id_lt p.part.id id) self.now result }
         ensures within { result ≤ length self.now }
     {
-        self.parts.partition_point(|boxed| boxed.is_before(id))
+        self.parts.partition_point(|part| part.is_before(id))
     }
 
     /// The index of the transaction's part, or else the one at which it would come.
+    #[inline(always)]
     pub(crate) fn search(&self, id: TxnId) -> Result<usize, usize>
         ensures found { IfOk result (λ i. position (λ p. same_id p.part.id id) self.now ≡ Some i) }
         ensures absent { OnErr result (position (λ p. same_id p.part.id id) self.now ≡ None) }
         ensures index { IfErr result (IsIndexPast (λ p. id_lt p.part.id id) self.now) }
     {
+        match self.parts.back() {
+            None => return Err(0),
+            Some(last) if last.is_before(id) => return Err(self.parts.len()),
+            Some(_) => {}
+        }
+        self.searched(id)
+    }
+
+    /// The same, by halving.
+    fn searched(&self, id: TxnId) -> Result<usize, usize> {
         let index = self.index_for(id);
         let Some(there) = self.parts.get(index) else {
             return Err(index);
@@ -117,9 +127,20 @@ impl PendingParts {
     }
 
     /// The index of the transaction's part.
+    #[inline(always)]
     pub(crate) fn index_of(&self, id: TxnId) -> Option<usize>
         ensures { result ≡ position (λ p. same_id p.part.id id) self.now }
     {
+        if let Some(first) = self.parts.front()
+            && first.id() == id
+        {
+            return Some(0);
+        }
+        if let Some(last) = self.parts.back()
+            && last.id() == id
+        {
+            return Some(self.parts.len() - 1);
+        }
         self.search(id).ok()
     }
 
@@ -187,7 +208,7 @@ impl PendingParts {
     {
         let keyed = self.at(index).keyed();
         self.keys.remove(keyed);
-        self.parts.remove(index).unwrap().into_part()
+        self.parts.remove(index).unwrap()
     }
 
     /// Takes out the part at an index, which is that of least key.
@@ -198,7 +219,7 @@ impl PendingParts {
         ensures items { self.new ≡ remove self.old index }
     {
         self.keys.pop_least();
-        self.parts.remove(index).unwrap().into_part()
+        self.parts.remove(index).unwrap()
     }
 
     /// Puts a part among the others, whose keys are below its own, at the index where it comes. The counter is asked
@@ -206,7 +227,7 @@ impl PendingParts {
     pub(crate) fn insert<C: TicketCounter>(
         &mut self,
         index: usize,
-        part: BoxedPart,
+        part: PendingPart,
         counter: &mut C,
     ) -> Result<(), ProposeFault>
         requires at { IsIndexPast (λ p. id_lt p.part.id part.part.id) self.old index }
@@ -218,7 +239,7 @@ impl PendingParts {
         ensures counted { OnOk result (C.counted counter.old counter.new) }
         ensures fault { IfErr result (IsRefusedBy C.refused None counter.old counter.new) }
     {
-        let keyed = part.part().keyed();
+        let keyed = part.keyed();
         let Ok(()) = self.parts.reserve(1) else {
             return Err(ProposeFault::NoMemory);
         };

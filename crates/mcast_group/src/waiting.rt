@@ -14,35 +14,34 @@ ghost use Rattle.mcast_group.specs.Sound.{IsSound};
 
 use crate::group::Group;
 use crate::law::has_one_row_each;
-use mcast_txn::{Flight, NoMemory, Seen, TxnId};
+use mcast_txn::{NoMemory, Part, Seen, TxnId};
 use std::collections::VecDeque;
 use std::marker::Model;
-use std::sync::Arc;
 use sub_queue::Outlet;
 
-/// A part that hasn't learnt its stamp: its transaction, and its flight. In contracts it is the transaction and the
-/// name of the flight's cell.
+/// A part that hasn't learnt its stamp, with its transaction's id beside it. In contracts it is the transaction and the
+/// name of its flight's cell.
 pub(crate) struct WaitingPart {
     pub(crate) id: TxnId,
-    pub(crate) flight: Arc<Flight>,
+    pub(crate) part: Part,
 }
 
 impl Drop for WaitingPart {
     /// Written out, so that letting a part go is one call for the prover wherever it happens.
     fn drop(self) {
-        let WaitingPart { id: _, flight } = self;
-        drop(flight);
+        let WaitingPart { id: _, part } = self;
+        drop(part);
     }
 }
 
 impl Model for WaitingPart {
-    ghost use Rattle.std.specs.Arc.{arc_value};
     ghost use Rattle.mcast_txn.specs.Flight.{cell_of};
+    ghost use Rattle.mcast_txn.specs.Part.{flight_of_part};
     ghost use Rattle.mcast_group.specs.CellGroup.{Waiting};
 
     ghost Value = { Waiting };
 
-    ghost view = { λ w. record { id = w.id; cell = cell_of (arc_value w.flight) } };
+    ghost view = { λ w. record { id = w.id; cell = cell_of (flight_of_part w.part) } };
 }
 
 impl WaitingPart {
@@ -68,7 +67,7 @@ impl WaitingPart {
             × IfSome found (λ v. HasOneRowEach v × (learn_fault self.now.id v group.old.topic ≡ None))
             × (group.new ≡ record group.old { topic = after_try self.now.id found group.old.topic }) }
     {
-        let (verdict, seen) = self.flight.see()?;
+        let (verdict, seen) = self.part.flight().see()?;
         has_one_row_each(verdict);
         if group.learn(self.id, verdict).is_err() {
             return None;

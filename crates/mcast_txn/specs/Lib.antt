@@ -12,4 +12,5 @@ pub mod Span
 pub mod Stamp
 pub mod TopicSet
 pub mod Transaction
+pub mod Whole
 pub mod Inner

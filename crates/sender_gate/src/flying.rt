@@ -1,7 +1,6 @@
 //! A sender with a transaction on its way.
 
 ghost use Rattle.std.specs.Prelude.{◌≡◌, [], map, Some, None, IsTrue, IfOk, IfErr, IfSome, OnOk, OnErr, is_err};
-ghost use Rattle.std.specs.Arc.{arc_value};
 ghost use Rattle.std.specs.List.{list_any};
 ghost use Rattle.std.specs.Option.{is_none, option_map};
 ghost use Rattle.mcast_txn.specs.Ballot.{slots_of_rows, tickets_put};
@@ -18,7 +17,6 @@ use mcast_txn::{
     Ballot, Flight, Part, Parts, Stamp, Ticket, Tickets, Topic, TopicSet, TxnId, Verdict,
 };
 use std::marker::Model;
-use std::sync::Arc;
 
 /// A sender that has a transaction on its way: its gate is gone until that ends, and can begin no other. In contracts
 /// it is the transaction, the sender's floor, each topic with the number that it gave, if it did, and the parts that
@@ -82,18 +80,17 @@ impl Flying {
     }
 
     /// The flight that its parts share. In its cell the verdict is set, so that other threads read it.
-    pub fn flight(&self) -> &Arc<Flight>
-        ensures { arc_value result.now ≡ self.now.flight }
+    pub fn flight(&self) -> &Flight
+        ensures { result.now ≡ self.now.flight }
     {
         self.parts.flight()
     }
 
     /// Takes the topic's part out, with no memory: `None` where it was taken out before, or where the transaction
     /// doesn't name the topic. The part has the flight itself, and so its cell.
-    pub fn part(&mut self, topic: Topic) -> Option<Arc<Part>>
-        ensures part { option_map (λ part. data_of (arc_value part)) result
-            ≡ held_at topic self.old.state.parts }
-        ensures own { IfSome result (λ part. flight_of_part (arc_value part) ≡ self.old.flight) }
+    pub fn part(&mut self, topic: Topic) -> Option<Part>
+        ensures part { option_map data_of result ≡ held_at topic self.old.state.parts }
+        ensures own { IfSome result (λ part. flight_of_part part ≡ self.old.flight) }
         ensures taken { self.new ≡ record self.old {
           state = record self.old.state { parts = with_slot topic None self.old.state.parts };
         } }
@@ -131,6 +128,24 @@ impl Flying {
         ensures above { IfOk result (λ decided. IsTrue (stamp_lt self.state.floor decided.0.floor)) }
         ensures back { IfErr result (λ refused. refused ≡ (self, Incomplete)) }
     {
+        let (gate, verdict, parts) = self.decide_keeping()?;
+        drop(parts);
+        Ok((gate, verdict))
+    }
+
+    /// `decide`, which returns the parts that weren't taken out, too: with them is the flight, in whose cell the verdict
+    /// can be set.
+    #[inline(always)]
+    pub fn decide_keeping(self) -> Result<(Gate, Box<Verdict>, Parts), (Flying, GateFault)>
+        ensures incomplete { is_err result ≡ list_any (λ s. is_none s.1) self.state.tickets }
+        ensures id { IfOk result (λ decided. decided.1.value.id ≡ self.state.id) }
+        ensures rows { IfOk result (λ decided. slots_of_rows decided.1.value.rows ≡ self.state.tickets) }
+        ensures gate { IfOk result
+            (λ decided. decided.0 ≡ gate_after self.state (greatest decided.1.value.rows)) }
+        ensures above { IfOk result (λ decided. IsTrue (stamp_lt self.state.floor decided.0.floor)) }
+        ensures flight { IfOk result (λ decided. decided.2.flight ≡ self.flight) }
+        ensures back { IfErr result (λ refused. refused ≡ (self, Incomplete)) }
+    {
         let Flying {
             floor,
             ballot,
@@ -138,7 +153,10 @@ impl Flying {
         } = self;
         let id = ballot.id();
         match ballot.close() {
-            Ok(verdict) => Ok((Gate::resume(id.sender, id.seq, verdict.stamp()), verdict)),
+            Ok(verdict) => {
+                let gate = Gate::resume(id.sender, id.seq, verdict.stamp());
+                Ok((gate, verdict, parts))
+            }
             Err(ballot) => Err((Flying::new(floor, ballot, parts), GateFault::Incomplete)),
         }
     }

@@ -7,7 +7,7 @@ ghost use Rattle.sender_gate.specs.Gate.{begin_fault, flight_of, max_seq, next_i
 
 use crate::fault::GateFault;
 use crate::flying::Flying;
-use mcast_txn::{Ballot, Flight, Sender, Stamp, Txn, TxnId};
+use mcast_txn::{Ballot, Sender, Stamp, Txn, TxnId};
 use std::alloc::Global;
 use std::marker::Model;
 
@@ -74,7 +74,6 @@ impl Gate {
         ensures full { self.seq ≡ max_seq → IsErr result }
         ensures err { IfErr result (λ refused. refused ≡ (self, txn, begin_fault self)) }
     {
-        let mut txn = txn;
         if self.seq == u64::MAX {
             return Err((self, txn, GateFault::SeqFull));
         }
@@ -85,11 +84,7 @@ impl Gate {
         let Ok(ballot) = Ballot::new(alloc, id, txn.topics()) else {
             return Err((self, txn, GateFault::NoMemory));
         };
-        let charge = txn.take_charge();
-        let Ok(flight) = Flight::charged(alloc, id, charge) else {
-            return Err((self, txn, GateFault::NoMemory));
-        };
-        match txn.split(alloc, &flight) {
+        match txn.launch(alloc, id) {
             Ok(parts) => Ok(Flying::new(self.floor, ballot, parts)),
             Err((txn, _)) => Err((self, txn, GateFault::NoMemory)),
         }

@@ -247,7 +247,7 @@ fn put_rest<C: BrokerCalls>(
 {
     let ItemRest { item, next } = rest;
     match put_messages(queue.id.as_slice(), queue.parts, &item, next, wire) {
-        Ok(next) if next < item.part.sends.len() => {
+        Ok(next) if next < item.part.len() => {
             queue.rest = Some(ItemRest { item, next });
             Err(Taking::Halfway)
         }
@@ -269,7 +269,7 @@ fn put_messages(
         (drop stopped (messages_for parts id.now item.now)) wire.old wire.new) }
     ensures err { OnErr result (FailsIn (drop next (messages_for parts id.now item.now)) wire.old wire.new) }
 {
-    let count = item.part.sends.len();
+    let count = item.part.len();
     for at in next..count {
         if !wire.may_take() {
             return Ok(at);

@@ -746,10 +746,10 @@ impl<'a, R: Wait + Log + Clock, W: Side, T: Side> Calls<'a, R, W, T> {
 fn counts_as(item: &Released) -> u64
     ensures { 1 ≤ result }
 {
-    let sends = &item.part.sends;
+    let part = &item.part;
     let mut octets = 0u64;
-    for index in 0..sends.len() {
-        octets = octets.saturating_add(sends.get(index).body.len() as u64);
+    for index in 0..part.len() {
+        octets = octets.saturating_add(part.send(index).body.len() as u64);
     }
     octets / OCTETS_AS_ONE + 1
 }
@@ -903,7 +903,7 @@ impl<'a, R: Wait + Log + Clock, W: Side, T: Side> BrokerCalls for Calls<'a, R, W
         let item = sub.begun.taker.take(self.rt);
         match &item {
             Some(item) => {
-                self.activity.takes(item.part.sends.len() as u64);
+                self.activity.takes(item.part.len() as u64);
                 self.count_taken(sub, counts_as(item));
             }
             None => self.find_empty(sub),

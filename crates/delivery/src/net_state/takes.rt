@@ -68,7 +68,7 @@ impl NetState {
         let Some(item) = next_item(&self.groups, subscription.topic, sub) else {
             return Ok(None);
         };
-        let count = item.part.sends.len() as u64;
+        let count = item.part.len() as u64;
         let endpoint = &mut self.endpoints[subscription.connection as usize];
         endpoint.write_item(subscription.parts, subscription.id.as_slice(), item)?;
         let group = &mut self.groups[subscription.topic.0 as usize];

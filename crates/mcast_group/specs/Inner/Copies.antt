@@ -1,7 +1,9 @@
 -- Copies of parts that are pending. It only serves proofs.
 use Rattle.std.specs.Prelude.{◌≡◌, ℕ, ◌≤◌, List, [], ◌∷◌, length, Option, None, Some}
+use Rattle.mcast_txn.specs.declared.id.Topic.{Topic}
 use Rattle.mcast_txn.specs.Lists.{In}
 use Rattle.mcast_txn.specs.Transaction.{TopicPart}
+use Rattle.mcast_group.specs.Inner.RowTopics.{IsKeptFor}
 use Rattle.mcast_group.specs.Machine.{Pending}
 
 -- a list whose first lies beside the others, if there is one
@@ -25,10 +27,11 @@ HaveCopies n [] (c ∷ cs) = Prim.⊥
 HaveCopies n (p ∷ ps) [] = Prim.⊥
 HaveCopies n (p ∷ ps) (c ∷ cs) = ((length c ≡ n) × AreOf p.part c) × HaveCopies n ps cs
 
--- A part that is prepared.
--- waits: it hasn't learnt its stamp.
+-- A part that is to be entered.
+-- topics: its row's topics are kept, or they are few.
 -- copied: the copies are of it, and at least so many.
-pub record IsPrepared (part : Pending) (copies : List TopicPart) (many : ℕ) : Type 0 where
-  pub waits : part.learnt ≡ None
-  pub copied : AreOf part.part copies
+pub record IsPrepared (part : TopicPart) (kept : Option (List Topic)) (copies : List TopicPart) (many : ℕ)
+    : Type 0 where
+  pub topics : IsKeptFor part.topics kept
+  pub copied : AreOf part copies
   pub enough : many ≤ length copies

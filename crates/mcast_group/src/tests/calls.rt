@@ -1,15 +1,14 @@
 //! Calls of a topic, and what they answer, as plain data.
 
 ghost use Rattle.std.specs.Prelude.{◌≡◌, Some, None, if◌then◌else◌, IfSome};
-ghost use Rattle.std.specs.Arc.{arc_value};
 ghost use Rattle.mcast_txn.specs.Ids.{same_id};
+ghost use Rattle.mcast_txn.specs.Part.{data_of};
 
 use crate::{Cause, Found, Group, LogRows, ProposeFault, SubState, Verdicts};
 use mcast_txn::{
     Ballot, Draft, Flight, Headers, Octets, Part, Sender, Stamp, Ticket, Topic, Txn, TxnId, Verdict,
 };
 use std::alloc::Global;
-use std::sync::Arc;
 use sub_queue::VecOutlet;
 
 /// Two verdicts, of which the first is looked at first.
@@ -88,13 +87,13 @@ pub(super) fn txn_to(alloc: Global, topics: &[u32]) -> Option<Txn> {
 }
 
 /// A transaction's part at a topic.
-pub(super) fn part_of(alloc: Global, id: TxnId, topics: &[u32], topic: Topic) -> Option<Arc<Part>>
-    ensures { IfSome result (λ part. (arc_value part).topic ≡ topic) }
+pub(super) fn part_of(alloc: Global, id: TxnId, topics: &[u32], topic: Topic) -> Option<Part>
+    ensures { IfSome result (λ part. (data_of part).topic ≡ topic) }
 {
     let flight = Flight::new(alloc, id).ok()?;
     let mut parts = txn_to(alloc, topics)?.split(alloc, &flight).ok()?;
     let part = parts.part(topic)?;
-    if part.topic.0 == topic.0 {
+    if part.topic().0 == topic.0 {
         Some(part)
     } else {
         None

@@ -4,22 +4,21 @@ ghost use Rattle.std.specs.Prelude.{◌≡◌, ◌+◌};
 
 use super::calls::{decide, id, part_of, stamp, txn_to};
 use crate::{CellGroup, Proposal, ProposeFault, SubState, TicketCounter, Turned};
-use mcast_txn::{Flight, Parts, Stamp, Topic};
+use mcast_txn::{Flight, Part, Parts, Stamp, Topic};
 use std::alloc::Global;
-use std::sync::Arc;
 use sub_queue::VecOutlet;
 
-/// Enters a part at topic 0, whose flight is returned.
+/// Enters a part at topic 0, of which one more is returned.
 fn entered(
     alloc: Global,
     group: &mut CellGroup<VecOutlet>,
     seq: u64,
     topics: &[u32],
-) -> Option<Arc<Flight>> {
+) -> Option<Part> {
     let part = part_of(alloc, id(seq), topics, group.group().topic())?;
-    let flight = part.flight.clone().ok()?;
+    let kept = part.share().ok()?;
     group.propose(alloc, stamp(0, 0), part).ok()?;
-    Some(flight)
+    Some(kept)
 }
 
 /// Enters a part at topic 0, whose cell then gets a verdict of these rows.
@@ -31,7 +30,7 @@ fn enter_and_decide(
     rows: &[(u32, u64)],
 ) -> Option<()> {
     let flight = entered(alloc, group, seq, topics)?;
-    decide(alloc, &flight, rows)
+    decide(alloc, flight.flight(), rows)
 }
 
 /// What a turn releases, how many parts wait after it, and whether a note of this index is kept.
@@ -57,9 +56,9 @@ fn three_turns(
     let first = entered(alloc, group, 1, &[0])?;
     let second = entered(alloc, group, 2, &[0])?;
     let none = turn(group, 0);
-    decide(alloc, &second, &[(0, 2)])?;
+    decide(alloc, second.flight(), &[(0, 2)])?;
     let one = turn(group, 0);
-    decide(alloc, &first, &[(0, 1)])?;
+    decide(alloc, first.flight(), &[(0, 1)])?;
     let both = turn(group, 1);
     Some([none, one, both])
 }
@@ -155,7 +154,7 @@ fn both_released(alloc: Global, parts: &mut Parts, flight: &Flight) -> Option<[S
 fn enter_part(alloc: Global, group: &mut CellGroup<VecOutlet>, parts: &mut Parts) -> Option<()> {
     let topic = group.group().topic();
     let part = parts.part(topic)?;
-    if part.topic.0 != topic.0 {
+    if part.topic().0 != topic.0 {
         return None;
     }
     group.propose(alloc, stamp(0, 0), part).ok()?;

@@ -2,7 +2,7 @@
 
 use super::calls::{Answer, decide, id, learnt, part_of, propose, stamp, txn_to};
 use crate::{Cells, Group};
-use mcast_txn::{Flight, Parts, Stamp, Topic};
+use mcast_txn::{Flight, Part, Parts, Stamp, Topic};
 use std::alloc::Global;
 use std::sync::Arc;
 use std::thread;
@@ -15,17 +15,12 @@ fn left(group: &mut Group<VecOutlet>) -> Option<(Stamp, bool)> {
     Some((departed.stamp(), departed.has_seen()))
 }
 
-/// Enters the part of a transaction to these topics, whose flight is returned.
-fn entered(
-    alloc: Global,
-    group: &mut Group<VecOutlet>,
-    seq: u64,
-    topics: &[u32],
-) -> Option<Arc<Flight>> {
+/// Enters the part of a transaction to these topics, of which one more is returned.
+fn entered(alloc: Global, group: &mut Group<VecOutlet>, seq: u64, topics: &[u32]) -> Option<Part> {
     let part = part_of(alloc, id(seq), topics, group.topic())?;
-    let flight = part.flight.clone().ok()?;
+    let kept = part.share().ok()?;
     group.propose(stamp(0, 0), part).ok()?;
-    Some(flight)
+    Some(kept)
 }
 
 /// Two parts, of which the first learns by hand, and the cell of the second's flight is set.
@@ -35,7 +30,7 @@ fn two_parts(alloc: Global, group: &mut Group<VecOutlet>) -> Option<()> {
     if learnt(alloc, group, id(1), &[(0, 1)]) != Some(Answer::Done) {
         return None;
     }
-    decide(alloc, &flight, &[(0, 2)])
+    decide(alloc, flight.flight(), &[(0, 2)])
 }
 
 /// What three releases give: of a part that learnt by hand, of one that learnt from its flight's cell, and of none.
@@ -58,7 +53,7 @@ fn a_part_keeps_the_note_of_its_cell(rt: HostRuntime) {
 fn enter_part(group: &mut Group<VecOutlet>, parts: &mut Parts) -> Option<()> {
     let topic = group.topic();
     let part = parts.part(topic)?;
-    if part.topic.0 != topic.0 {
+    if part.topic().0 != topic.0 {
         return None;
     }
     group.propose(stamp(0, 0), part).ok()?;
@@ -132,7 +127,7 @@ fn two_topics_release_a_transaction_with_one_stamp(rt: HostRuntime) {
 /// Enters a part, whose cell is then set.
 fn enter_and_decide(alloc: Global, group: &mut Group<VecOutlet>) -> Option<()> {
     let flight = entered(alloc, group, 1, &[0, 1])?;
-    decide(alloc, &flight, &[(0, 1), (1, 7)])
+    decide(alloc, flight.flight(), &[(0, 1), (1, 7)])
 }
 
 /// How many parts a turn releases once their cell is set, and the stamp of the row that it logs.

@@ -154,14 +154,15 @@ fn subscriptions_with_pending_parts(rt: HostRuntime) {
     assert!(rt; each_gets_both(alloc, &mut group));
 }
 
-/// Three pending parts, of which two are released; the log is drained, and so is the third's row after it.
+/// Three pending parts, of which two are released; the log is drained, and so is the third's row after it, which names
+/// three topics.
 const DRAINS: &[(Call, u64, Answer)] = &[
     (Propose(1, &[0], 0), 0, Answer::Ticket(1)),
     (Propose(2, &[0], 0), 0, Answer::Ticket(2)),
-    (Propose(3, &[0], 0), 0, Answer::Ticket(3)),
+    (Propose(3, &[0, 1, 2], 0), 0, Answer::Ticket(3)),
     (Learn(1, &[(0, 1)]), 0, Done),
     (Learn(2, &[(0, 2)]), 0, Done),
-    (Learn(3, &[(0, 3)]), 0, Done),
+    (Learn(3, &[(0, 3), (1, 1), (2, 1)]), 0, Done),
     (Release, 0, Released(1, 1, 0)),
     (Release, 0, Released(2, 2, 0)),
     (Drain, 0, Drained(2, [1, 2, 0, 0, 0, 0, 0, 0])),

@@ -29,7 +29,7 @@ fn has_log(group: &Group<VecOutlet>, rows: &[Logged]) -> bool {
     group.held_len() == rows.len() && group.held(rows.len()).is_none()
 }
 
-/// Topic 1 with two parts: the second learns first, and waits for the first.
+/// Topic 1 with two parts: the second learns first, and waits for the first. The third is of three topics.
 const BY_STAMPS: &[(Call, Answer)] = &[
     (Propose(1, &[0, 1], 0), Answer::Ticket(1)),
     (Propose(2, &[1, 2], 10), Answer::Ticket(11)),
@@ -39,20 +39,25 @@ const BY_STAMPS: &[(Call, Answer)] = &[
     (Release, Released(1, 10, 0)),
     (Release, Released(2, 11, 2)),
     (Release, Nothing),
+    (Propose(3, &[1, 2, 3], 0), Answer::Ticket(12)),
+    (Learn(3, &[(1, 12), (2, 1), (3, 1)]), Done),
+    (Release, Released(3, 12, 1)),
+    (Release, Nothing),
 ];
 
 /// Its log then.
 const BY_STAMPS_LOG: &[Logged] = &[
     (1, 10, 0, &[Topic(0), Topic(1)]),
     (2, 11, 2, &[Topic(1), Topic(2)]),
+    (3, 12, 1, &[Topic(1), Topic(2), Topic(3)]),
 ];
 
 /// Whether it answers so, and has then its clock, its frontier and its log.
 fn are_by_stamps(alloc: Global) -> bool {
     let mut group = Group::new(alloc, Topic(1), 0, 8);
     answers(alloc, &mut group, BY_STAMPS)
-        && group.clock() == 11
-        && group.frontier() == stamp(11, 2)
+        && group.clock() == 12
+        && group.frontier() == stamp(12, 1)
         && has_log(&group, BY_STAMPS_LOG)
 }
 

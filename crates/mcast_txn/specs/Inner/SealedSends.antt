@@ -3,9 +3,8 @@ use Rattle.std.specs.Prelude.{List, [], ◌∷◌}
 use Rattle.mcast_txn.specs.declared.draft.sent_message.SentMessage.{SentMessage}
 use Rattle.mcast_txn.specs.declared.draft.sealed_sends.SealedSends.{SealedSends}
 use Rattle.mcast_txn.specs.declared.draft.sealed_sends.SealedSends.TheVariants.{One, Many}
-use Rattle.mcast_txn.specs.Inner.DraftSends.{messages_of}
 
 -- the SENDs, in order
 abbrev pub all_sends : SealedSends → List SentMessage
 all_sends (One send) = send ∷ []
-all_sends (Many sends weighs) = messages_of sends.items
+all_sends (Many sends weighs) = sends.items

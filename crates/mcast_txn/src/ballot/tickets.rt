@@ -12,7 +12,7 @@ use std::marker::Model;
 #[derive(Drop)]
 pub struct Tickets {
     pub(crate) id: TxnId,
-    pub(crate) rows: SmallVec<Stamp, 1>,
+    pub(crate) rows: SmallVec<Stamp, 2>,
 }
 
 impl Model for Tickets {

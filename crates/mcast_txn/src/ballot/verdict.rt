@@ -19,7 +19,7 @@ use stomp_frame::NoMemory;
 #[derive(Drop)]
 pub struct Verdict {
     id: TxnId,
-    rows: SmallVec<Stamp, 1>,
+    rows: SmallVec<Stamp, 2>,
     stamp: Stamp,
 }
 
@@ -76,7 +76,7 @@ impl Verdict {
     }
 
     /// Its rows.
-    pub(crate) fn into_rows(self) -> SmallVec<Stamp, 1>
+    pub(crate) fn into_rows(self) -> SmallVec<Stamp, 2>
         ensures { result.items ≡ self.rows }
     {
         let Verdict {

@@ -1,12 +1,10 @@
 //! The SENDs of a transaction that is sealed.
 
-ghost use Rattle.std.specs.Prelude.{◌≡◌, ◌-◌, ◌^◌, ◌+◌, ◌*◌, length, min, nat_lt};
-ghost use Rattle.mcast_txn.specs.Inner.DraftSends.{messages_of};
+ghost use Rattle.std.specs.Prelude.{◌≡◌, ◌<◌, ◌-◌, ◌^◌, ◌+◌, ◌*◌, length, min, nat_lt, slice_get, Some};
 ghost use Rattle.mcast_txn.specs.Inner.SealedSends.{all_sends};
-ghost use Rattle.mcast_txn.specs.Transaction.{octets_at, octets_with, weight_with};
+ghost use Rattle.mcast_txn.specs.Transaction.{octets_at, octets_with, part_of, weight_with};
 
 use crate::draft::SentMessage;
-use crate::draft::draft_send::DraftSend;
 use crate::id::Topic;
 use stomp_frame::{Headers, Octets};
 
@@ -23,7 +21,7 @@ pub(crate) const LIGHT: u64 = 32_768;
 #[derive(Drop)]
 pub(crate) enum SealedSends {
     One(SentMessage),
-    Many(Vec<DraftSend>, u64),
+    Many(Vec<SentMessage>, u64),
 }
 
 impl SealedSends {
@@ -34,6 +32,33 @@ impl SealedSends {
         match self {
             SealedSends::One(_) => 1,
             SealedSends::Many(sends, _) => sends.len(),
+        }
+    }
+
+    /// How many go to this topic.
+    pub(crate) fn count_to(&self, topic: Topic) -> usize
+        ensures { result ≡ length (part_of topic (all_sends self.now)) }
+    {
+        match self {
+            SealedSends::One(send) => usize::from(send.topic.0 == topic.0),
+            SealedSends::Many(sends, _) => count_among(sends, topic),
+        }
+    }
+
+    /// That which is at index `at` of those that go to this topic, with its index in the whole, both from 0.
+    #[inline(always)]
+    pub(crate) fn nth_to(&self, topic: Topic, at: usize) -> (usize, &SentMessage)
+        requires { at < length (part_of topic (all_sends self.now)) }
+        ensures is { slice_get (part_of topic (all_sends self.now)) at ≡ Some (record {
+          index = result.0;
+          headers = result.1.now.headers;
+          body = result.1.now.body;
+        }) }
+        ensures within { result.0 < length (all_sends self.now) }
+    {
+        match self {
+            SealedSends::One(send) => (0, send),
+            SealedSends::Many(sends, _) => nth_among(sends, topic, at),
         }
     }
 
@@ -55,16 +80,51 @@ impl SealedSends {
     }
 }
 
+/// How many of these SENDs go to this topic.
+fn count_among(sends: &[SentMessage], topic: Topic) -> usize
+    ensures { result ≡ length (part_of topic sends.now) }
+{
+    let mut count = 0;
+    for send in sends {
+        if send.topic.0 == topic.0 {
+            count += 1;
+        }
+    }
+    count
+}
+
+/// That which is at index `at` of those of these SENDs that go to this topic, with its index among all.
+fn nth_among(sends: &[SentMessage], topic: Topic, at: usize) -> (usize, &SentMessage)
+    requires { at < length (part_of topic sends.now) }
+    ensures is { slice_get (part_of topic sends.now) at ≡ Some (record {
+      index = result.0;
+      headers = result.1.now.headers;
+      body = result.1.now.body;
+    }) }
+    ensures within { result.0 < length sends.now }
+{
+    let mut left = at;
+    for index in 0..sends.len() {
+        let send = &sends[index];
+        if send.topic.0 == topic.0 {
+            if left == 0 {
+                return (index, send);
+            }
+            left -= 1;
+        }
+    }
+    unreachable!()
+}
+
 /// How many octets those of these SENDs have that go to this topic, or 2^64 - 1 where they have more.
 #[inline(never)]
-fn octets_among(sends: &[DraftSend], topic: Topic) -> u64
-    ensures { result ≡ min (octets_at topic (messages_of sends.now)) (2 ^ 64 - 1) }
+fn octets_among(sends: &[SentMessage], topic: Topic) -> u64
+    ensures { result ≡ min (octets_at topic sends.now) (2 ^ 64 - 1) }
 {
     let mut octets = 0u64;
     for send in sends {
         if send.topic.0 == topic.0 {
-            let message = &send.message;
-            octets = octets.saturating_add(octets_of(&message.headers, &message.body));
+            octets = octets.saturating_add(octets_of(&send.headers, &send.body));
         }
     }
     octets

@@ -3,26 +3,24 @@
 use crate::parts::Part;
 use crate::stamp::Stamp;
 use std::marker::Model;
-use std::sync::Arc;
 
 /// A part that its topic has let go, and the stamp of its transaction. In contracts it is an item: a transaction, its
 /// stamp, and the SENDs of its part.
 #[derive(Drop)]
 pub struct Released {
-    pub part: Arc<Part>,
+    pub part: Part,
     pub stamp: Stamp,
 }
 
 impl Model for Released {
-    ghost use Rattle.std.specs.Arc.{arc_value};
     ghost use Rattle.mcast_txn.specs.Part.{data_of};
     ghost use Rattle.mcast_txn.specs.Span.{Item};
 
     ghost Value = { Item };
 
     ghost view = { λ r. record {
-      id = (data_of (arc_value r.part)).id;
+      id = (data_of r.part).id;
       stamp = r.stamp;
-      sends = (data_of (arc_value r.part)).sends;
+      sends = (data_of r.part).sends;
     } };
 }

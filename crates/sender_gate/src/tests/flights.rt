@@ -180,9 +180,8 @@ fn told(flying: Flying) -> Option<[Option<Stamp>; 2]> {
     let mut flying = flying;
     let one = flying.part(Topic(0))?;
     let other = flying.part(Topic(1))?;
-    let flight = flying.flight().clone().ok()?;
-    set_verdict(flying, &flight)?;
-    Some([told_by(&one.flight), told_by(&other.flight)])
+    set_verdict(flying, one.flight())?;
+    Some([told_by(one.flight()), told_by(other.flight())])
 }
 
 /// Those of a new flight.

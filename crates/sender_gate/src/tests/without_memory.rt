@@ -70,11 +70,11 @@ fn has_part(flying: &mut Flying, topic: u32, sends: &[(u32, u8)]) -> bool {
     let Some(part) = flying.part(Topic(topic)) else {
         return false;
     };
-    if part.sends.len() != sends.len() || part.topic != Topic(topic) {
+    if part.len() != sends.len() || part.topic() != Topic(topic) {
         return false;
     }
     for i in 0..sends.len() {
-        let send = part.sends.get(i);
+        let send = part.send(i);
         let (index, letter) = sends[i];
         if send.index != index || send.body.as_slice() != [letter].as_slice() {
             return false;

@@ -65,10 +65,10 @@ fn optional_letter(text: &Option<Octets>) -> Option<u8> {
 
 /// Adds the SENDs of a part after the others.
 fn add_part(part: &Part, parts: &mut Vec<PlainSend>) -> Result<(), NoMemory> {
-    for index in 0..part.sends.len() {
-        let send = part.sends.get(index);
+    for index in 0..part.len() {
+        let send = part.send(index);
         parts.push(PlainSend {
-            topic: part.topic.0,
+            topic: part.topic().0,
             index: send.index as usize,
             body: letter(&send.body),
             headers: send.headers.len(),

@@ -5,7 +5,6 @@ use Rattle.mcast_txn.specs.declared.stamp.Stamp.{Stamp}
 use Rattle.mcast_txn.specs.Slots.{held_at, with_slot}
 use Rattle.mcast_txn.specs.Transaction.{TopicPart}
 use Rattle.mcast_txn.specs.Part.{data_of}
-use Rattle.std.specs.Arc.{arc_value}
 use Rattle.sender_gate.specs.Gate.{FlyingState}
 use Rattle.broker_locks.specs.Commits.{AreTold, parts_in, entered, topics_in}
 use Rattle.broker_locks.specs.Rows.{Entered, IsTicketFor}
@@ -55,8 +54,8 @@ unreachable-requires-in_default-put g c =
     let named = c.as_slice.ensures.value ∙ c.topics-in-loop-k.ensures in
     let at = found.3.1 (record { 0 = 0 }) in
     let h = next_part ps c.args.flying.now.state c.loop-k.flying.state inv.numbers _ _ inv.so_far c.requires.rises inv.parts c.loop-k.k inv.many c.as_slice.result.now named found.3.0 in
-    let some : Some (data_of (arc_value c.in-Some-part.part)) ≡ held_at (get_or c.as_slice.result.now c.loop-k.k (record { 0 = 0 })) c.loop-k.flying.state.parts = c.in-Some-part.ensures.part ∙ ap (λ (t : Topic). held_at t c.loop-k.flying.state.parts) at in
-    let part : data_of (arc_value c.in-Some-part.part) ≡ get_or ps c.loop-k.k no_part = cc in
+    let some : Some (data_of c.in-Some-part.part) ≡ held_at (get_or c.as_slice.result.now c.loop-k.k (record { 0 = 0 })) c.loop-k.flying.state.parts = c.in-Some-part.ensures.part ∙ ap (λ (t : Topic). held_at t c.loop-k.flying.state.parts) at in
+    let part : data_of c.in-Some-part.part ≡ get_or ps c.loop-k.k no_part = cc in
     let floor : c.floor.result ≡ c.loop-k.flying.state.floor = c.floor.ensures ∙ ap (λ (f : FlyingState). f.state.floor) c.in-Some-part.ensures.taken in
     let is : IsTicketFor c.loop-k.flying.state.floor (get_or ps c.loop-k.k no_part) c.in_ok-ticket.ticket =
     subst (λ (f : Stamp). IsTicketFor f (get_or ps c.loop-k.k no_part) c.in_ok-ticket.ticket) floor
@@ -75,8 +74,8 @@ loop-k-preserved g c =
     let named = c.as_slice.ensures.value ∙ c.topics-in-loop-k.ensures in
     let at = found.3.1 (record { 0 = 0 }) in
     let h = next_part ps c.args.flying.now.state c.loop-k.flying.state inv.numbers _ _ inv.so_far c.requires.rises inv.parts c.loop-k.k inv.many c.as_slice.result.now named found.3.0 in
-    let some : Some (data_of (arc_value c.in-Some-part.part)) ≡ held_at (get_or c.as_slice.result.now c.loop-k.k (record { 0 = 0 })) c.loop-k.flying.state.parts = c.in-Some-part.ensures.part ∙ ap (λ (t : Topic). held_at t c.loop-k.flying.state.parts) at in
-    let part : data_of (arc_value c.in-Some-part.part) ≡ get_or ps c.loop-k.k no_part = cc in
+    let some : Some (data_of c.in-Some-part.part) ≡ held_at (get_or c.as_slice.result.now c.loop-k.k (record { 0 = 0 })) c.loop-k.flying.state.parts = c.in-Some-part.ensures.part ∙ ap (λ (t : Topic). held_at t c.loop-k.flying.state.parts) at in
+    let part : data_of c.in-Some-part.part ≡ get_or ps c.loop-k.k no_part = cc in
     let floor : c.floor.result ≡ c.loop-k.flying.state.floor = c.floor.ensures ∙ ap (λ (f : FlyingState). f.state.floor) c.in-Some-part.ensures.taken in
     let is : IsTicketFor c.loop-k.flying.state.floor (get_or ps c.loop-k.k no_part) c.in_ok-ticket.ticket =
     subst (λ (f : Stamp). IsTicketFor f (get_or ps c.loop-k.k no_part) c.in_ok-ticket.ticket) floor
@@ -87,7 +86,7 @@ loop-k-preserved g c =
     let old = g.P.Places.rows c.loop-k.places in
     let row : g.P.Places.rows c.propose.new.self ≡ old ++ Entered (get_or ps c.loop-k.k no_part) c.loop-k.flying.state.floor n ∷ [] =
     c.in_ok-ticket.ensures.entered
-    ∙ (ap (λ (f : Stamp). old ++ Entered (data_of (arc_value c.in-Some-part.part)) f n ∷ []) floor
+    ∙ (ap (λ (f : Stamp). old ++ Entered (data_of c.in-Some-part.part) f n ∷ []) floor
     ∙ ap (λ (p : TopicPart). old ++ Entered p c.loop-k.flying.state.floor n ∷ []) part) in
     let more : suc c.loop-k.k ≡ c.loop-k.k + 1 = omega arith in
     record {
@@ -141,8 +140,8 @@ returns-in_err-ticket-clause-proposed g c =
     let named = c.as_slice.ensures.value ∙ c.topics-in-loop-k.ensures in
     let at = found.3.1 (record { 0 = 0 }) in
     let h = next_part ps c.args.flying.now.state c.loop-k.flying.state inv.numbers _ _ inv.so_far c.requires.rises inv.parts c.loop-k.k inv.many c.as_slice.result.now named found.3.0 in
-    let some : Some (data_of (arc_value c.in-Some-part.part)) ≡ held_at (get_or c.as_slice.result.now c.loop-k.k (record { 0 = 0 })) c.loop-k.flying.state.parts = c.in-Some-part.ensures.part ∙ ap (λ (t : Topic). held_at t c.loop-k.flying.state.parts) at in
-    let part : data_of (arc_value c.in-Some-part.part) ≡ get_or ps c.loop-k.k no_part = cc in
+    let some : Some (data_of c.in-Some-part.part) ≡ held_at (get_or c.as_slice.result.now c.loop-k.k (record { 0 = 0 })) c.loop-k.flying.state.parts = c.in-Some-part.ensures.part ∙ ap (λ (t : Topic). held_at t c.loop-k.flying.state.parts) at in
+    let part : data_of c.in-Some-part.part ≡ get_or ps c.loop-k.k no_part = cc in
     let floor : c.floor.result ≡ c.loop-k.flying.state.floor = c.floor.ensures ∙ ap (λ (f : FlyingState). f.state.floor) c.in-Some-part.ensures.taken in
     let fault = c.in_err-ticket.field-0.0 in
     let point = c.before-in-loop-k.new.self in

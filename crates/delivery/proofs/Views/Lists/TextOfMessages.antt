@@ -1,5 +1,6 @@
 -- The text of an item's MESSAGEs, SEND by SEND.
-use Rattle.delivery.proofs.Words.All.{◌≡◌, ℕ, ◌+◌, ◌<◌, List, [], ◌∷◌, ◌++◌, map, take, length, Some, sym, ap, ◌∙◌, arith, slice_get, enumerate_from, flat_map, map-append, append-nil, append_assoc, take_more, length-enumerate_from, get_or_from_slice_get, slice_get-get_or, PartMessage, Stamp, RawFrame, message_frame, message_id, part_message_frame, spelling_of}
+use Rattle.delivery.proofs.Words.All.{◌≡◌, ℕ, zero, suc, refl, subst, ◌+◌, ◌<◌, List, [], ◌∷◌, ◌++◌, map, take, length, Some, sym, ap, ◌∙◌, arith, slice_get, enumerate_from, flat_map, map-append, append-nil, append_assoc, take_more, length-enumerate_from, get_or_from_slice_get, slice_get-get_or, PartMessage, Stamp, RawFrame, message_frame, message_id, part_message_frame, spelling_of}
+use Rattle.std.specs.Prelude.{IfSome}
 use Rattle.std.proofs.lemmas.List.Concat.{flat_map-append}
 use Rattle.std.proofs.lemmas.List.FromFn.{get_or-enumerate_from}
 
@@ -40,3 +41,12 @@ placed_at sends i p there is =
     slice_get-get_or (enumerate_from 1 sends) i (i + 1, p) many
     ∙ ap (λ (at : ℕ × PartMessage). Some at)
     (get_or-enumerate_from 1 sends i (i + 1, p) there ∙ (λ k. (place k, get_or_from_slice_get sends i p p is k)))
+
+-- a SEND that was lent is that of its index
+pub lent_at : {X : Type 0} (xs ys : List X) (i : ℕ) (P : X → Type 0) → xs ≡ ys → i < length ys → IfSome (slice_get xs i) P → (x : X) × (slice_get ys i ≡ Some x) × P x
+lent_at {X = X} xs ys i P same there lent = found ys i P there (subst (λ (zs : List X). IfSome (slice_get zs i) P) same lent)
+  where
+    found : {X : Type 0} (ys : List X) (i : ℕ) (P : X → Type 0) → i < length ys → IfSome (slice_get ys i) P → (x : X) × (slice_get ys i ≡ Some x) × P x
+    found [] i P there lent = absurd (omega (arith, there))
+    found (y ∷ ys) zero P there lent = (y, refl, lent)
+    found (y ∷ ys) (suc i) P there lent = found ys i P (omega (arith, there)) lent

@@ -114,12 +114,12 @@ fn frontier(report: &Report<'_>, topic: u32) -> Stamp {
 
 /// Whether an item of a queue is the one that is due: the same SENDs by their indices.
 fn is_due(item: &Released, want: &QueueItem) -> bool {
-    let sends = &item.part.sends;
-    item.part.id() == want.id
+    let part = &item.part;
+    part.id() == want.id
         && item.stamp == want.stamp
-        && sends.len() == want.sends.len()
-        && (0..want.sends.len()).all(|i| i < sends.len()
-            && sends.get(i).index == want.sends[i].index)
+        && part.len() == want.sends.len()
+        && (0..want.sends.len()).all(|i| i < part.len()
+            && part.send(i).index == want.sends[i].index)
 }
 
 /// Whether a queue has accepted these items.

@@ -152,9 +152,9 @@ fn print_row(text: &mut String, word: &str, row: &Row) -> Result<(), AllocError>
 fn print_item(text: &mut String, item: &Released) -> Result<(), AllocError> {
     print_id(text, " queue", item.part.id())?;
     print_stamp(text, " at", item.stamp)?;
-    let sends = &item.part.sends;
-    for i in 0..sends.len() {
-        let send = sends.get(i);
+    let part = &item.part;
+    for i in 0..part.len() {
+        let send = part.send(i);
         print(text, ",", &[send.index as u64])?;
     }
     text.push_str("\n")

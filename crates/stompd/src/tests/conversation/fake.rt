@@ -11,7 +11,6 @@ use mcast_txn::{Part, Released, Sender, Stamp, Ticket, Topic, Txn};
 use sender_gate::{ClaimFault, Flying, Gate};
 use std::alloc::Global;
 use std::cell::Cell;
-use std::sync::Arc;
 use stomp_frame::ClientFrame;
 use stomp_session::{Names, Session, Step};
 
@@ -125,10 +124,10 @@ impl Fake {
     }
 
     /// Queues a part for each subscription at its topic.
-    fn release(&mut self, part: &Arc<Part>, stamp: Stamp) {
+    fn release(&mut self, part: &Part, stamp: Stamp) {
         for &(topic, number) in self.open.as_slice() {
-            if topic == part.topic.0
-                && let Ok(part) = part.clone()
+            if topic == part.topic().0
+                && let Ok(part) = part.share()
             {
                 let _ = self.items.push((number, Released { part, stamp }));
             }
@@ -136,7 +135,7 @@ impl Fake {
     }
 
     /// The ticket of this topic, with the part that was taken out for it.
-    fn enter(&mut self, flying: &mut Flying, parts: &mut Vec<Arc<Part>>, topic: Topic)
+    fn enter(&mut self, flying: &mut Flying, parts: &mut Vec<Part>, topic: Topic)
         ensures { flying.new.state.id ≡ flying.old.state.id }
     {
         if let Some(part) = flying.part(topic) {
@@ -148,7 +147,7 @@ impl Fake {
     }
 
     /// The tickets of the first two topics, with the parts that were taken out for them.
-    fn enter_both(&mut self, flying: &mut Flying, parts: &mut Vec<Arc<Part>>)
+    fn enter_both(&mut self, flying: &mut Flying, parts: &mut Vec<Part>)
         ensures { flying.new.state.id ≡ flying.old.state.id }
     {
         self.enter(flying, parts, Topic(0));
@@ -156,7 +155,7 @@ impl Fake {
     }
 
     /// Releases these parts at their topics.
-    fn release_all(&mut self, parts: &[Arc<Part>], stamp: Stamp) {
+    fn release_all(&mut self, parts: &[Part], stamp: Stamp) {
         for part in parts {
             self.release(part, stamp);
         }

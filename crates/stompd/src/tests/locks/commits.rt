@@ -3,13 +3,12 @@
 use super::fake::Call::{self, Cancelled, Entered};
 use super::fake::Fake;
 use super::flights::{Points, begun, no_points, stamp};
-use broker_locks::{CommitFault, Point, commit_on};
+use broker_locks::{CommitFault, commit_on};
 use mcast_group::ProposeFault;
-use mcast_txn::{Ballot, Flight, Seen, Sender, Stamp, Ticket, Topic, Verdict};
+use mcast_txn::{Ballot, Seen, Sender, Stamp, Ticket, Topic, Verdict};
 use sender_gate::{Flying, Gate};
 use std::alloc::Global;
 use std::process::Abort;
-use std::sync::Arc;
 
 /// What a commit answers, what its gate's floor is then, and what was seen.
 #[derive(Clone, Copy, PartialEq, Eq)]
@@ -131,26 +130,6 @@ fn a_topic_without_a_number_refuses(rt: HostRuntime) {
     assert!(rt; answer.map(|answer| answer.answer) == Some(Err(CommitFault::ClockFull)));
 }
 
-/// Before the second proposal, it sets another verdict of this flight.
-#[derive(Drop)]
-struct Meddler {
-    flight: Arc<Flight>,
-    verdict: Option<Box<Verdict>>,
-}
-
-impl Point for Meddler {
-    ghost told = { λ old topic k new. Unit {0} };
-
-    fn before(&mut self, _topic: Topic, k: usize) {
-        if k == 1
-            && let Some(verdict) = self.verdict.take()
-        {
-            let mut note = self.flight.note();
-            let _first = self.flight.decide(&mut note, verdict);
-        }
-    }
-}
-
 /// Another verdict of this flight to topics 0 and 1.
 fn other_verdict(alloc: Global, flying: &Flying) -> Option<Box<Verdict>> {
     let id = flying.id();
@@ -161,15 +140,6 @@ fn other_verdict(alloc: Global, flying: &Flying) -> Option<Box<Verdict>> {
     ballot.close().ok()
 }
 
-/// One that sets it.
-fn meddling(alloc: Global, flying: &Flying) -> Option<Meddler> {
-    let flight = flying.flight().clone().ok()?;
-    Some(Meddler {
-        flight,
-        verdict: other_verdict(alloc, flying),
-    })
-}
-
 /// What a commit to topics 0 and 1 of these places answers, where another verdict was set, with the floor.
 fn answer_to_meddler<R: Abort>(
     alloc: Global,
@@ -177,8 +147,8 @@ fn answer_to_meddler<R: Abort>(
 ) -> Option<(Result<Stamp, CommitFault>, Stamp)> {
     let gate = Gate::resume(Sender(4), 6, stamp(10, 0));
     let flying = begun(alloc, gate, &[0, 1])?;
-    let mut point = meddling(alloc, &flying)?;
-    let (answer, gate) = answer_of(commit_on(flying, fake, &mut point));
+    fake.other = other_verdict(alloc, &flying);
+    let (answer, gate) = answer_of(commit_on(flying, fake, &mut no_points()));
     Some((answer, gate.floor()))
 }
 

@@ -1,7 +1,6 @@
 //! Places without groups: a clock for each topic, and one that refuses.
 
 ghost use Rattle.std.specs.Prelude.{◌≡◌, ◌++◌, map};
-ghost use Rattle.std.specs.Arc.{arc_value};
 ghost use Rattle.std.specs.List.{flat_map};
 ghost use Rattle.std.specs.Option.{option_to_list};
 ghost use Rattle.mcast_txn.specs.Part.{data_of};
@@ -9,10 +8,9 @@ ghost use Rattle.broker_locks.specs.Rows.{Entered, Cancelled};
 
 use broker_locks::Places;
 use mcast_group::ProposeFault;
-use mcast_txn::{Part, Stamp, Ticket, Topic, TxnId};
+use mcast_txn::{Part, Stamp, Ticket, Topic, TxnId, Verdict};
 use std::alloc::Global;
 use std::process::Abort;
-use std::sync::Arc;
 
 /// A call that was answered.
 #[derive(Clone, Copy, PartialEq, Eq)]
@@ -25,7 +23,7 @@ pub(super) enum Call {
 /// A part that was entered, with its floor and its number.
 #[derive(Drop)]
 struct Entry {
-    part: Arc<Part>,
+    part: Part,
     floor: Stamp,
     n: u64,
 }
@@ -48,6 +46,8 @@ pub(super) struct Fake<'a, R: Abort> {
     refuses: Option<(u32, ProposeFault)>,
     pub(super) seen: [Option<Call>; 8],
     calls: usize,
+    /// Another verdict of the flight, which it sets at the second proposal.
+    pub(super) other: Option<Box<Verdict>>,
 }
 
 impl<'a, R: Abort> Fake<'a, R> {
@@ -65,6 +65,7 @@ impl<'a, R: Abort> Fake<'a, R> {
             refuses,
             seen: [None; 8],
             calls: 0,
+            other: None,
         }
     }
 
@@ -84,6 +85,19 @@ impl<'a, R: Abort> Fake<'a, R> {
         }
     }
 
+    /// Before the second proposal, sets the other verdict, if there is one.
+    fn meddle(&mut self, part: &Part)
+        ensures { (self.new.done ≡ self.old.done) × (self.new.given ≡ self.old.given) }
+    {
+        if self.given == 1
+            && let Some(verdict) = self.other.take()
+        {
+            let flight = part.flight();
+            let mut note = flight.note();
+            let _first = flight.decide(&mut note, verdict);
+        }
+    }
+
     /// Puts a call at the end of those that were seen.
     fn see(&mut self, call: Call)
         ensures { (self.new.done ≡ self.old.done) × (self.new.given ≡ self.old.given) }
@@ -97,7 +111,7 @@ impl<'a, R: Abort> Fake<'a, R> {
 
 impl<'a, R: Abort> Places for Fake<'a, R> {
     ghost rows = { λ f. flat_map
-        (λ d. map (λ e. Entered (data_of (arc_value e.part)) e.floor e.n) (option_to_list d.entered)
+        (λ d. map (λ e. Entered (data_of e.part) e.floor e.n) (option_to_list d.entered)
         ++ map (λ c. Cancelled c.0 c.1) (option_to_list d.cancelled))
         f.done.items };
 
@@ -105,8 +119,9 @@ impl<'a, R: Abort> Places for Fake<'a, R> {
 
     ghost may_refuse = { λ f floor part fault. Unit {0} };
 
-    fn propose(&mut self, floor: Stamp, part: Arc<Part>) -> Result<Ticket, ProposeFault> {
-        let (id, topic) = (part.id(), part.topic);
+    fn propose(&mut self, floor: Stamp, part: Part) -> Result<Ticket, ProposeFault> {
+        self.meddle(&part);
+        let (id, topic) = (part.id(), part.topic());
         let n = self.number(topic, floor)?;
         if n <= floor.n {
             return Err(ProposeFault::NoMemory);

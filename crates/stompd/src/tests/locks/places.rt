@@ -5,7 +5,7 @@ ghost use Rattle.std.specs.Prelude.{◌≡◌, ◌<◌, [], IfSome};
 use super::flights::{begun, stamp};
 use broker_locks::{Counts, Place};
 use mcast_group::{Cause, SubState};
-use mcast_txn::{Flight, Sender, Stamp, Topic, TxnId};
+use mcast_txn::{Sender, Stamp, Topic, TxnId};
 use sender_gate::{Flying, Gate};
 use std::alloc::Global;
 use std::sync::Wait;
@@ -32,19 +32,14 @@ fn propose<R: Wait>(place: &mut Place<R>, flying: &mut Flying, topic: u32) -> Op
     }
 }
 
-/// Decides the flight, and sets its verdict in this cell.
-fn set_verdict(flying: Flying, flight: &Flight) -> Option<Stamp> {
-    let (_gate, verdict) = flying.decide().ok()?;
+/// Decides the flight, and sets its verdict in its cell.
+fn decide(flying: Flying) -> Option<Stamp> {
+    let (_gate, verdict, parts) = flying.decide_keeping().ok()?;
     let stamp = verdict.stamp();
+    let flight = parts.flight();
     let mut note = flight.note();
     flight.decide(&mut note, verdict).ok()?;
     Some(stamp)
-}
-
-/// Decides the flight, and sets its verdict in its cell.
-fn decide(flying: Flying) -> Option<Stamp> {
-    let flight = flying.flight().clone().ok()?;
-    set_verdict(flying, &flight)
 }
 
 /// The first flight of this sender, to these topics.

@@ -1,6 +1,6 @@
 use Rattle.std.proofs.Common.{◌≡◌, ◌<◌, ◌≤◌, true, false, List, ℕ, length, drop, sym, ap, subst, ◌∙◌, arith}
-use Rattle.mcast_txn.specs.declared.parts.part.Part.{Part}
 use Rattle.mcast_txn.specs.declared.parts.part_message.PartMessage.{PartMessage}
+use Rattle.mcast_txn.specs.Part.{data_of}
 use Rattle.mcast_txn.specs.Span.{Item}
 use Rattle.delivery.specs.Core.Output.{messages_for}
 use Rattle.broker_server.specs.Delivering.{FailsIn, has_room}
@@ -15,7 +15,7 @@ pub returns-then-not-may_take-clause-ok : goal.returns-then-not-may_take-clause-
 returns-then-not-may_take-clause-ok c =
     let item = c.args.item.now in
     let messages = messages_for c.args.parts c.args.id.now item in
-    let sends : c.deref.result.now.sends ≡ item.sends = ap (λ (q : Part). q.sends) c.deref.ensures ∙ ap (λ (x : Item). x.sends) c.item.view_is in
+    let sends : (data_of c.item.inside.part).sends ≡ item.sends = ap (λ (x : Item). x.sends) c.item.view_is in
     let many : c.len-count.result ≡ length messages = c.len-count.ensures ∙ (ap (λ (xs : List PartMessage). length xs) sends ∙ sym (as_many c.args.parts c.args.id.now item)) in
     let there : c.loop-at.at < length messages = omega (arith, c.loop-at-test.true, many) in
     let none : has_room c.loop-at.wire ≡ false = sym c.if-not-may_take.ensures in
@@ -25,7 +25,7 @@ pub returns-in_err-put_message-clause-err : goal.returns-in_err-put_message-clau
 returns-in_err-put_message-clause-err c =
     let item = c.args.item.now in
     let messages = messages_for c.args.parts c.args.id.now item in
-    let sends : c.deref.result.now.sends ≡ item.sends = ap (λ (q : Part). q.sends) c.deref.ensures ∙ ap (λ (x : Item). x.sends) c.item.view_is in
+    let sends : (data_of c.item.inside.part).sends ≡ item.sends = ap (λ (x : Item). x.sends) c.item.view_is in
     let many : c.len-count.result ≡ length messages = c.len-count.ensures ∙ (ap (λ (xs : List PartMessage). length xs) sends ∙ sym (as_many c.args.parts c.args.id.now item)) in
     let there : c.loop-at.at < length messages = omega (arith, c.loop-at-test.true, many) in
     let fails = fails_so_far messages c.args.next c.loop-at.at c.args.wire.now c.loop-at.wire there c.loop-at.invariant.written in
@@ -35,7 +35,7 @@ pub loop-at-preserved : goal.loop-at-preserved
 loop-at-preserved c =
     let item = c.args.item.now in
     let messages = messages_for c.args.parts c.args.id.now item in
-    let sends : c.deref.result.now.sends ≡ item.sends = ap (λ (q : Part). q.sends) c.deref.ensures ∙ ap (λ (x : Item). x.sends) c.item.view_is in
+    let sends : (data_of c.item.inside.part).sends ≡ item.sends = ap (λ (x : Item). x.sends) c.item.view_is in
     let many : c.len-count.result ≡ length messages = c.len-count.ensures ∙ (ap (λ (xs : List PartMessage). length xs) sends ∙ sym (as_many c.args.parts c.args.id.now item)) in
     let there : c.loop-at.at < length messages = omega (arith, c.loop-at-test.true, many) in
     let room : has_room c.loop-at.wire ≡ true = sym c.if-not-may_take.ensures in
@@ -45,7 +45,7 @@ pub returns-clause-ok : goal.returns-clause-ok
 returns-clause-ok c =
     let item = c.args.item.now in
     let messages = messages_for c.args.parts c.args.id.now item in
-    let sends : c.deref.result.now.sends ≡ item.sends = ap (λ (q : Part). q.sends) c.deref.ensures ∙ ap (λ (x : Item). x.sends) c.item.view_is in
+    let sends : (data_of c.item.inside.part).sends ≡ item.sends = ap (λ (x : Item). x.sends) c.item.view_is in
     let many : c.len-count.result ≡ length messages = c.len-count.ensures ∙ (ap (λ (xs : List PartMessage). length xs) sends ∙ sym (as_many c.args.parts c.args.id.now item)) in
     let past : length messages ≤ c.loop-at.at = omega (arith, c.loop-at-test.false, many) in
     let over : length messages ≤ c.len-count.result = omega (arith, many) in

@@ -1,7 +1,7 @@
 use Rattle.std.proofs.Common.{◌≡◌, ◌<◌, ◌≤◌, true, List, ℕ, length, drop, refl, inl, sym, ap, subst, ◌∙◌, arith}
 use Rattle.std.proofs.lemmas.List.{drop_all}
-use Rattle.mcast_txn.specs.declared.parts.part.Part.{Part}
 use Rattle.mcast_txn.specs.declared.parts.part_message.PartMessage.{PartMessage}
+use Rattle.mcast_txn.specs.Part.{data_of}
 use Rattle.mcast_txn.specs.Span.{Item}
 use Rattle.delivery.specs.Core.Output.{messages_for}
 use Rattle.broker_server.specs.declared.conversation.drained.Taking.TheVariants.{Halfway}
@@ -17,7 +17,7 @@ returns-in-Ok-clause-breaks_off g c =
     let item = c.args.rest.item in
     let messages = messages_for held.parts held.id item in
     let after = c.put_messages.new.wire in
-    let sends : c.deref.result.now.sends ≡ item.sends = ap (λ (q : Part). q.sends) c.deref.ensures ∙ ap (λ (x : Item). x.sends) c.item.view_is in
+    let sends : (data_of c.item.inside.part).sends ≡ item.sends = ap (λ (x : Item). x.sends) c.item.view_is in
     let many : c.len.result ≡ length messages = c.len.ensures ∙ (ap (λ (xs : List PartMessage). length xs) sends ∙ sym (as_many held.parts held.id item)) in
     let there : c.in-Ok.next < length messages = omega (arith, c.if-next-len.true, many) in
     let stops = subst (λ (id : List ℕ). StopsIn (drop c.args.rest.next (messages_for held.parts id item)) (drop c.in-Ok.next (messages_for held.parts id item)) c.args.wire.now after) c.as_slice.ensures c.in-Ok.ensures.ok in
@@ -38,7 +38,7 @@ returns-in-Ok-2-clause-whole g c =
     let item = c.args.rest.item in
     let messages = messages_for c.args.queue.now.parts c.args.queue.now.id item in
     let after = c.put_messages.new.wire in
-    let sends : c.deref.result.now.sends ≡ item.sends = ap (λ (q : Part). q.sends) c.deref.ensures ∙ ap (λ (x : Item). x.sends) c.item.view_is in
+    let sends : (data_of c.item.inside.part).sends ≡ item.sends = ap (λ (x : Item). x.sends) c.item.view_is in
     let many : c.len.result ≡ length messages = c.len.ensures ∙ (ap (λ (xs : List PartMessage). length xs) sends ∙ sym (as_many c.args.queue.now.parts c.args.queue.now.id item)) in
     let over : length messages ≤ c.in-Ok.next = omega (arith, c.if-next-len.false, many) in
     let stops = subst (λ (id : List ℕ). StopsIn (drop c.args.rest.next (messages_for held.parts id item)) (drop c.in-Ok.next (messages_for held.parts id item)) c.args.wire.now after) c.as_slice.ensures c.in-Ok.ensures.ok in

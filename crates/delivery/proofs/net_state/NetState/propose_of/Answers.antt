@@ -1,5 +1,4 @@
 use Rattle.std.proofs.Common.{◌≡◌, ◌<◌, true, length, sym, ap, ◌∙◌, arith}
-use Rattle.std.specs.Arc.{arc_value}
 use Rattle.delivery.proofs.Words.All.{data_of, next_number, PromisedRows, is_flying, gate_of, part_refusal, part_in, taken_sender, takes_ticket, is_group, floor_in, ticket_in, View, SenderView, view_of}
 use Rattle.delivery.proofs.Views.Events.ProposeStep.{held_read, group_read, ticket_taken}
 use Rattle.delivery.proofs.Views.Senders.RoomLasts.{count_same, count_ended}
@@ -37,7 +36,7 @@ put-requires c =
     let held = held_read k s senders x (ap (λ (v : View). v.senders) view) there c.index_mut-state.ensures.value in let g = c.index_mut-group.result.now in
     let grouped : is_group t c.self.inside.groups.items ≡ true = sym (c.if-not-has_group.ensures ∙ ap (is_group t) c.deref.ensures.value) in
     let group = group_read k t c.self.inside.groups.items g (ap (λ (v : View). v.groups) view) grouped c.index_mut-group.ensures.value in
-    let part = data_of (arc_value c.in_ok-floor.part) in let h = c.in_ok-floor.ensures in
+    let part = data_of c.in_ok-floor.part in let h = c.in_ok-floor.ensures in
     let free = ap (λ (y : SenderView). part_refusal t y.sending) (sym held.1) ∙ sym h.refused in let own = ap (λ (y : SenderView). part_in t y.sending) (sym held.1) ∙ sym h.part in
     let taken = ticket_taken k s t part c.requires.1 held.0 group.0 free own in
     let floor : c.in_ok-floor.floor ≡ floor_in (view_of k) s = h.floor ∙ ap (λ (y : SenderView). (gate_of y.sending).floor) held.1 in

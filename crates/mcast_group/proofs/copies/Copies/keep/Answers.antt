@@ -1,5 +1,4 @@
 use Rattle.std.proofs.Common.{ℕ, suc, ◌-◌, ◌≡◌, map, take, ap, ◌∙◌, arith}
-use Rattle.std.specs.Arc.{arc_value}
 use Rattle.mcast_txn.specs.Part.{data_of}
 use Rattle.mcast_group.specs.Inner.Copies.{with_first}
 use Rattle.mcast_group.proofs.Copying.{map_take, with_first-take}
@@ -13,5 +12,5 @@ returns-else-most-eq0 c =
     let cut = ap (with_first first) c.truncate.ensures.items
     ∙ (with_first-take (c.args.most - 1) first others c.self.invariant
     ∙ ap (λ (n : ℕ). take n (with_first first others)) same) in
-    ap (map (λ part. data_of (arc_value part))) cut
-    ∙ (map_take (λ part. data_of (arc_value part)) c.args.most (with_first first others) ∙ ap (take c.args.most) c.self.view_is)
+    ap (map data_of) cut
+    ∙ (map_take data_of c.args.most (with_first first others) ∙ ap (take c.args.most) c.self.view_is)

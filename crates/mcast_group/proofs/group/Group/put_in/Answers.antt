@@ -32,7 +32,7 @@ pub put-requires : goal.put-requires
 put-requires g c =
     let s = c.self.inside in
     let x = topic_state s.topic s.clock s.log_limit s.pending s.base s.rows.items s.frontier (map (entry_of g.Q.Outlet.shown) s.subscriptions) in
-    let part = c.args.prepared in
+    let part = c.args.proposal.part in
     let may = c.requires.may in
     let numbered : c.in_ok-part.part ≡ record { part = part; number = c.args.n; learnt = None } = c.in_ok-part.ensures.part in
     let greatest = is_greatest may.0 part c.args.n x c.self.invariant.sound
@@ -71,7 +71,7 @@ invariant_of-self-2 g c =
     let grown : (k : ℕ) (d : Subscription g.row.Q.Denot) → k < length olds → g.Q.Outlet.spare (get_or olds k d).outlet ≤ g.Q.Outlet.spare (get_or news k d).outlet = c.reserve_each.ensures.spares in
     let x = topic_state s.topic s.clock s.log_limit s.pending s.base s.rows.items s.frontier (map (entry_of shown) olds) in
     let rows : c.reserve.new.self.items ≡ s.rows.items = c.in_ok-reserve.ensures.items in
-    let part = c.args.prepared in
+    let part = c.args.proposal.part in
     let may = c.requires.may in
     let numbered : c.in_ok-part.part ≡ record { part = part; number = c.args.n; learnt = None } = c.in_ok-part.ensures.part in
     let pending : c.put.new.pending ≡ insert_pending (record { part = part; number = c.args.n; learnt = None }) s.pending = c.in_ok-put.ensures.ok ∙ ap (λ (z : Pending). insert_pending z s.pending) numbered in

@@ -1,5 +1,4 @@
 use Rattle.std.proofs.Common.{◌≡◌, sym, ◌∙◌}
-use Rattle.std.specs.Arc.{arc_value}
 use Rattle.mcast_txn.specs.Part.{data_of}
 use Rattle.mcast_group.proofs.Giving.{given_taken, given_refused}
 use Rattle.mcast_group.proofs.subscription.Subscription.give.Goals as goal
@@ -8,7 +7,7 @@ use Rattle.mcast_group.proofs.subscription.Subscription.give.Goals.{in-Ok, in-Er
 pub returns-clause-entry : goal.returns-clause-entry
 returns-clause-entry g c =
     let s = c.args.self.now in
-    let q = data_of (arc_value c.in-Some.copy) in
+    let q = data_of c.in-Some.copy in
     let of : q ≡ c.args.part.now.part = c.requires.copies q c.in-Some.ensures.is in
     elim c.match-push.branch [
       | in-Ok w ↦ given_taken g.Q.Outlet.shown c.args.frontier c.args.part.now s c.match-push.self c.push.new.self c.match-push.result q c.key.result w.result-is (sym c.is_some.ensures ∙ c.if-is_some.false) of c.key.ensures w.self-is w.in-Ok.ensures.accepted

@@ -1,8 +1,7 @@
 use Rattle.std.proofs.Common.{◌≡◌, ◌-◌, ◌^◌, min, take}
-use Rattle.mcast_txn.specs.Inner.DraftSends.{messages_of}
 use Rattle.mcast_txn.specs.Transaction.{octets_at}
 use Rattle.mcast_txn.proofs.draft.sealed_sends.octets_among.Given as goal
 
 -- the octets of the SENDs that were looked at
 abbrev pub invariant-loop-send : goal.invariant-loop-send
-invariant-loop-send l = l.octets ≡ min (octets_at l.topic (messages_of (take l.send-index l.sends))) (2 ^ 64 - 1)
+invariant-loop-send l = l.octets ≡ min (octets_at l.topic (take l.send-index l.sends)) (2 ^ 64 - 1)

@@ -29,8 +29,8 @@ pub(super) struct Taken {
 
 /// Whether the item's only SEND has the body that was sent.
 fn has_body(item: &Released, topic: Topic) -> bool {
-    let sends = &item.part.sends;
-    sends.len() == 1 && sends.get(0).body.as_slice() == body_of(item.part.id(), topic).as_slice()
+    let part = &item.part;
+    part.len() == 1 && part.send(0).body.as_slice() == body_of(part.id(), topic).as_slice()
 }
 
 impl Taken {
