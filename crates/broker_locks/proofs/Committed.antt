@@ -108,7 +108,7 @@ module _ (first now : FlightState) (ns : List ℕ) (old rows : List PlaceRow) (w
     decided = λ _. above_is gate d;
     tried = length (topics_in first);
     tells = tells;
-    why = inr (inl (many_made ∙ all, length-map (parts_in first.parts) (λ (p : TopicPart). p.topic) ∙ sym (many_made ∙ all), is));
+    why = inr (many_made ∙ all, length-map (parts_in first.parts) (λ (p : TopicPart). p.topic) ∙ sym (many_made ∙ all), is);
   }
 
   -- a commit that a topic refused

@@ -112,7 +112,7 @@ both_cancelled = record {
   decided = λ e. refl;
   tried = 2;
   tells = (at_topic 0 ∷ [], ([], refl, refl), refl);
-  why = inr (inl (refl, refl, refl));
+  why = inr (refl, refl, refl);
 }
 
 -- ---- a place

@@ -115,10 +115,6 @@ abbrev pub IsSetBefore : FlightState → ℕ → ℕ → CommitFault → Type 0
 IsSetBefore flight done tried fault =
     (done ≡ length (parts_in flight.parts)) × (tried ≡ done) × (fault ≡ commit.AlreadySet)
 
--- there was no memory for the commit, before the first part
-abbrev pub HasNoMemory : ℕ → ℕ → CommitFault → Type 0
-HasNoMemory done tried fault = (done ≡ 0) × (tried ≡ 0) × (fault ≡ commit.NoMemory)
-
 -- A flight wasn't committed.
 -- proposals: its parts that were entered, each with its number.
 -- first: they are the first of its parts, by rising topic.
@@ -129,7 +125,7 @@ HasNoMemory done tried fault = (done ≡ 0) × (tried ≡ 0) × (fault ≡ commi
 -- tried: how many of its topics were tried.
 -- tells: the point was told these, and no other.
 -- why: a place refused the part after those that were entered, the last that was tried, by this fault; or all
---   were entered, and the flight had another verdict; or none was tried, for want of memory.
+--   were entered, and the flight had another verdict.
 -- So where the second of three topics refuses for its log, one ticket was given, the point was told two
 -- topics, and the fault is 41, whatever the third would have answered.
 pub record IsRefused {P Q : Type 0} (may_refuse : P → Stamp → TopicPart → ProposeFault → Type 0)
@@ -144,4 +140,4 @@ pub record IsRefused {P Q : Type 0} (may_refuse : P → Stamp → TopicPart → 
   pub tried : ℕ
   pub tells : AreTold told (topics_in flight) tried before after
   pub why : IsPlaceFault may_refuse flight (length proposals) tried fault
-      ⊎ (IsSetBefore flight (length proposals) tried fault ⊎ HasNoMemory (length proposals) tried fault)
+      ⊎ IsSetBefore flight (length proposals) tried fault
