@@ -21,7 +21,7 @@ returns-clause-ok c =
     let new = c.write_with_eol.new.out in
     let sends : (data_of c.item.inside.part).sends ≡ item.sends = ap (λ (x : Item). x.sends) c.item.view_is in
     let lent = lent_at (data_of c.item.inside.part).sends item.sends at
-        (λ (p : PartMessage). (sent.index ≡ p.index) × (sent.headers.now ≡ p.headers) × (sent.body.now ≡ p.body)) sends c.requires c.send-send.ensures in
+    (λ (p : PartMessage). (sent.index ≡ p.index) × (sent.headers.now ≡ p.headers) × (sent.body.now ≡ p.body)) sends c.requires c.send-send.ensures in
     let p = lent.0 in
     let stamp = ap (λ (x : Item). x.stamp) c.item.view_is in
     let body : c.as_slice.result.now ≡ p.body = c.as_slice.ensures ∙ lent.2.2 in

@@ -8,7 +8,7 @@ loop-i-preserved c =
     let sends : (data_of c.item.inside.part).sends ≡ item.sends = ap (λ (i : Item). i.sends) c.item.view_is in
     let there : c.loop-i.i < length item.sends = omega (arith, c.loop-i-test.true, c.loop-i.auto.i-end, c.len-i-end.ensures, ap (λ (xs : List PartMessage). length xs) sends) in
     let lent = lent_at (data_of c.item.inside.part).sends item.sends c.loop-i.i
-        (λ (p : PartMessage). (sent.index ≡ p.index) × (sent.headers.now ≡ p.headers) × (sent.body.now ≡ p.body)) sends there c.send-send.ensures in
+    (λ (p : PartMessage). (sent.index ≡ p.index) × (sent.headers.now ≡ p.headers) × (sent.body.now ≡ p.body)) sends there c.send-send.ensures in
     let p = lent.0 in let stamp = ap (λ (i : Item). i.stamp) c.item.view_is in
     let body : c.as_slice.result.now ≡ p.body = c.as_slice.ensures ∙ lent.2.2 in
     let whole : c.write_server.new.out ≡ c.loop-i.out ++ spelling_of (message_of c.args.id.now item.stamp p) = c.in_ok-write_server.ensures.ok

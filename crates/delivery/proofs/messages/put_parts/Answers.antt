@@ -20,7 +20,7 @@ loop-i-preserved c =
     let there : i < length item.sends = omega (arith, c.loop-i-test.true, c.loop-i.auto.i-end, many) in
     let placed : i < length (enumerate_from 1 item.sends) = omega (arith, there, length-enumerate_from 1 item.sends) in
     let lent = lent_at (data_of c.item.inside.part).sends item.sends i
-        (λ (p : PartMessage). (sent.index ≡ p.index) × (sent.headers.now ≡ p.headers) × (sent.body.now ≡ p.body)) sends there c.send-sent.ensures in
+    (λ (p : PartMessage). (sent.index ≡ p.index) × (sent.headers.now ≡ p.headers) × (sent.body.now ≡ p.body)) sends there c.send-sent.ensures in
     let p = lent.0 in let stamp = ap (λ (x : Item). x.stamp) c.item.view_is in
     let body : c.as_slice.result.now ≡ p.body = c.as_slice.ensures ∙ lent.2.2 in
     let whole : c.write_part_message.new.out ≡ c.loop-i.out ++ spelling_of (placed_of (length item.sends) c.args.id.now item.stamp (i + 1, p)) = c.in_ok-write_part_message.ensures.ok
