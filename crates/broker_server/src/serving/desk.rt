@@ -95,7 +95,7 @@ impl<'a, R: Wait + Log + Clock, W: Side, T: Side> Desk<'a, R, W, T> {
           untaken = self.new.untaken;
           streak = self.new.streak;
           octets_out = if nat_lt 0 result then plus self.old.octets_out result
-            else self.old.octets_out;
+              else self.old.octets_out;
         } }
         ensures talk { self.new.talk ≡ record self.old.talk { wire = self.new.talk.wire } }
         ensures taken { 0 < result → self.new.untaken ≡ None }
@@ -128,7 +128,7 @@ impl<'a, R: Wait + Log + Clock, W: Side, T: Side> Desk<'a, R, W, T> {
           untaken = self.new.untaken;
           streak = self.new.streak;
           octets_out = if nat_lt 0 result then plus self.old.octets_out result
-            else self.old.octets_out;
+              else self.old.octets_out;
         } }
         ensures talk { self.new.talk ≡ record self.old.talk { wire = self.new.talk.wire } }
         ensures taken { 0 < result → self.new.untaken ≡ None }
